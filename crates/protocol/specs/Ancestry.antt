@@ -1,0 +1,29 @@
+-- Lines of parents and heights (document 01, "Memory", the blocks): by recursion up the parents.
+use Prim.Native.Nat.{ℕ, zero, suc, _+_}
+use mathlib.Core.Bool.{Bool, true, false, cond, not, _&&_, _||_}
+use lib.Dec.{eqb}
+use Rattle.protocol.specs.Memory.{Memory, parent}
+
+-- "A block is in another's line if it is that block or is in the line of that block's parent; block 0 has only itself in its line."
+-- Whether block a is in the line of block b, at most so many steps up, where each block has the parent that the function gives.
+unfoldable pub inLine : (ℕ → ℕ) → ℕ → ℕ → ℕ → Bool
+inLine parentOf zero a b = eqb a b
+inLine parentOf (suc steps) a b = eqb a b || not (eqb b 0) && inLine parentOf steps a (parentOf b)
+
+-- Block b is at most b steps above block 0, as each parent is below its block.
+abbrev pub isAncestorBy : (ℕ → ℕ) → ℕ → ℕ → Bool
+isAncestorBy parentOf a b = inLine parentOf b a b
+
+abbrev pub isAncestor : Memory → ℕ → ℕ → Bool
+isAncestor m = isAncestorBy (parent m)
+
+-- "Height is the number of steps to block 0."
+unfoldable pub stepsToRoot : (ℕ → ℕ) → ℕ → ℕ → ℕ
+stepsToRoot parentOf zero b = 0
+stepsToRoot parentOf (suc steps) b = cond (eqb b 0) 0 (stepsToRoot parentOf steps (parentOf b) + 1)
+
+abbrev pub heightBy : (ℕ → ℕ) → ℕ → ℕ
+heightBy parentOf b = stepsToRoot parentOf b b
+
+abbrev pub height : Memory → ℕ → ℕ
+height m = heightBy (parent m)

@@ -1,0 +1,161 @@
+-- The cases that document 01 marks P ("Edges"), in one table: a start, calls, and the answers expected of them.
+use Prim.Native.Nat.{ℕ}
+use mathlib.Core.List.{List, [], _∷_, _++_, map}
+use mathlib.Core.Path.{_≡_}
+use lib.ListN.{replicate}
+use Rattle.protocol.specs.declared.Answer.{Answer}
+use Rattle.protocol.specs.declared.Call.{Call}
+use Rattle.protocol.specs.declared.Call.the-variants.{
+  Open,
+  Block,
+  Prepare,
+  Store,
+  View,
+  Accumulate,
+  Decide,
+  Reboot,
+  Reserve,
+  Request,
+  Reply,
+  Recover,
+}
+use Rattle.protocol.specs.declared.Justification.the-variants.{Acc}
+use Rattle.protocol.specs.Memory.{Memory, tableLength, certificateAt, blockAt, viewLimitAt, _becomes_, update}
+use Rattle.protocol.specs.Outcome.{outOfRange, wrongStatus, wrongCertificate, wrongBlock, wrongView, counterTooLow, noRoom}
+use Rattle.protocol.specs.Runs.{Invocation, run, answers}
+
+pub record Case : Type 0 where
+  pub start : Memory
+  pub calls : List Invocation
+  pub expected : List Answer
+
+-- Zeros, with a table for f and so many certificate and block places.
+zeros : ℕ → ℕ → ℕ → Memory
+zeros f certificates blocks =
+    record { table = replicate (tableLength f) 0; log = replicate (certificateAt certificates) 0; blocks = replicate (blockAt blocks) 0 }
+
+-- The places of the script program.
+blank : ℕ → Memory
+blank f = zeros f 2048 1024
+
+-- A call without a list, and one with a list beside it.
+plain : Call → Invocation
+plain call = record { call = call; list = [] }
+
+_on_ : Call → List ℕ → Invocation
+call on list = record { call = call; list = list }
+
+infix 68 _on_
+accepted : ℕ → ℕ → Answer
+accepted first second = record { number = 0; first = first; second = second }
+
+refused : ℕ → Answer
+refused number = record { number = number; first = 0; second = 0 }
+
+-- "Input fields: `0 1 0`, `5 0 1`, `5 1 1`, `6 1 0 0 1`, `1 0 0`, `2 1 1 2`, `4 0 3`, `8 1 0`, `4 1 3`, `4 2 3`, `7 0 0 4 5`."
+script : List Invocation
+script =
+    plain (Open 1)
+    ∷ plain (View 0 1)
+    ∷ plain (View 1 1)
+    ∷ Accumulate 1 on (0 ∷ 1 ∷ [])
+    ∷ plain (Block 0)
+    ∷ plain (Prepare 1 1 (Acc 2))
+    ∷ plain (Store 0 3)
+    ∷ plain (Reboot 1)
+    ∷ plain (Store 1 3)
+    ∷ plain (Store 2 3)
+    ∷ Decide 0 on (4 ∷ 5 ∷ [])
+    ∷ []
+
+scriptAnswers : List Answer
+scriptAnswers =
+    accepted 3 0
+    ∷ accepted 0 0
+    ∷ accepted 1 0
+    ∷ accepted 2 0
+    ∷ accepted 1 0
+    ∷ accepted 3 0
+    ∷ accepted 4 0
+    ∷ accepted 1 64
+    ∷ refused wrongStatus
+    ∷ accepted 5 0
+    ∷ accepted 1 1
+    ∷ []
+
+-- The memory that a list of calls leaves, from zeros.
+from : List Invocation → Memory
+from calls = run (blank 1) calls
+
+opened : Memory
+opened = from (plain (Open 1) ∷ [])
+
+-- f = 1, with an ACC of view 1 on block 0, number 2, and a block 1 on block 0
+accumulated : Memory
+accumulated =
+    from (plain (Open 1) ∷ plain (View 0 1) ∷ plain (View 1 1) ∷ Accumulate 1 on (0 ∷ 1 ∷ []) ∷ plain (Block 0) ∷ [])
+
+unfoldable pub cases : List Case
+unfolding zeros blank plain _on_ accepted refused script scriptAnswers from opened accumulated
+cases =
+    -- "P: the script above."
+    record { start = blank 1; calls = script; expected = scriptAnswers }
+    -- "P: after it, request on 1 gives certificate 6, replies by 0 and 2 give 7 and 8, recover gives 64, 1. P: then View(0, 64) returns
+    -- 8; after reserve it passes."
+    ∷ record {
+      start = from script;
+      calls =
+          plain (Request 1)
+          ∷ plain (Reply 0 6)
+          ∷ plain (Reply 2 6)
+          ∷ Recover 1 on (7 ∷ 8 ∷ [])
+          ∷ plain (View 0 64)
+          ∷ plain (Reserve 0)
+          ∷ plain (View 0 64)
+          ∷ [];
+      expected =
+          accepted 6 0
+          ∷ accepted 7 0
+          ∷ accepted 8 0
+          ∷ accepted 64 1
+          ∷ refused counterTooLow
+          ∷ accepted 128 0
+          ∷ accepted 9 0
+          ∷ [];
+    }
+    -- "P: f 0 and 31 return 2, 1 and 30 pass."
+    ∷ record { start = blank 0; calls = plain (Open 0) ∷ []; expected = refused outOfRange ∷ [] }
+    ∷ record { start = blank 31; calls = plain (Open 31) ∷ []; expected = refused outOfRange ∷ [] }
+    ∷ record { start = blank 1; calls = plain (Open 1) ∷ []; expected = accepted 3 0 ∷ [] }
+    ∷ record { start = blank 30; calls = plain (Open 30) ∷ []; expected = accepted 61 0 ∷ [] }
+    -- "P: fresh, View 63 passes, 64 returns 8."
+    ∷ record { start = opened; calls = plain (View 0 63) ∷ []; expected = accepted 0 0 ∷ [] }
+    ∷ record { start = opened; calls = plain (View 0 64) ∷ []; expected = refused counterTooLow ∷ [] }
+    -- "P: a list naming one commit twice, 5."
+    ∷ record { start = from script; calls = Decide 0 on (4 ∷ 4 ∷ []) ∷ []; expected = refused wrongCertificate ∷ [] }
+    -- "P: block 0 on a ground of block 0, 6."
+    ∷ record { start = accumulated; calls = plain (Prepare 1 0 (Acc 2)) ∷ []; expected = refused wrongBlock ∷ [] }
+    -- "P: second prepare in a view, 7."
+    ∷ record {
+      start = accumulated;
+      calls = plain (Prepare 1 1 (Acc 2)) ∷ plain (Prepare 1 1 (Acc 2)) ∷ [];
+      expected = accepted 3 0 ∷ refused wrongView ∷ [];
+    }
+    -- "P: a full book still answers a repeated View with its old number."
+    ∷ record {
+      start = zeros 1 1 1;
+      calls = plain (Open 1) ∷ plain (View 2 5) ∷ plain (View 1 5) ∷ plain (View 2 5) ∷ [];
+      expected = accepted 3 0 ∷ accepted 0 0 ∷ refused noRoom ∷ accepted 0 0 ∷ [];
+    }
+    -- "P: at boot 0 and bound 999,936 a reserve gives 1,000,000, the next returns 8, a reboot then gives spent." A spent replica's
+    -- reboot answers its old boot and low, and its reserve 4.
+    ∷ record {
+      start = update opened 0 (viewLimitAt becomes 999936 ∷ []);
+      calls = plain (Reserve 0) ∷ plain (Reserve 0) ∷ plain (Reboot 0) ∷ plain (Reserve 0) ∷ [];
+      expected = accepted 1000000 0 ∷ refused counterTooLow ∷ accepted 0 1 ∷ refused wrongStatus ∷ [];
+    }
+    ∷ []
+
+-- Every row's calls get the answers expected.
+unfoldable pub CasesHold : Type 0
+CasesHold = map (λ (c : Case). answers (c .start) (c .calls)) cases ≡ map (λ (c : Case). c .expected) cases

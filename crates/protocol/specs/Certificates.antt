@@ -1,0 +1,79 @@
+-- Kinds of certificates, and filing one (document 01, "Memory", the paragraph "Kinds").
+use Prim.Native.Nat.{ℕ, zero, suc, _+_}
+use mathlib.Core.Bool.{Bool, true, false, cond, _||_}
+use mathlib.Core.List.{List}
+use lib.ListN.{length, getD}
+use lib.Dec.{ltb, eqb}
+use Rattle.protocol.specs.Memory.{Memory, Certificate, certificateWords, certificateAt, certificateWord, certificateCount, appendCertificate}
+use Rattle.protocol.specs.Form.{allBelow}
+
+-- "Kinds: 1 PROP, 2 COMMIT, 3 NEWVIEW, 4 ACC, 5 REQ, 6 REPLY."
+abbrev pub PROP : ℕ
+PROP = 1
+
+abbrev pub COMMIT : ℕ
+COMMIT = 2
+
+abbrev pub NEWVIEW : ℕ
+NEWVIEW = 3
+
+abbrev pub ACC : ℕ
+ACC = 4
+
+abbrev pub REQ : ℕ
+REQ = 5
+
+abbrev pub REPLY : ℕ
+REPLY = 6
+
+abbrev pub isKind : ℕ → Certificate → Bool
+isKind k c = eqb (c .kind) k
+
+-- What the calls issue. "Fields not named below are 0."
+abbrev pub propOf : ℕ → ℕ → ℕ → Certificate
+propOf signer view block = record { kind = PROP; signer = signer; view = view; block = block; ofView = 0; subject = 0; boot = 0 }
+
+abbrev pub commitOf : ℕ → ℕ → ℕ → Certificate
+commitOf signer view block = record { kind = COMMIT; signer = signer; view = view; block = block; ofView = 0; subject = 0; boot = 0 }
+
+abbrev pub newViewOf : ℕ → ℕ → ℕ → ℕ → Certificate
+newViewOf signer view block ofView =
+    record { kind = NEWVIEW; signer = signer; view = view; block = block; ofView = ofView; subject = 0; boot = 0 }
+
+abbrev pub accOf : ℕ → ℕ → ℕ → ℕ → Certificate
+accOf signer view block ofView =
+    record { kind = ACC; signer = signer; view = view; block = block; ofView = ofView; subject = 0; boot = 0 }
+
+abbrev pub reqOf : ℕ → ℕ → ℕ → Certificate
+reqOf signer view boot = record { kind = REQ; signer = signer; view = view; block = 0; ofView = 0; subject = signer; boot = boot }
+
+abbrev pub replyOf : ℕ → ℕ → ℕ → ℕ → ℕ → ℕ → Certificate
+replyOf signer view block ofView subject boot =
+    record { kind = REPLY; signer = signer; view = view; block = block; ofView = ofView; subject = subject; boot = boot }
+
+-- The least number below a count of which a test holds, or the count itself.
+unfoldable pub firstBelow : ℕ → (ℕ → Bool) → ℕ
+firstBelow zero test = 0
+firstBelow (suc k) test = cond (ltb (firstBelow k test) k) (firstBelow k test) (cond (test k) k (k + 1))
+
+-- "equal in all seven words"
+unfoldable pub hasWords : Memory → List ℕ → ℕ → Bool
+hasWords m ws c = allBelow certificateWords (λ k. eqb (certificateWord m c k) (getD ws k 0))
+
+-- "A certificate equal in all seven words to an issued one isn't added again: the first such number is returned."
+-- The number that a certificate of these words has or gets: the first equal one's, or else the next.
+unfoldable pub numberFor : Memory → List ℕ → ℕ
+numberFor m ws = firstBelow (certificateCount m) (hasWords m ws)
+
+unfoldable pub isFiled : Memory → List ℕ → Bool
+isFiled m ws = ltb (numberFor m ws) (certificateCount m)
+
+-- A free place in the log.
+abbrev pub logHasRoom : Memory → Bool
+logHasRoom m = ltb (certificateAt (certificateCount m)) (length (m .log))
+
+unfoldable pub canFile : Memory → List ℕ → Bool
+canFile m ws = isFiled m ws || logHasRoom m
+
+unfoldable pub file : Memory → List ℕ → Memory
+file m ws = cond (isFiled m ws) m (appendCertificate m ws)

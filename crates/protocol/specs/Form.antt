@@ -1,0 +1,108 @@
+-- The form that every call but opening tests (document 01, "Memory", the paragraph "Form").
+use Prim.Native.Nat.{ℕ, zero, suc, _%_}
+use mathlib.Core.Bool.{Bool, true, false, cond, _&&_}
+use mathlib.Core.List.{List, [], _∷_}
+use lib.ListN.{length}
+use lib.Dec.{ltb, leb, eqb}
+use Rattle.protocol.specs.Memory.{
+  Memory,
+  Replica,
+  Certificate,
+  maxFaultBound,
+  replicaCount,
+  ceiling,
+  faultBound,
+  certificateCount,
+  blockCount,
+  tableLength,
+  retired,
+  raised,
+  replica,
+  certificateWords,
+  certificateAt,
+  certificate,
+  maxCertificates,
+  maxBlocks,
+  blockAt,
+  parent,
+}
+
+-- All tests of a list hold.
+abbrev pub allHold : List Bool → Bool
+allHold [] = true
+allHold (t ∷ ts) = t && allHold ts
+
+-- A test holds of every number below a count.
+unfoldable pub allBelow : ℕ → (ℕ → Bool) → Bool
+allBelow zero test = true
+allBelow (suc k) test = allBelow k test && test k
+
+-- "f 1 to 30"
+abbrev pub isFaultBound : ℕ → Bool
+isFaultBound f = allHold (leb 1 f ∷ leb f maxFaultBound ∷ [])
+
+-- "lengths as above": the table for f, the log whole certificates and at most 4,096, the blocks 1 to 4,096.
+unfoldable pub lengthsFit : Memory → ℕ → Bool
+lengthsFit m f =
+    allHold
+    (eqb (length (m .table)) (tableLength f)
+    ∷ eqb (length (m .log) % certificateWords) 0
+    ∷ leb (length (m .log)) (certificateAt maxCertificates)
+    ∷ ltb (blockAt 0) (length (m .blocks))
+    ∷ leb (length (m .blocks)) (blockAt maxBlocks)
+    ∷ [])
+
+-- "counts within places, at least one block"
+unfoldable pub countsFit : Memory → Bool
+countsFit m =
+    allHold
+    (leb (certificateAt (certificateCount m)) (length (m .log))
+    ∷ leb (blockAt (blockCount m)) (length (m .blocks))
+    ∷ leb 1 (blockCount m)
+    ∷ [])
+
+-- "block 0's parent is 0 and every other added block's parent is below it"
+abbrev pub blockFormed : Memory → ℕ → Bool
+blockFormed m b = cond (eqb b 0) (eqb (parent m b) 0) (ltb (parent m b) b)
+
+-- "status ≤ 2, flag ≤ 1; 1 ≤ low ≤ bound ≤ 1,000,000; stored view < low; shown view and boot ≤ 1,000,000; named blocks added"
+abbrev pub replicaFormed : ℕ → Replica → Bool
+replicaFormed added r =
+    allHold
+    (leb (r .status) retired
+    ∷ leb (r .flag) raised
+    ∷ leb 1 (r .minView)
+    ∷ leb (r .minView) (r .viewLimit)
+    ∷ leb (r .viewLimit) ceiling
+    ∷ ltb (r .storedView) (r .minView)
+    ∷ leb (r .decidedView) ceiling
+    ∷ leb (r .boot) ceiling
+    ∷ ltb (r .storedBlock) added
+    ∷ ltb (r .decidedBlock) added
+    ∷ [])
+
+-- "in an issued certificate, kind 1 to 6, signer and subject below n, view, of-view and boot ≤ 1,000,000"; its block is a named one
+abbrev pub certificateFormed : ℕ → ℕ → Certificate → Bool
+certificateFormed replicas added c =
+    allHold
+    (leb 1 (c .kind)
+    ∷ leb (c .kind) 6
+    ∷ ltb (c .signer) replicas
+    ∷ ltb (c .subject) replicas
+    ∷ leb (c .view) ceiling
+    ∷ leb (c .ofView) ceiling
+    ∷ leb (c .boot) ceiling
+    ∷ ltb (c .block) added
+    ∷ [])
+
+-- "Form", whole. Words past the counts are not read.
+unfoldable pub wellFormed : Memory → Bool
+wellFormed m =
+    allHold
+    (isFaultBound (faultBound m)
+    ∷ lengthsFit m (faultBound m)
+    ∷ countsFit m
+    ∷ allBelow (blockCount m) (blockFormed m)
+    ∷ allBelow (replicaCount (faultBound m)) (λ i. replicaFormed (blockCount m) (replica m i))
+    ∷ allBelow (certificateCount m) (λ c. certificateFormed (replicaCount (faultBound m)) (blockCount m) (certificate m c))
+    ∷ [])

@@ -1,0 +1,12 @@
+-- What is promised, in the order of document 01: its memory, its calls, lists of calls; then the theorems' statements and the table of cases.
+pub mod Memory
+pub mod Ancestry
+pub mod Form
+pub mod Certificates
+pub mod Leader
+pub mod Counter
+pub mod Quorum
+pub mod Outcome
+pub mod Calls
+pub mod Runs
+pub mod Cases

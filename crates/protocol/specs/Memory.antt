@@ -1,0 +1,219 @@
+-- The memory of a ledger (document 01, "Memory"): three lists of words, and where each word stands. "Numbers are decimal, words are
+-- 32-bit unsigned": here a word is any number, so that what is proved holds for words of every width.
+use Prim.Native.Nat.{ℕ, suc, _+_, _*_}
+use mathlib.Core.List.{List, [], _∷_}
+use lib.ListN.{length, getD, set}
+use lib.Seq.{sets}
+
+-- "Three word slices are lent." Document 01's table, book and blocks.
+pub record Memory : Type 0 where
+  pub table : List ℕ
+  pub log : List ℕ
+  pub blocks : List ℕ
+
+-- "f is 1 to 30"
+abbrev pub maxFaultBound : ℕ
+maxFaultBound = 30
+
+-- "n = 2f+1 boxes, 0 to n−1": the number of replicas
+abbrev pub replicaCount : ℕ → ℕ
+replicaCount f = 2 * f + 1
+
+-- The largest view, view limit and boot.
+abbrev pub ceiling : ℕ
+ceiling = 1000000
+
+-- ---- the table
+
+-- "Table: f, certificates issued, blocks added;"
+abbrev pub faultBoundAt : ℕ
+faultBoundAt = 0
+
+abbrev pub certificateCountAt : ℕ
+certificateCountAt = 1
+
+abbrev pub blockCountAt : ℕ
+blockCountAt = 2
+
+abbrev pub faultBound : Memory → ℕ
+faultBound m = getD (m .table) faultBoundAt 0
+
+abbrev pub certificateCount : Memory → ℕ
+certificateCount m = getD (m .table) certificateCountAt 0
+
+abbrev pub blockCount : Memory → ℕ
+blockCount m = getD (m .table) blockCountAt 0
+
+-- The replicas' words come after the three of the header, nine a replica.
+abbrev pub rowStart : ℕ
+rowStart = 3
+
+abbrev pub replicaWords : ℕ
+replicaWords = 9
+
+abbrev pub rowAt : ℕ → ℕ
+rowAt replica = rowStart + replicaWords * replica
+
+-- "then nine words a box: status (0 live, 1 waiting, 2 spent), boot, low, bound, flag, stored view, stored block, shown view, shown block."
+abbrev pub statusAt : ℕ
+statusAt = 0
+
+abbrev pub bootAt : ℕ
+bootAt = 1
+
+abbrev pub minViewAt : ℕ
+minViewAt = 2
+
+abbrev pub viewLimitAt : ℕ
+viewLimitAt = 3
+
+abbrev pub flagAt : ℕ
+flagAt = 4
+
+abbrev pub storedViewAt : ℕ
+storedViewAt = 5
+
+abbrev pub storedBlockAt : ℕ
+storedBlockAt = 6
+
+abbrev pub decidedViewAt : ℕ
+decidedViewAt = 7
+
+abbrev pub decidedBlockAt : ℕ
+decidedBlockAt = 8
+
+-- Document 01's waiting is recovering, its spent is retired.
+abbrev pub live : ℕ
+live = 0
+
+abbrev pub recovering : ℕ
+recovering = 1
+
+abbrev pub retired : ℕ
+retired = 2
+
+-- The flag: raised once the replica has proposed in its lowest view.
+abbrev pub lowered : ℕ
+lowered = 0
+
+abbrev pub raised : ℕ
+raised = 1
+
+pub record Replica : Type 0 where
+  pub status : ℕ
+  pub boot : ℕ
+  pub minView : ℕ
+  pub viewLimit : ℕ
+  pub flag : ℕ
+  pub storedView : ℕ
+  pub storedBlock : ℕ
+  pub decidedView : ℕ
+  pub decidedBlock : ℕ
+
+abbrev pub replicaWord : Memory → ℕ → ℕ → ℕ
+replicaWord m i k = getD (m .table) (rowAt i + k) 0
+
+abbrev pub replica : Memory → ℕ → Replica
+replica m i =
+    record {
+      status = replicaWord m i statusAt;
+      boot = replicaWord m i bootAt;
+      minView = replicaWord m i minViewAt;
+      viewLimit = replicaWord m i viewLimitAt;
+      flag = replicaWord m i flagAt;
+      storedView = replicaWord m i storedViewAt;
+      storedBlock = replicaWord m i storedBlockAt;
+      decidedView = replicaWord m i decidedViewAt;
+      decidedBlock = replicaWord m i decidedBlockAt;
+    }
+
+-- "Its length is 3+9n."
+abbrev pub tableLength : ℕ → ℕ
+tableLength f = rowAt (replicaCount f)
+
+-- ---- the certificate log (document 01: book)
+
+-- "Book: 7 words a certificate: kind, signer, view, block, of-view, subject, boot."
+abbrev pub certificateWords : ℕ
+certificateWords = 7
+
+abbrev pub certificateAt : ℕ → ℕ
+certificateAt c = certificateWords * c
+
+pub record Certificate : Type 0 where
+  pub kind : ℕ
+  pub signer : ℕ
+  pub view : ℕ
+  pub block : ℕ
+  pub ofView : ℕ
+  pub subject : ℕ
+  pub boot : ℕ
+
+abbrev pub certificateWord : Memory → ℕ → ℕ → ℕ
+certificateWord m c k = getD (m .log) (certificateAt c + k) 0
+
+abbrev pub certificate : Memory → ℕ → Certificate
+certificate m c =
+    record {
+      kind = certificateWord m c 0;
+      signer = certificateWord m c 1;
+      view = certificateWord m c 2;
+      block = certificateWord m c 3;
+      ofView = certificateWord m c 4;
+      subject = certificateWord m c 5;
+      boot = certificateWord m c 6;
+    }
+
+-- The words of a certificate, as they stand in the log.
+abbrev pub words : Certificate → List ℕ
+words c = c .kind ∷ c .signer ∷ c .view ∷ c .block ∷ c .ofView ∷ c .subject ∷ c .boot ∷ []
+
+-- "Length a multiple of 7, at most 4,096 places."
+abbrev pub maxCertificates : ℕ
+maxCertificates = 4096
+
+-- ---- the blocks
+
+-- "Blocks: the parent of each, 1 to 4,096 places."
+abbrev pub maxBlocks : ℕ
+maxBlocks = 4096
+
+abbrev pub blockAt : ℕ → ℕ
+blockAt b = b
+
+abbrev pub parent : Memory → ℕ → ℕ
+parent m b = getD (m .blocks) (blockAt b) 0
+
+-- ---- changes
+
+-- A word of a replica, by its place in the row, and its new value.
+pub data Assignment : Type 0 where
+  _becomes_ : ℕ → ℕ → Assignment
+
+infix 68 _becomes_
+-- The words with the assignments made, one after the other, in the row that starts at an index.
+abbrev pub assign : List ℕ → ℕ → List Assignment → List ℕ
+assign t at [] = t
+assign t at ((k becomes v) ∷ rest) = assign (set t (at + k) v) at rest
+
+-- The memory with words of one replica changed.
+abbrev pub update : Memory → ℕ → List Assignment → Memory
+update m i changes = record { table = assign (m .table) (rowAt i) changes; log = m .log; blocks = m .blocks }
+
+-- The memory with one certificate more, at the log's next place.
+abbrev pub appendCertificate : Memory → List ℕ → Memory
+appendCertificate m ws =
+    record {
+      table = set (m .table) certificateCountAt (certificateCount m + 1);
+      log = sets (m .log) (certificateAt (certificateCount m)) ws;
+      blocks = m .blocks;
+    }
+
+-- The memory with one block more, of the given parent.
+abbrev pub appendBlock : Memory → ℕ → Memory
+appendBlock m p =
+    record {
+      table = set (m .table) blockCountAt (blockCount m + 1);
+      log = m .log;
+      blocks = set (m .blocks) (blockAt (blockCount m)) p;
+    }

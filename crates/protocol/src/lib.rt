@@ -1,0 +1,32 @@
+// What the code and the definitions share: a call, the answer to it, and what lets a leader propose.
+
+// The number that a call returns, 0 where it is accepted, and its two values.
+pub struct Answer {
+    pub number: u32,
+    pub first: u32,
+    pub second: u32,
+}
+
+// What lets a leader propose (document 01: the ground of a proposal): the number of an ACC, or the view and the block of a
+// commit quorum, whose numbers are the list beside the call.
+pub enum Justification {
+    Acc(u32),
+    Commits(u32, u32),
+}
+
+// The twelve calls of document 01. A replica comes first, where the call has one. The list of certificate numbers that some calls
+// have stands beside the call.
+pub enum Call {
+    Open(u32),
+    Block(u32),
+    Prepare(u32, u32, Justification),
+    Store(u32, u32),
+    View(u32, u32),
+    Accumulate(u32),
+    Decide(u32),
+    Reboot(u32),
+    Reserve(u32),
+    Request(u32),
+    Reply(u32, u32),
+    Recover(u32),
+}

@@ -28,7 +28,7 @@ use Rattle.protocol.specs.Memory.{
 }
 
 -- All tests of a list hold.
-abbrev pub allHold : List Bool → Bool
+unfoldable pub allHold : List Bool → Bool
 allHold [] = true
 allHold (t ∷ ts) = t && allHold ts
 
@@ -62,11 +62,11 @@ countsFit m =
     ∷ [])
 
 -- "block 0's parent is 0 and every other added block's parent is below it"
-abbrev pub blockFormed : Memory → ℕ → Bool
-blockFormed m b = cond (eqb b 0) (eqb (parent m b) 0) (ltb (parent m b) b)
+unfoldable pub blockFormed : ℕ → ℕ → Bool
+blockFormed b p = cond (eqb b 0) (eqb p 0) (ltb p b)
 
 -- "status ≤ 2, flag ≤ 1; 1 ≤ low ≤ bound ≤ 1,000,000; stored view < low; shown view and boot ≤ 1,000,000; named blocks added"
-abbrev pub replicaFormed : ℕ → Replica → Bool
+unfoldable pub replicaFormed : ℕ → Replica → Bool
 replicaFormed added r =
     allHold
     (leb (r .status) retired
@@ -82,7 +82,7 @@ replicaFormed added r =
     ∷ [])
 
 -- "in an issued certificate, kind 1 to 6, signer and subject below n, view, of-view and boot ≤ 1,000,000"; its block is a named one
-abbrev pub certificateFormed : ℕ → ℕ → Certificate → Bool
+unfoldable pub certificateFormed : ℕ → ℕ → Certificate → Bool
 certificateFormed replicas added c =
     allHold
     (leb 1 (c .kind)
@@ -102,7 +102,7 @@ wellFormed m =
     (isFaultBound (faultBound m)
     ∷ lengthsFit m (faultBound m)
     ∷ countsFit m
-    ∷ allBelow (blockCount m) (blockFormed m)
+    ∷ allBelow (blockCount m) (λ b. blockFormed b (parent m b))
     ∷ allBelow (replicaCount (faultBound m)) (λ i. replicaFormed (blockCount m) (replica m i))
     ∷ allBelow (certificateCount m) (λ c. certificateFormed (replicaCount (faultBound m)) (blockCount m) (certificate m c))
     ∷ [])

@@ -9,4 +9,5 @@ pub mod Quorum
 pub mod Outcome
 pub mod Calls
 pub mod Runs
+pub mod Theorems
 pub mod Cases

@@ -197,11 +197,11 @@ assign t at [] = t
 assign t at ((k becomes v) ∷ rest) = assign (set t (at + k) v) at rest
 
 -- The memory with words of one replica changed.
-abbrev pub update : Memory → ℕ → List Assignment → Memory
+unfoldable pub update : Memory → ℕ → List Assignment → Memory
 update m i changes = record { table = assign (m .table) (rowAt i) changes; log = m .log; blocks = m .blocks }
 
 -- The memory with one certificate more, at the log's next place.
-abbrev pub appendCertificate : Memory → List ℕ → Memory
+unfoldable pub appendCertificate : Memory → List ℕ → Memory
 appendCertificate m ws =
     record {
       table = set (m .table) certificateCountAt (certificateCount m + 1);
@@ -210,7 +210,7 @@ appendCertificate m ws =
     }
 
 -- The memory with one block more, of the given parent.
-abbrev pub appendBlock : Memory → ℕ → Memory
+unfoldable pub appendBlock : Memory → ℕ → Memory
 appendBlock m p =
     record {
       table = set (m .table) blockCountAt (blockCount m + 1);

@@ -1,0 +1,218 @@
+-- Reading the memory after each of the three changes: words of a replica, a certificate more, a block more.
+use Prim.Native.Nat.{ℕ, zero, suc, _+_, _*_, _≤_, _<_}
+use mathlib.Core.Path.{_≡_, refl, sym, ap, _∙_}
+use mathlib.Core.Bool.{Bool, true, false, cond}
+use mathlib.Core.Logic.{_≢_}
+use mathlib.Core.List.{List, [], _∷_}
+use native.Mathlib.Omega.{arith}
+use lib.ListN.{length, getD, set, length-set}
+use lib.Seq.{sets, getD-set-same, getD-set-other, length-sets}
+use Rattle.protocol.specs.Memory.{
+  Memory,
+  Replica,
+  Certificate,
+  Assignment,
+  _becomes_,
+  certificateCountAt,
+  blockCountAt,
+  certificateCount,
+  blockCount,
+  rowStart,
+  rowAt,
+  replicaWords,
+  replicaWord,
+  replica,
+  certificateWords,
+  certificateAt,
+  certificateWord,
+  certificate,
+  words,
+  blockAt,
+  parent,
+  assign,
+  update,
+  appendCertificate,
+  appendBlock,
+}
+use Rattle.protocol.specs.Theorems.{SameLengths}
+use Rattle.protocol.proofs.Tests.{tests}
+use Rattle.protocol.proofs.Words.{
+  assigned,
+  withinRow,
+  avoids-row,
+  length-assign,
+  assign-elsewhere,
+  assign-at,
+  sets-elsewhere,
+  sets-at,
+}
+
+-- A replica or a certificate is as before where its words are.
+pub replica-same : (m m′ : Memory) (i : ℕ) → ((k : ℕ) → k < replicaWords → replicaWord m i k ≡ replicaWord m′ i k) → replica m i ≡ replica m′ i
+replica-same m m′ i h =
+    λ d.
+    record {
+      status = h 0 (omega arith) d;
+      boot = h 1 (omega arith) d;
+      minView = h 2 (omega arith) d;
+      viewLimit = h 3 (omega arith) d;
+      flag = h 4 (omega arith) d;
+      storedView = h 5 (omega arith) d;
+      storedBlock = h 6 (omega arith) d;
+      decidedView = h 7 (omega arith) d;
+      decidedBlock = h 8 (omega arith) d;
+    }
+
+pub certificate-same : (m m′ : Memory) (c : ℕ) → ((k : ℕ) → k < certificateWords → certificateWord m c k ≡ certificateWord m′ c k) → certificate m c ≡ certificate m′ c
+certificate-same m m′ c h =
+    λ d.
+    record {
+      kind = h 0 (omega arith) d;
+      signer = h 1 (omega arith) d;
+      view = h 2 (omega arith) d;
+      block = h 3 (omega arith) d;
+      ofView = h 4 (omega arith) d;
+      subject = h 5 (omega arith) d;
+      boot = h 6 (omega arith) d;
+    }
+
+-- ---- words of a replica
+
+-- The replica once the assignments are made.
+abbrev pub changed : List Assignment → Replica → Replica
+changed cs r =
+    record {
+      status = assigned cs 0 (r .status);
+      boot = assigned cs 1 (r .boot);
+      minView = assigned cs 2 (r .minView);
+      viewLimit = assigned cs 3 (r .viewLimit);
+      flag = assigned cs 4 (r .flag);
+      storedView = assigned cs 5 (r .storedView);
+      storedBlock = assigned cs 6 (r .storedBlock);
+      decidedView = assigned cs 7 (r .decidedView);
+      decidedBlock = assigned cs 8 (r .decidedBlock);
+    }
+
+pub update-lengths : (m : Memory) (i : ℕ) (cs : List Assignment) → SameLengths (update m i cs) m
+unfolding update
+update-lengths m i cs = record { table = length-assign cs (m .table) (rowAt i); log = refl; blocks = refl }
+
+module _ (m : Memory) (i : ℕ) (cs : List Assignment) (within : withinRow cs ≡ true) where
+  pub update-header : (k : ℕ) → k < rowStart → getD (update m i cs .table) k 0 ≡ getD (m .table) k 0
+  unfolding update
+  update-header k h = assign-elsewhere cs (m .table) (rowAt i) k (avoids-row cs (rowAt i) k within (λ le. omega arith))
+
+  pub update-other : (j : ℕ) → j ≢ i → replica (update m i cs) j ≡ replica m j
+  unfolding update
+  update-other j q =
+      replica-same (update m i cs) m j
+      (λ k h. assign-elsewhere cs (m .table) (rowAt i) (rowAt j + k) (avoids-row cs (rowAt i) (rowAt j + k) within (λ le. omega arith)))
+
+  pub update-own : rowAt i + replicaWords ≤ length (m .table) → replica (update m i cs) i ≡ changed cs (replica m i)
+  unfolding update
+  update-own room =
+      λ d.
+      record {
+        status = word 0 d;
+        boot = word 1 d;
+        minView = word 2 d;
+        viewLimit = word 3 d;
+        flag = word 4 d;
+        storedView = word 5 d;
+        storedBlock = word 6 d;
+        decidedView = word 7 d;
+        decidedBlock = word 8 d;
+      }
+    where
+      word : (k : ℕ) → replicaWord (update m i cs) i k ≡ assigned cs k (replicaWord m i k)
+      word k = assign-at cs (m .table) (rowAt i) k within room
+
+-- ---- a certificate more
+
+-- The certificate that a list of words is.
+abbrev pub certificateFrom : List ℕ → Certificate
+certificateFrom ws =
+    record {
+      kind = getD ws 0 0;
+      signer = getD ws 1 0;
+      view = getD ws 2 0;
+      block = getD ws 3 0;
+      ofView = getD ws 4 0;
+      subject = getD ws 5 0;
+      boot = getD ws 6 0;
+    }
+
+module _ (m : Memory) (ws : List ℕ) (whole : length ws ≡ certificateWords) where
+  pub append-lengths : SameLengths (appendCertificate m ws) m
+  unfolding appendCertificate
+  append-lengths =
+      record {
+        table = length-set (m .table) certificateCountAt (certificateCount m + 1);
+        log = length-sets (m .log) (certificateAt (certificateCount m)) ws;
+        blocks = refl;
+      }
+
+  pub append-table : (k : ℕ) → k ≢ certificateCountAt → getD (appendCertificate m ws .table) k 0 ≡ getD (m .table) k 0
+  unfolding appendCertificate
+  append-table k q = getD-set-other (m .table) certificateCountAt k (certificateCount m + 1) 0 q
+
+  pub append-count : certificateCountAt < length (m .table) → certificateCount (appendCertificate m ws) ≡ certificateCount m + 1
+  unfolding appendCertificate
+  append-count h = getD-set-same (m .table) certificateCountAt (certificateCount m + 1) 0 h
+
+  pub append-replica : (i : ℕ) → replica (appendCertificate m ws) i ≡ replica m i
+  append-replica i = replica-same (appendCertificate m ws) m i (λ k h. append-table (rowAt i + k) (omega arith))
+
+  pub append-old : (c : ℕ) → c < certificateCount m → certificate (appendCertificate m ws) c ≡ certificate m c
+  unfolding appendCertificate
+  append-old c h =
+      certificate-same (appendCertificate m ws) m c
+      (λ k l. sets-elsewhere ws (m .log) (certificateAt (certificateCount m)) (certificateAt c + k) (λ le. omega arith))
+
+  pub append-new : certificateAt (certificateCount m) + certificateWords ≤ length (m .log) → certificate (appendCertificate m ws) (certificateCount m) ≡ certificateFrom ws
+  unfolding appendCertificate
+  append-new room =
+      λ d.
+      record {
+        kind = word 0 (omega arith) d;
+        signer = word 1 (omega arith) d;
+        view = word 2 (omega arith) d;
+        block = word 3 (omega arith) d;
+        ofView = word 4 (omega arith) d;
+        subject = word 5 (omega arith) d;
+        boot = word 6 (omega arith) d;
+      }
+    where
+      word : (k : ℕ) → k < certificateWords → certificateWord (appendCertificate m ws) (certificateCount m) k ≡ getD ws k 0
+      word k h = sets-at ws (m .log) (certificateAt (certificateCount m)) k (omega arith) (omega arith)
+
+-- ---- a block more
+
+module _ (m : Memory) (p : ℕ) where
+  pub block-lengths : SameLengths (appendBlock m p) m
+  unfolding appendBlock
+  block-lengths =
+      record {
+        table = length-set (m .table) blockCountAt (blockCount m + 1);
+        log = refl;
+        blocks = length-set (m .blocks) (blockAt (blockCount m)) p;
+      }
+
+  pub block-table : (k : ℕ) → k ≢ blockCountAt → getD (appendBlock m p .table) k 0 ≡ getD (m .table) k 0
+  unfolding appendBlock
+  block-table k q = getD-set-other (m .table) blockCountAt k (blockCount m + 1) 0 q
+
+  pub block-count : blockCountAt < length (m .table) → blockCount (appendBlock m p) ≡ blockCount m + 1
+  unfolding appendBlock
+  block-count h = getD-set-same (m .table) blockCountAt (blockCount m + 1) 0 h
+
+  pub block-replica : (i : ℕ) → replica (appendBlock m p) i ≡ replica m i
+  block-replica i = replica-same (appendBlock m p) m i (λ k h. block-table (rowAt i + k) (omega arith))
+
+  pub block-old : (b : ℕ) → b < blockCount m → parent (appendBlock m p) b ≡ parent m b
+  unfolding appendBlock
+  block-old b h = getD-set-other (m .blocks) (blockAt (blockCount m)) (blockAt b) p 0 (omega arith)
+
+  pub block-new : blockAt (blockCount m) < length (m .blocks) → parent (appendBlock m p) (blockCount m) ≡ p
+  unfolding appendBlock
+  block-new room = getD-set-same (m .blocks) (blockAt (blockCount m)) p 0 room

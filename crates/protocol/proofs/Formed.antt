@@ -1,0 +1,100 @@
+-- The form, both ways: what it tells, and what shows it. Then the three changes that keep it: words of a replica, a certificate, a block.
+use Prim.Native.Nat.{ℕ, zero, suc, _+_, _*_, _≤_, _<_, _%_}
+use mathlib.Core.Path.{_≡_, refl, sym, ap, _∙_, subst}
+use mathlib.Core.Bool.{Bool, true, false, cond, _&&_}
+use mathlib.Core.Logic.{_≢_}
+use mathlib.Core.List.{List, [], _∷_}
+use native.Mathlib.Omega.{arith}
+use lib.ListN.{length, getD, set, length-set}
+use lib.Seq.{sets, getD-set-same, getD-set-other, length-sets}
+use lib.Dec.{ltb, leb, eqb}
+use Rattle.protocol.specs.Memory.{
+  Memory,
+  Replica,
+  Certificate,
+  Assignment,
+  _becomes_,
+  replicaCount,
+  faultBound,
+  certificateCount,
+  blockCount,
+  rowAt,
+  replicaWords,
+  tableLength,
+  replicaWord,
+  replica,
+  certificateWords,
+  certificateAt,
+  certificateWord,
+  certificate,
+  words,
+  blockAt,
+  parent,
+  assign,
+  update,
+  appendCertificate,
+  appendBlock,
+}
+use Rattle.protocol.specs.Form.{
+  allHold,
+  allBelow,
+  isFaultBound,
+  lengthsFit,
+  countsFit,
+  blockFormed,
+  replicaFormed,
+  certificateFormed,
+  wellFormed,
+}
+use Rattle.protocol.proofs.Tests.{tests, by-test, each, all-hold, at-below, all-below}
+use Rattle.protocol.proofs.Words.{assigned, withinRow, avoids-row, length-assign, assign-elsewhere, assign-at, sets-elsewhere, sets-at}
+
+pub record Formed (m : Memory) : Type 0 where
+  pub faults : isFaultBound (faultBound m) ≡ true
+  pub lengths : lengthsFit m (faultBound m) ≡ true
+  pub counts : countsFit m ≡ true
+  pub parents : (b : ℕ) → b < blockCount m → blockFormed b (parent m b) ≡ true
+  pub rows : (i : ℕ) → i < replicaCount (faultBound m) → replicaFormed (blockCount m) (replica m i) ≡ true
+  pub log : (c : ℕ) → c < certificateCount m → certificateFormed (replicaCount (faultBound m)) (blockCount m) (certificate m c) ≡ true
+
+pub formed : (m : Memory) → wellFormed m ≡ true → Formed m
+unfolding wellFormed
+formed m e =
+    let h = each _ e in
+    record {
+      faults = h .0;
+      lengths = h .1 .0;
+      counts = h .1 .1 .0;
+      parents = at-below _ _ (h .1 .1 .1 .0);
+      rows = at-below _ _ (h .1 .1 .1 .1 .0);
+      log = at-below _ _ (h .1 .1 .1 .1 .1 .0);
+    }
+
+pub form : (m : Memory) → Formed m → wellFormed m ≡ true
+unfolding wellFormed
+form m h =
+    all-hold _ (
+      h .faults,
+      (
+        h .lengths,
+        (h .counts, (all-below _ _ (h .parents), (all-below _ _ (h .rows), (all-below _ _ (h .log), tt)))),
+      ),
+    )
+
+-- The numbers that the form tells.
+pub record Sizes (m : Memory) : Type 0 where
+  pub faultsLow : 1 ≤ faultBound m
+  pub faultsHigh : faultBound m ≤ 30
+  pub table : length (m .table) ≡ tableLength (faultBound m)
+  pub logWhole : length (m .log) % certificateWords ≡ 0
+  pub certificatesFit : certificateAt (certificateCount m) ≤ length (m .log)
+  pub blocksFit : blockAt (blockCount m) ≤ length (m .blocks)
+  pub blocksSome : 1 ≤ blockCount m
+
+pub sizes : (m : Memory) → Formed m → Sizes m
+unfolding lengthsFit countsFit
+sizes m h =
+    let a = each _ (h .faults) in
+    let b = each _ (h .lengths) in
+    let c = each _ (h .counts) in
+    omega tests

@@ -1,0 +1,198 @@
+-- What keeps the form: words of a replica that stay in their ranges, a certificate in its ranges, a block on an added one.
+use Prim.Native.Nat.{ℕ, zero, suc, _+_, _*_, _≤_, _<_}
+use mathlib.Core.Path.{_≡_, refl, sym, ap, _∙_, subst}
+use mathlib.Core.Bool.{Bool, true, false, cond}
+use mathlib.Core.Logic.{_≢_}
+use mathlib.Core.List.{List, [], _∷_}
+use native.Mathlib.Omega.{arith}
+use lib.ListN.{length, getD}
+use lib.Dec.{ltb, leb, eqb}
+use Rattle.protocol.specs.Memory.{
+  Memory,
+  Replica,
+  Certificate,
+  Assignment,
+  replicaCount,
+  faultBound,
+  certificateCount,
+  blockCount,
+  rowAt,
+  replicaWords,
+  replica,
+  certificateWords,
+  certificateAt,
+  certificate,
+  words,
+  blockAt,
+  parent,
+  update,
+  appendCertificate,
+  appendBlock,
+}
+use Rattle.protocol.specs.Form.{allHold, isFaultBound, lengthsFit, countsFit, blockFormed, replicaFormed, certificateFormed}
+use Rattle.protocol.specs.Certificates.{canFile, file, logHasRoom}
+use Rattle.protocol.specs.Outcome.{Need, _else_, noRoom}
+use Rattle.protocol.specs.Calls.{isReplica, issuing}
+use Rattle.protocol.specs.Theorems.{SameLengths}
+use Rattle.protocol.proofs.Tests.{tests, by-test, each, all-hold}
+use Rattle.protocol.proofs.Needs.{Holds, holds-both}
+use Rattle.protocol.proofs.Words.{withinRow}
+use Rattle.protocol.proofs.Formed.{Formed, Sizes, sizes}
+use Rattle.protocol.proofs.Filing.{file-cases, must-have-room, file-table, file-replica}
+use Rattle.protocol.proofs.Changes.{
+  changed,
+  certificateFrom,
+  update-lengths,
+  update-header,
+  update-other,
+  update-own,
+  append-lengths,
+  append-table,
+  append-count,
+  append-replica,
+  append-old,
+  append-new,
+  block-lengths,
+  block-table,
+  block-count,
+  block-replica,
+  block-old,
+  block-new,
+}
+
+-- ---- the parts
+
+pub lengths-same : (m m′ : Memory) (f : ℕ) → SameLengths m m′ → lengthsFit m f ≡ lengthsFit m′ f
+unfolding lengthsFit
+lengths-same m m′ f s = rw (s .table, s .log, s .blocks) refl
+
+pub counts-fit : (m : Memory) → certificateAt (certificateCount m) ≤ length (m .log) → blockAt (blockCount m) ≤ length (m .blocks) → 1 ≤ blockCount m → countsFit m ≡ true
+unfolding countsFit
+counts-fit m a b c = all-hold _ (omega tests)
+
+pub row-grows : (a b : ℕ) (r : Replica) → a ≤ b → replicaFormed a r ≡ true → replicaFormed b r ≡ true
+unfolding replicaFormed
+row-grows a b r le e = let h = each _ e in all-hold _ (omega tests)
+
+pub certificate-grows : (n a b : ℕ) (c : Certificate) → a ≤ b → certificateFormed n a c ≡ true → certificateFormed n b c ≡ true
+unfolding certificateFormed
+certificate-grows n a b c le e = let h = each _ e in all-hold _ (omega tests)
+
+-- A block above its parent.
+on-lower : (b p : ℕ) → p < b → blockFormed b p ≡ true
+unfolding blockFormed
+on-lower b p l = let q : eqb b 0 ≡ false = omega tests in rw q (omega tests)
+
+-- ---- words of a replica
+
+-- Assignments within the row that leave the replica in its ranges.
+pub record Suits (m : Memory) (i : ℕ) (cs : List Assignment) : Type 0 where
+  pub within : withinRow cs ≡ true
+  pub row : replicaFormed (blockCount m) (changed cs (replica m i)) ≡ true
+
+pub update-keeps : (m : Memory) (i : ℕ) (cs : List Assignment) → Formed m → isReplica m i ≡ true → Suits m i cs → Formed (update m i cs)
+unfolding update
+update-keeps m i cs h own suits =
+    let within = suits .within in
+    let z = sizes m h in
+    let f : faultBound (update m i cs) ≡ faultBound m = update-header m i cs within 0 (omega arith) in
+    let c : certificateCount (update m i cs) ≡ certificateCount m = update-header m i cs within 1 (omega arith) in
+    let b : blockCount (update m i cs) ≡ blockCount m = update-header m i cs within 2 (omega arith) in
+    let same = lengths-same (update m i cs) m (faultBound m) (update-lengths m i cs) in
+    record {
+      faults = rw f (h .faults);
+      lengths = rw f (same ∙ h .lengths);
+      counts = counts-fit (update m i cs) (omega arith) (omega arith) (omega arith);
+      parents = λ x l. h .parents x (omega arith);
+      rows =
+          λ j l.
+          rw b
+          (by-test (eqb j i)
+          (λ e.
+          let q : j ≡ i = omega tests in
+          rw q (ap (replicaFormed (blockCount m)) (update-own m i cs within (omega tests)) ∙ suits .row))
+          (λ e. ap (replicaFormed (blockCount m)) (update-other m i cs within j (omega tests)) ∙ h .rows j (omega arith)));
+      log = λ x l. rw (f, b) (h .log x (omega arith));
+    }
+
+-- ---- a certificate more
+
+pub append-keeps : (m : Memory) (ws : List ℕ) → length ws ≡ certificateWords → Formed m → logHasRoom m ≡ true → certificateFormed (replicaCount (faultBound m)) (blockCount m) (certificateFrom ws) ≡ true → Formed (appendCertificate m ws)
+unfolding appendCertificate
+append-keeps m ws whole h room good =
+    let z = sizes m h in
+    let f : faultBound (appendCertificate m ws) ≡ faultBound m = append-table m ws whole 0 (omega arith) in
+    let c = append-count m ws whole (omega arith) in
+    let b : blockCount (appendCertificate m ws) ≡ blockCount m = append-table m ws whole 2 (omega arith) in
+    let s = append-lengths m ws whole in
+    let fits : certificateAt (certificateCount m) + certificateWords ≤ length (m .log) = omega tests in
+    record {
+      faults = rw f (h .faults);
+      lengths = rw f (lengths-same (appendCertificate m ws) m (faultBound m) s ∙ h .lengths);
+      counts = counts-fit (appendCertificate m ws) (omega arith) (omega arith) (omega arith);
+      parents = λ x l. h .parents x (omega arith);
+      rows = λ j l. rw b (ap (replicaFormed (blockCount m)) (append-replica m ws whole j) ∙ h .rows j (omega arith));
+      log =
+          λ x l.
+          rw (f, b)
+          (by-test (eqb x (certificateCount m))
+          (λ e.
+          let q : x ≡ certificateCount m = omega tests in
+          rw q (ap (certificateFormed _ _) (append-new m ws whole fits) ∙ good))
+          (λ e. ap (certificateFormed _ _) (append-old m ws whole x (omega tests)) ∙ h .log x (omega tests)));
+    }
+
+-- Filing, where it is found or has room.
+pub file-keeps : (m : Memory) (c : Certificate) → Formed m → canFile m (words c) ≡ true → certificateFormed (replicaCount (faultBound m)) (blockCount m) c ≡ true → Formed (file m (words c))
+file-keeps m c h can good =
+    file-cases Formed m (words c) (λ e. h) (λ e. append-keeps m (words c) refl h (must-have-room m (words c) can e) good)
+
+-- ---- a block more
+
+pub block-keeps : (m : Memory) (p : ℕ) → Formed m → p < blockCount m → blockAt (blockCount m) < length (m .blocks) → Formed (appendBlock m p)
+unfolding appendBlock
+block-keeps m p h known room =
+    let z = sizes m h in
+    let f : faultBound (appendBlock m p) ≡ faultBound m = block-table m p 0 (omega arith) in
+    let c : certificateCount (appendBlock m p) ≡ certificateCount m = block-table m p 1 (omega arith) in
+    let b = block-count m p (omega arith) in
+    let s = block-lengths m p in
+    record {
+      faults = rw f (h .faults);
+      lengths = rw f (lengths-same (appendBlock m p) m (faultBound m) s ∙ h .lengths);
+      counts = counts-fit (appendBlock m p) (omega arith) (omega arith) (omega arith);
+      parents =
+          λ x l.
+          by-test (eqb x (blockCount m))
+          (λ e.
+          let q : x ≡ blockCount m = omega tests in
+          rw q (ap (blockFormed (blockCount m)) (block-new m p room) ∙ on-lower (blockCount m) p known))
+          (λ e. ap (blockFormed x) (block-old m p x (omega tests)) ∙ h .parents x (omega tests));
+      rows =
+          λ j l.
+          row-grows (blockCount m) (blockCount (appendBlock m p)) (replica (appendBlock m p) j) (omega arith)
+          (ap (replicaFormed (blockCount m)) (block-replica m p j) ∙ h .rows j (omega arith));
+      log =
+          λ x l.
+          rw f
+          (certificate-grows _ (blockCount m) (blockCount (appendBlock m p)) (certificate m x) (omega arith) (h .log x (omega arith)));
+    }
+
+-- ---- an issuing call: the certificate filed, words of the replica changed
+
+-- The needs of an issuing call, and that its certificate can be filed.
+pub issuing-needs : (m : Memory) (needs : List Need) (i : ℕ) (cs : List Assignment) (c : Certificate) → Holds (issuing m needs i cs c .needs) → Holds needs × (canFile m (words c) ≡ true)
+unfolding issuing
+issuing-needs m needs i cs c h = let both = holds-both needs (canFile m (words c) else noRoom ∷ []) h in (both .0, both .1 .0)
+
+pub issuing-keeps : (m : Memory) (needs : List Need) (i : ℕ) (cs : List Assignment) (c : Certificate) → Holds (issuing m needs i cs c .needs) → Formed m → isReplica m i ≡ true → certificateFormed (replicaCount (faultBound m)) (blockCount m) c ≡ true → Suits m i cs → Formed (issuing m needs i cs c .after)
+unfolding issuing
+issuing-keeps m needs i cs c hold h own certificate suits =
+    let f : faultBound (file m (words c)) ≡ faultBound m = file-table m (words c) refl 0 (omega arith) in
+    let b : blockCount (file m (words c)) ≡ blockCount m = file-table m (words c) refl 2 (omega arith) in
+    let can = issuing-needs m needs i cs c hold .1 in
+    update-keeps (file m (words c)) i cs (file-keeps m c h can certificate) (omega tests)
+    (record {
+      within = suits .within;
+      row = rw b (ap (λ (r : Replica). replicaFormed (blockCount m) (changed cs r)) (file-replica m (words c) refl i) ∙ suits .row);
+    })

@@ -1,0 +1,191 @@
+-- An accepted call leaves well-formed memory.
+use Prim.Native.Nat.{ℕ, zero, suc, _+_, _≤_, _<_, max}
+use mathlib.Core.Path.{_≡_, refl, sym, ap, _∙_}
+use mathlib.Core.Bool.{Bool, true, false, cond, _||_}
+use mathlib.Core.List.{List, [], _∷_}
+use native.Mathlib.Omega.{arith}
+use lib.Dec.{ltb, leb, eqb}
+use Rattle.protocol.specs.declared.Call.{Call}
+use Rattle.protocol.specs.declared.Call.the-variants.{
+  Open,
+  Block,
+  Prepare,
+  Store,
+  View,
+  Accumulate,
+  Decide,
+  Reboot,
+  Reserve,
+  Request,
+  Reply,
+  Recover,
+}
+use Rattle.protocol.specs.declared.Justification.{Justification}
+use Rattle.protocol.specs.Memory.{Memory, Certificate, replicaCount, ceiling, faultBound, blockCount, retired, replica, certificate, update}
+use Rattle.protocol.specs.Form.{wellFormed, replicaFormed, certificateFormed}
+use Rattle.protocol.specs.Counter.{counterStep}
+use Rattle.protocol.specs.Quorum.{certificatesOf, firstOf}
+use Rattle.protocol.specs.Calls.{
+  issuing,
+  retires,
+  opening,
+  block,
+  prepare,
+  store,
+  view,
+  accumulate,
+  decide,
+  reboot,
+  reserve,
+  request,
+  reply,
+  recover,
+}
+use Rattle.protocol.specs.Runs.{ruleOf, step}
+use Rattle.protocol.specs.Theorems.{AcceptedLeavesForm}
+use Rattle.protocol.proofs.Tests.{tests, by-cond, or-false, each, all-hold}
+use Rattle.protocol.proofs.Needs.{Holds, no-refusal, accepted-after}
+use Rattle.protocol.proofs.Rules.{needs-hold}
+use Rattle.protocol.proofs.Formed.{Formed, formed, form}
+use Rattle.protocol.proofs.Keeps.{Suits, update-keeps, block-keeps, issuing-needs, issuing-keeps}
+use Rattle.protocol.proofs.Lists.{All, all-named, first-named, latest-named}
+use Rattle.protocol.proofs.Opened.{opened, opened-formed}
+
+-- A certificate in its ranges.
+abbrev InRange : Memory → Certificate → Type 0
+InRange m c = certificateFormed (replicaCount (faultBound m)) (blockCount m) c ≡ true
+
+opening-leaves : (m : Memory) (f : ℕ) → Holds (opening m f .needs) → Formed (opening m f .after)
+unfolding opening
+opening-leaves m f h = opened-formed m f _ (h .0) (h .1 .0) (opened m f (h .1 .0))
+
+block-leaves : (m : Memory) (p : ℕ) → Holds (block m p .needs) → Formed (block m p .after)
+unfolding block
+block-leaves m p h = block-keeps m p (formed m (h .0)) (omega tests) (omega tests)
+
+store-leaves : (m : Memory) (i number : ℕ) → Holds (store m i number .needs) → Formed (store m i number .after)
+unfolding store replicaFormed certificateFormed
+store-leaves m i number hold =
+    let h = issuing-needs m _ i _ _ hold .0 in
+    let z = formed m (h .0) in
+    let r = each _ (z .rows i (omega tests)) in
+    let p = each _ (z .log number (omega tests)) in
+    issuing-keeps m _ i _ _ hold z (h .1 .0) (all-hold _ (omega tests)) (record { within = refl; row = all-hold _ (omega tests) })
+
+prepare-leaves : (m : Memory) (i b : ℕ) (j : Justification) (list : List ℕ) → Holds (prepare m i b j list .needs) → Formed (prepare m i b j list .after)
+unfolding prepare replicaFormed certificateFormed
+prepare-leaves m i b j list hold =
+    let h = issuing-needs m _ i _ _ hold .0 in
+    let z = formed m (h .0) in
+    let r = each _ (z .rows i (omega tests)) in
+    issuing-keeps m _ i _ _ hold z (h .1 .0) (all-hold _ (omega tests)) (record { within = refl; row = all-hold _ (omega tests) })
+
+view-leaves : (m : Memory) (i w : ℕ) → Holds (view m i w .needs) → Formed (view m i w .after)
+unfolding view replicaFormed certificateFormed
+view-leaves m i w hold =
+    let h = issuing-needs m _ i _ _ hold .0 in
+    let z = formed m (h .0) in
+    let r = each _ (z .rows i (omega tests)) in
+    let flag : cond (ltb (replica m i .minView) w) 0 (replica m i .flag) ≤ 1 = small (ltb (replica m i .minView) w) (omega tests) in
+    issuing-keeps m _ i _ _ hold z (h .1 .0) (all-hold _ (omega tests)) (record { within = refl; row = all-hold _ (omega tests) })
+  where
+    small : (t : Bool) {x : ℕ} → x ≤ 1 → cond t 0 x ≤ 1
+    small true l = omega arith
+    small false l = l
+
+accumulate-leaves : (m : Memory) (i : ℕ) (list : List ℕ) → Holds (accumulate m i list .needs) → Formed (accumulate m i list .after)
+unfolding accumulate replicaFormed certificateFormed
+accumulate-leaves m i list hold =
+    let h = issuing-needs m _ i _ _ hold .0 in
+    let z = formed m (h .0) in
+    let r = each _ (z .rows i (omega tests)) in
+    let cs = all-named (InRange m) m list (h .1 .1 .1 .0) (z .log) in
+    let c = each _ (first-named (InRange m) m list (h .1 .1 .0) cs) in
+    let g = each _ (latest-named (InRange m) m list (h .1 .1 .0) cs) in
+    issuing-keeps m _ i _ _ hold z (h .1 .0) (all-hold _ (omega tests)) (record { within = refl; row = all-hold _ (omega tests) })
+
+decide-leaves : (m : Memory) (i : ℕ) (list : List ℕ) → Holds (decide m i list .needs) → Formed (decide m i list .after)
+unfolding decide replicaFormed certificateFormed
+decide-leaves m i list h =
+    let z = formed m (h .0) in
+    let r = each _ (z .rows i (omega tests)) in
+    let cs = all-named (InRange m) m list (h .1 .1 .1 .0) (z .log) in
+    let c = each _ (first-named (InRange m) m list (h .1 .1 .0) cs) in
+    by-cond (λ cs. Formed (update m i cs)) (ltb (replica m i .decidedView) (firstOf (certificatesOf m list) .view))
+    (λ e. update-keeps m i _ z (h .1 .0) (record { within = refl; row = all-hold _ (omega tests) }))
+    (λ e. update-keeps m i _ z (h .1 .0) (record { within = refl; row = all-hold _ (omega tests) }))
+
+-- A reboot that does not retire the replica stays within 1,000,000.
+in-range : (m : Memory) (i : ℕ) → retires m i ≡ false → (replica m i .boot + 1 ≤ ceiling) × (replica m i .viewLimit + counterStep m (replica m i .boot + 1) ≤ ceiling)
+in-range m i e =
+    let a = or-false (eqb (replica m i .status) retired || ltb ceiling (replica m i .boot + 1)) _ e in
+    let b = or-false (eqb (replica m i .status) retired) _ (a .0) in
+    omega tests
+
+reboot-leaves : (m : Memory) (i : ℕ) → Holds (reboot m i .needs) → Formed (reboot m i .after)
+unfolding reboot replicaFormed
+reboot-leaves m i h =
+    let z = formed m (h .0) in
+    let r = each _ (z .rows i (omega tests)) in
+    by-cond (λ cs. Formed (update m i cs)) (retires m i)
+    (λ e. update-keeps m i _ z (h .1 .0) (record { within = refl; row = all-hold _ (omega tests) }))
+    (λ e.
+    let fits = in-range m i e in
+    update-keeps m i _ z (h .1 .0) (record { within = refl; row = all-hold _ (omega tests) }))
+
+reserve-leaves : (m : Memory) (i : ℕ) → Holds (reserve m i .needs) → Formed (reserve m i .after)
+unfolding reserve replicaFormed
+reserve-leaves m i h =
+    let z = formed m (h .0) in
+    let r = each _ (z .rows i (omega tests)) in
+    update-keeps m i _ z (h .1 .0) (record { within = refl; row = all-hold _ (omega tests) })
+
+request-leaves : (m : Memory) (i : ℕ) → Holds (request m i .needs) → Formed (request m i .after)
+unfolding request replicaFormed certificateFormed
+request-leaves m i hold =
+    let h = issuing-needs m _ i _ _ hold .0 in
+    let z = formed m (h .0) in
+    let r = each _ (z .rows i (omega tests)) in
+    issuing-keeps m _ i _ _ hold z (h .1 .0) (all-hold _ (omega tests)) (record { within = refl; row = all-hold _ (omega tests) })
+
+reply-leaves : (m : Memory) (i number : ℕ) → Holds (reply m i number .needs) → Formed (reply m i number .after)
+unfolding reply replicaFormed certificateFormed
+reply-leaves m i number hold =
+    let h = issuing-needs m _ i _ _ hold .0 in
+    let z = formed m (h .0) in
+    let r = each _ (z .rows i (omega tests)) in
+    let q = each _ (z .log number (omega tests)) in
+    issuing-keeps m _ i _ _ hold z (h .1 .0) (all-hold _ (omega tests))
+    (by-cond (Suits m i) (ltb (replica m i .minView) (certificate m number .view))
+    (λ e. record { within = refl; row = all-hold _ (omega tests) })
+    (λ e. record { within = refl; row = all-hold _ (omega tests) }))
+
+recover-leaves : (m : Memory) (i : ℕ) (list : List ℕ) → Holds (recover m i list .needs) → Formed (recover m i list .after)
+unfolding recover replicaFormed certificateFormed
+recover-leaves m i list h =
+    let z = formed m (h .0) in
+    let r = each _ (z .rows i (omega tests)) in
+    let cs = all-named (InRange m) m list (h .1 .1 .1 .0) (z .log) in
+    let g = each _ (latest-named (InRange m) m list (h .1 .1 .0) cs) in
+    update-keeps m i _ z (h .1 .0) (record { within = refl; row = all-hold _ (omega tests) })
+
+leaves : (m : Memory) (call : Call) (list : List ℕ) → Holds (ruleOf m call list .needs) → Formed (ruleOf m call list .after)
+unfolding ruleOf
+leaves m (Open f) list h = opening-leaves m f h
+leaves m (Block p) list h = block-leaves m p h
+leaves m (Prepare i b justification) list h = prepare-leaves m i b justification list h
+leaves m (Store i number) list h = store-leaves m i number h
+leaves m (View i w) list h = view-leaves m i w h
+leaves m (Accumulate i) list h = accumulate-leaves m i list h
+leaves m (Decide i) list h = decide-leaves m i list h
+leaves m (Reboot i) list h = reboot-leaves m i h
+leaves m (Reserve i) list h = reserve-leaves m i h
+leaves m (Request i) list h = request-leaves m i h
+leaves m (Reply i number) list h = reply-leaves m i number h
+leaves m (Recover i) list h = recover-leaves m i list h
+
+pub accepted-leaves-form : AcceptedLeavesForm
+unfolding AcceptedLeavesForm step
+accepted-leaves-form m call list accepted =
+    let e = no-refusal m (ruleOf m call list) accepted in
+    rw (accepted-after m (ruleOf m call list) accepted) (form _ (leaves m call list (needs-hold m call list e)))

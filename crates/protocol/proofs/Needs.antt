@@ -1,0 +1,103 @@
+-- What a list of needs tells: of an accepted call, that every need holds; of a refused one, that nothing changed and the lowest number won.
+use Prim.Native.Nat.{ℕ, zero, suc, _≤_, _<_}
+use mathlib.Core.Path.{_≡_, refl, sym, ap, _∙_, subst}
+use mathlib.Core.Bool.{Bool, true, false, cond, _&&_}
+use mathlib.Core.List.{List, [], _∷_, _++_, List·Memᴰ, List·Memᴰ·cases-cons, List·Memᴰ·not-nil}
+use mathlib.Core.Logic.{⊎-elim}
+use native.Mathlib.Omega.{arith}
+use lib.Dec.{leb}
+use Rattle.protocol.specs.Memory.{Memory}
+use Rattle.protocol.specs.Outcome.{Outcome, Need, _else_, Rule, firstRefusal, answered, follow}
+use Rattle.protocol.specs.Theorems.{Accepted, Unchanged, Lowest}
+use Rattle.protocol.proofs.Tests.{tests, and-true}
+
+-- Every need of a list holds.
+abbrev pub Holds : List Need → Type 0
+Holds [] = Unit {0}
+Holds ((t else n) ∷ rest) = (t ≡ true) × Holds rest
+
+-- The numbers of the needs do not fall, from a least one on.
+abbrev pub risingFrom : ℕ → List Need → Bool
+risingFrom least [] = true
+risingFrom least ((t else n) ∷ rest) = leb least n && risingFrom n rest
+
+-- What a rule's needs have in common: no number is 0.
+abbrev pub positive : List Need → Bool
+positive [] = true
+positive ((t else n) ∷ rest) = leb 1 n && positive rest
+
+pub all-needs : (ns : List Need) → positive ns ≡ true → firstRefusal ns ≡ 0 → Holds ns
+unfolding firstRefusal
+all-needs [] p e = tt
+all-needs ((true else n) ∷ rest) p e = (refl, all-needs rest (and-true (leb 1 n) (positive rest) p .1) e)
+all-needs ((false else n) ∷ rest) p e = let h = and-true (leb 1 n) (positive rest) p in absurd (omega tests)
+
+pub holds-both : (ns ms : List Need) → Holds (ns ++ ms) → Holds ns × Holds ms
+holds-both [] ms h = (tt, h)
+holds-both ((t else n) ∷ ns) ms h = let both = holds-both ns ms (h .1) in ((h .0, both .0), both .1)
+
+-- ---- accepted and refused, of any rule
+
+accepted-number : (n : ℕ) (m : Memory) (rule : Rule) → Accepted (answered n m rule) → n ≡ 0
+unfolding answered
+accepted-number zero m rule e = refl
+accepted-number (suc n) m rule e = e
+
+pub no-refusal : (m : Memory) (rule : Rule) → Accepted (follow m rule) → firstRefusal (rule .needs) ≡ 0
+unfolding follow
+no-refusal m rule e = accepted-number (firstRefusal (rule .needs)) m rule e
+
+pub accepted-after : (m : Memory) (rule : Rule) → Accepted (follow m rule) → follow m rule .memory ≡ rule .after
+unfolding follow answered
+accepted-after m rule e = ap (λ (n : ℕ). answered n m rule .memory) (no-refusal m rule e)
+
+-- What holds of the memory as it was and of the memory on success holds of the memory left.
+pub left-memory : (P : Memory → Type 0) (m : Memory) (rule : Rule) → P m → (firstRefusal (rule .needs) ≡ 0 → P (rule .after)) → P (follow m rule .memory)
+unfolding follow answered
+left-memory P m rule before after = go (firstRefusal (rule .needs)) refl
+  where
+    go : (n : ℕ) → firstRefusal (rule .needs) ≡ n → P (answered n m rule .memory)
+    go zero e = after e
+    go (suc n) e = before
+
+pub unchanged : (m : Memory) (rule : Rule) → (Accepted (follow m rule) → ⊥) → Unchanged m (follow m rule)
+unfolding follow answered
+unchanged m rule h = go (firstRefusal (rule .needs)) h
+  where
+    go : (n : ℕ) → (Accepted (answered n m rule) → ⊥) → Unchanged m (answered n m rule)
+    go zero h = absurd (h refl)
+    go (suc n) h = record { memory = refl; first = refl; second = refl }
+
+-- ---- the lowest number
+
+-- Two needs are equal: so are their tests and their numbers.
+same-test : {s t : Bool} {k n : ℕ} → (s else k) ≡ (t else n) → s ≡ t
+same-test e = cc
+
+same-number : {s t : Bool} {k n : ℕ} → (s else k) ≡ (t else n) → k ≡ n
+same-number e = cc
+
+rising-least : (ns : List Need) (least : ℕ) → risingFrom least ns ≡ true → {t : Bool} {k : ℕ} → List·Memᴰ (t else k) ns → least ≤ k
+rising-least [] least r w = absurd (List·Memᴰ·not-nil w)
+rising-least ((s else n) ∷ rest) least r {t} {k} w =
+    let both = and-true (leb least n) (risingFrom n rest) r in
+    ⊎-elim (λ e. let q = same-number e in omega tests) (λ v. let b = rising-least rest n (both .1) v in omega tests) (List·Memᴰ·cases-cons w)
+
+pub lowest-refusal : (ns : List Need) (least : ℕ) → risingFrom least ns ≡ true → {k : ℕ} → List·Memᴰ (false else k) ns → (least ≤ firstRefusal ns) × (firstRefusal ns ≤ k)
+unfolding firstRefusal
+lowest-refusal [] least r w = absurd (List·Memᴰ·not-nil w)
+lowest-refusal ((true else n) ∷ rest) least r {k} w =
+    let both = and-true (leb least n) (risingFrom n rest) r in
+    ⊎-elim (λ e. let q = same-test e in let z : _≡_ {A = ℕ} 0 1 = cc in absurd (omega arith))
+    (λ v. let b = lowest-refusal rest n (both .1) v in omega tests) (List·Memᴰ·cases-cons w)
+lowest-refusal ((false else n) ∷ rest) least r {k} w =
+    let both = and-true (leb least n) (risingFrom n rest) r in
+    (omega tests, ⊎-elim (λ e. let q = same-number e in omega arith) (λ v. rising-least rest n (both .1) v) (List·Memᴰ·cases-cons w))
+
+pub lowest : (m : Memory) (rule : Rule) → risingFrom 1 (rule .needs) ≡ true → {k : ℕ} → List·Memᴰ (false else k) (rule .needs) → Lowest (follow m rule) k
+unfolding follow answered
+lowest m rule r {k} w = go (firstRefusal (rule .needs)) (lowest-refusal (rule .needs) 1 r w)
+  where
+    go : (n : ℕ) → (1 ≤ n) × (n ≤ k) → Lowest (answered n m rule) k
+    go zero h = absurd (omega arith)
+    go (suc n) h = record { refused = h .0; least = h .1 }

@@ -1,0 +1,137 @@
+-- What opening leaves: a header, fresh replicas, one block; so the form, whatever the memory held.
+use Prim.Native.Nat.{ℕ, zero, suc, _+_, _*_, _≤_, _<_}
+use mathlib.Core.Path.{_≡_, refl, sym, ap, _∙_}
+use mathlib.Core.Bool.{Bool, true, false, cond}
+use mathlib.Core.Logic.{_≢_}
+use mathlib.Core.List.{List, [], _∷_}
+use native.Mathlib.Omega.{arith}
+use lib.ListN.{length, getD, set, length-set}
+use lib.Seq.{getD-set-same, getD-set-other}
+use lib.Dec.{ltb, leb, eqb}
+use Rattle.protocol.specs.Memory.{
+  Memory,
+  Replica,
+  replicaCount,
+  faultBound,
+  certificateCount,
+  blockCount,
+  rowStart,
+  rowAt,
+  replicaWords,
+  tableLength,
+  replica,
+  blockAt,
+  parent,
+  live,
+  lowered,
+  update,
+}
+use Rattle.protocol.specs.Form.{isFaultBound, lengthsFit, countsFit, blockFormed, replicaFormed, certificateFormed}
+use Rattle.protocol.specs.Counter.{counterStep}
+use Rattle.protocol.specs.Calls.{freshReplica, freshReplicas, freshHeader}
+use Rattle.protocol.specs.Theorems.{SameLengths}
+use Rattle.protocol.proofs.Tests.{tests, by-test, each, all-hold}
+use Rattle.protocol.proofs.Changes.{changed, update-lengths, update-header, update-other, update-own}
+use Rattle.protocol.proofs.Formed.{Formed}
+use Rattle.protocol.proofs.Keeps.{lengths-same, counts-fit}
+
+-- A replica as opening leaves it.
+abbrev pub fresh : ℕ → Replica
+fresh limit =
+    record {
+      status = live;
+      boot = 0;
+      minView = 1;
+      viewLimit = limit;
+      flag = lowered;
+      storedView = 0;
+      storedBlock = 0;
+      decidedView = 0;
+      decidedBlock = 0;
+    }
+
+pub fresh-lengths : (m : Memory) (k : ℕ) → SameLengths (freshReplicas m k) m
+unfolding freshReplicas update
+fresh-lengths m zero = record { table = refl; log = refl; blocks = refl }
+fresh-lengths m (suc k) =
+    let s = fresh-lengths m k in
+    let u = update-lengths (freshReplicas m k) k (freshReplica m) in
+    record { table = u .table ∙ s .table; log = s .log; blocks = s .blocks }
+
+pub fresh-log : (m : Memory) (k : ℕ) → freshReplicas m k .log ≡ m .log
+unfolding freshReplicas update
+fresh-log m zero = refl
+fresh-log m (suc k) = fresh-log m k
+
+pub fresh-blocks : (m : Memory) (k : ℕ) → freshReplicas m k .blocks ≡ m .blocks
+unfolding freshReplicas update
+fresh-blocks m zero = refl
+fresh-blocks m (suc k) = fresh-blocks m k
+
+pub fresh-header : (m : Memory) (k j : ℕ) → j < rowStart → getD (freshReplicas m k .table) j 0 ≡ getD (m .table) j 0
+unfolding freshReplicas
+fresh-header m zero j h = refl
+fresh-header m (suc k) j h = update-header (freshReplicas m k) k (freshReplica m) refl j h ∙ fresh-header m k j h
+
+pub fresh-row : (m : Memory) (k i : ℕ) → i < k → rowAt k ≤ length (m .table) → replica (freshReplicas m k) i ≡ fresh (counterStep m 0)
+unfolding freshReplicas
+fresh-row m zero i h room = absurd (omega arith)
+fresh-row m (suc k) i h room =
+    let s = fresh-lengths m k in
+    by-test (eqb i k)
+    (λ e. let q : i ≡ k = omega tests in rw q (update-own (freshReplicas m k) k (freshReplica m) refl (omega arith)))
+    (λ e. update-other (freshReplicas m k) k (freshReplica m) refl i (omega tests) ∙ fresh-row m k i (omega tests) (omega arith))
+
+-- ---- the header
+
+header-lengths : (m : Memory) (f : ℕ) → SameLengths (freshHeader m f) m
+header-lengths m f = record { table = simp length-set; log = refl; blocks = simp length-set }
+
+-- What opening leaves, named: everything that the form and the later argument about lists of calls need to know of it.
+pub record Opened (m : Memory) (f : ℕ) (o : Memory) : Type 0 where
+  pub lengths : SameLengths o m
+  pub faults : faultBound o ≡ f
+  pub certificates : certificateCount o ≡ 0
+  pub blocks : blockCount o ≡ 1
+  pub root : parent o 0 ≡ 0
+  pub rows : (i : ℕ) → i < replicaCount f → replica o i ≡ fresh (counterStep m 0)
+
+pub opened : (m : Memory) (f : ℕ) → lengthsFit m f ≡ true → Opened m f (freshReplicas (freshHeader m f) (replicaCount f))
+unfolding lengthsFit counterStep
+opened m f fit =
+    let h = each _ fit in
+    let s = header-lengths m f in
+    let l = fresh-lengths (freshHeader m f) (replicaCount f) in
+    let head = fresh-header (freshHeader m f) (replicaCount f) in
+    record {
+      lengths = record { table = l .table ∙ s .table; log = l .log ∙ s .log; blocks = l .blocks ∙ s .blocks };
+      faults =
+          head 0 (omega arith)
+          ∙ getD-set-other (set (set (m .table) 0 f) 1 0) 2 0 1 0 (omega arith)
+          ∙ getD-set-other (set (m .table) 0 f) 1 0 0 0 (omega arith)
+          ∙ getD-set-same (m .table) 0 f 0 (omega tests);
+      certificates =
+          head 1 (omega arith)
+          ∙ getD-set-other (set (set (m .table) 0 f) 1 0) 2 1 1 0 (omega arith)
+          ∙ getD-set-same (set (m .table) 0 f) 1 0 0 (simp length-set (omega tests));
+      blocks = head 2 (omega arith) ∙ getD-set-same (set (set (m .table) 0 f) 1 0) 2 1 0 (simp length-set (omega tests));
+      root = rw (fresh-blocks (freshHeader m f) (replicaCount f)) (getD-set-same (m .blocks) 0 0 0 (omega tests));
+      rows = λ i own. fresh-row (freshHeader m f) (replicaCount f) i own (omega tests);
+    }
+
+pub opened-formed : (m : Memory) (f : ℕ) (o : Memory) → isFaultBound f ≡ true → lengthsFit m f ≡ true → Opened m f o → Formed o
+unfolding lengthsFit blockFormed replicaFormed counterStep
+opened-formed m f o low fit h =
+    let a = each _ fit in
+    let f′ = h .faults in
+    let c = h .certificates in
+    let b = h .blocks in
+    let s = h .lengths in
+    record {
+      faults = rw f′ low;
+      lengths = rw f′ (lengths-same o m f s ∙ fit);
+      counts = counts-fit o (omega tests) (omega tests) (omega tests);
+      parents = λ x l. let q : x ≡ 0 = omega arith in rw q (let r = h .root in omega tests);
+      rows = λ i l. ap (replicaFormed (blockCount o)) (h .rows i (omega arith)) ∙ all-hold _ (omega tests);
+      log = λ x l. absurd (omega arith);
+    }

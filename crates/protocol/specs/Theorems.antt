@@ -1,0 +1,166 @@
+-- What holds of the rules, for every call and any contents of the memory: demand 1 of the definitions, and the order of refusals.
+-- Each type here is a statement; proofs/ has a proof of it under the same name in lower case.
+use Prim.Native.Nat.{ℕ, zero, suc, _+_, _≤_, _<_}
+use mathlib.Core.Path.{_≡_}
+use mathlib.Core.Bool.{Bool, true, false}
+use mathlib.Core.List.{List, [], _∷_, _++_, map, List·Memᴰ}
+use lib.ListN.{length, getD}
+use Rattle.protocol.specs.declared.Call.{Call}
+use Rattle.protocol.specs.declared.Call.the-variants.{
+  Open,
+  Block,
+  Prepare,
+  Store,
+  View,
+  Accumulate,
+  Decide,
+  Reboot,
+  Reserve,
+  Request,
+  Reply,
+  Recover,
+}
+use Rattle.protocol.specs.Memory.{
+  Memory,
+  certificateCountAt,
+  blockCountAt,
+  certificateCount,
+  blockCount,
+  rowAt,
+  statusAt,
+  bootAt,
+  minViewAt,
+  viewLimitAt,
+  flagAt,
+  storedViewAt,
+  storedBlockAt,
+  decidedViewAt,
+  decidedBlockAt,
+  certificateWords,
+  certificateAt,
+  blockAt,
+}
+use Rattle.protocol.specs.Form.{wellFormed}
+use Rattle.protocol.specs.Outcome.{Outcome, Need, _else_, Rule}
+use Rattle.protocol.specs.Runs.{ruleOf, step}
+
+-- A call is accepted: its number is 0.
+abbrev pub Accepted : Outcome → Type 0
+Accepted o = o .answer .number ≡ 0
+
+-- ---- "a refused call leaves every word and returns its number and two zeros"
+
+pub record Unchanged (m : Memory) (o : Outcome) : Type 0 where
+  pub memory : o .memory ≡ m
+  pub first : o .answer .first ≡ 0
+  pub second : o .answer .second ≡ 0
+
+unfoldable pub RefusedChangesNothing : Type 0
+RefusedChangesNothing =
+    (m : Memory) (call : Call) (list : List ℕ) → (Accepted (step m call list) → ⊥) → Unchanged m (step m call list)
+
+-- ---- an accepted call "leaves well-formed memory", opening from any earlier contents too
+
+unfoldable pub AcceptedLeavesForm : Type 0
+AcceptedLeavesForm =
+    (m : Memory) (call : Call) (list : List ℕ) → Accepted (step m call list) → wellFormed (step m call list .memory) ≡ true
+
+-- ---- "an accepted call changes only the words named for it"
+
+-- A word of the memory: its slice and its index.
+pub data Place : Type 0 where
+  tableWord logWord blockWord : ℕ → Place
+
+unfoldable pub wordAt : Memory → Place → ℕ
+wordAt m (tableWord k) = getD (m .table) k 0
+wordAt m (logWord k) = getD (m .log) k 0
+wordAt m (blockWord k) = getD (m .blocks) k 0
+
+abbrev pub below : ℕ → List ℕ
+below zero = []
+below (suc k) = k ∷ below k
+
+abbrev pub replicaPlaces : ℕ → List ℕ → List Place
+replicaPlaces i offsets = map (λ k. tableWord (rowAt i + k)) offsets
+
+-- Where a new certificate goes: the count and the log's next place; where a new block goes.
+abbrev pub certificatePlaces : Memory → List Place
+certificatePlaces m =
+    tableWord certificateCountAt ∷ map (λ k. logWord (certificateAt (certificateCount m) + k)) (below certificateWords)
+
+abbrev pub blockPlaces : Memory → List Place
+blockPlaces m = tableWord blockCountAt ∷ blockWord (blockAt (blockCount m)) ∷ []
+
+-- The words named for each call.
+unfoldable pub named : Memory → Call → List Place
+named m (Open f) = blockWord (blockAt 0) ∷ map tableWord (below (length (m .table)))
+named m (Block p) = blockPlaces m
+named m (Prepare i b justification) = replicaPlaces i (flagAt ∷ []) ++ certificatePlaces m
+named m (Store i number) = replicaPlaces i (minViewAt ∷ flagAt ∷ storedViewAt ∷ storedBlockAt ∷ []) ++ certificatePlaces m
+named m (View i w) = replicaPlaces i (minViewAt ∷ flagAt ∷ []) ++ certificatePlaces m
+named m (Accumulate i) = certificatePlaces m
+named m (Decide i) = replicaPlaces i (decidedViewAt ∷ decidedBlockAt ∷ [])
+named m (Reboot i) =
+    replicaPlaces i (statusAt ∷ bootAt ∷ minViewAt ∷ viewLimitAt ∷ flagAt ∷ storedViewAt ∷ storedBlockAt ∷ [])
+named m (Reserve i) = replicaPlaces i (viewLimitAt ∷ [])
+named m (Request i) = certificatePlaces m
+named m (Reply i number) = replicaPlaces i (minViewAt ∷ flagAt ∷ []) ++ certificatePlaces m
+named m (Recover i) = replicaPlaces i (statusAt ∷ minViewAt ∷ storedViewAt ∷ storedBlockAt ∷ [])
+
+unfoldable pub OnlyNamedChange : Type 0
+OnlyNamedChange =
+    (m : Memory) (call : Call) (list : List ℕ) (p : Place) → (List·Memᴰ p (named m call) → ⊥)
+    → wordAt (step m call list .memory) p ≡ wordAt m p
+
+-- Lengths never change.
+pub record SameLengths (m m′ : Memory) : Type 0 where
+  pub table : length (m .table) ≡ length (m′ .table)
+  pub log : length (m .log) ≡ length (m′ .log)
+  pub blocks : length (m .blocks) ≡ length (m′ .blocks)
+
+unfoldable pub LengthsStay : Type 0
+LengthsStay = (m : Memory) (call : Call) (list : List ℕ) → SameLengths (step m call list .memory) m
+
+-- ---- "Words past the counts are neither read nor changed, except where a new item goes."
+
+-- Two memories that differ only in words past their counts.
+pub record Alike (m m′ : Memory) : Type 0 where
+  pub table : m .table ≡ m′ .table
+  pub logLength : length (m .log) ≡ length (m′ .log)
+  pub blocksLength : length (m .blocks) ≡ length (m′ .blocks)
+  pub log : (k : ℕ) → k < certificateAt (certificateCount m) → getD (m .log) k 0 ≡ getD (m′ .log) k 0
+  pub blocks : (k : ℕ) → k < blockAt (blockCount m) → getD (m .blocks) k 0 ≡ getD (m′ .blocks) k 0
+
+pub record SameAnswer (o o′ : Outcome) : Type 0 where
+  pub answer : o .answer ≡ o′ .answer
+  pub after : Alike (o .memory) (o′ .memory)
+
+unfoldable pub PastCountsUnread : Type 0
+PastCountsUnread =
+    (m m′ : Memory) (call : Call) (list : List ℕ) → Alike m m′ → SameAnswer (step m call list) (step m′ call list)
+
+-- ---- "The lowest number wins. Opening tests f before lengths."
+
+abbrev pub isOpening : Call → Bool
+isOpening (Open f) = true
+isOpening (Block p) = false
+isOpening (Prepare i b justification) = false
+isOpening (Store i number) = false
+isOpening (View i w) = false
+isOpening (Accumulate i) = false
+isOpening (Decide i) = false
+isOpening (Reboot i) = false
+isOpening (Reserve i) = false
+isOpening (Request i) = false
+isOpening (Reply i number) = false
+isOpening (Recover i) = false
+
+-- Of the needs that fail, none has a lower number than the one returned; and what is returned is not 0.
+pub record Lowest (o : Outcome) (number : ℕ) : Type 0 where
+  pub refused : 1 ≤ o .answer .number
+  pub least : o .answer .number ≤ number
+
+unfoldable pub LowestWins : Type 0
+LowestWins =
+    (m : Memory) (call : Call) (list : List ℕ) → isOpening call ≡ false → (number : ℕ)
+    → List·Memᴰ (false else number) (ruleOf m call list .needs) → Lowest (step m call list) number

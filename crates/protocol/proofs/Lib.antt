@@ -11,3 +11,4 @@ pub mod Keeps
 pub mod Lists
 pub mod Opened
 pub mod LeavesForm
+pub mod Frame

@@ -84,7 +84,7 @@ fresh-row m (suc k) i h room =
 
 -- ---- the header
 
-header-lengths : (m : Memory) (f : ℕ) → SameLengths (freshHeader m f) m
+pub header-lengths : (m : Memory) (f : ℕ) → SameLengths (freshHeader m f) m
 header-lengths m f = record { table = simp length-set; log = refl; blocks = simp length-set }
 
 -- What opening leaves, named: everything that the form and the later argument about lists of calls need to know of it.

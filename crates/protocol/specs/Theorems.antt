@@ -96,8 +96,8 @@ unfoldable pub named : Memory → Call → List Place
 named m (Open f) = blockWord (blockAt 0) ∷ map tableWord (below (length (m .table)))
 named m (Block p) = blockPlaces m
 named m (Prepare i b justification) = replicaPlaces i (flagAt ∷ []) ++ certificatePlaces m
-named m (Store i number) = replicaPlaces i (minViewAt ∷ flagAt ∷ storedViewAt ∷ storedBlockAt ∷ []) ++ certificatePlaces m
-named m (View i w) = replicaPlaces i (minViewAt ∷ flagAt ∷ []) ++ certificatePlaces m
+named m (Store i number) = replicaPlaces i (storedViewAt ∷ storedBlockAt ∷ minViewAt ∷ flagAt ∷ []) ++ certificatePlaces m
+named m (View i w) = replicaPlaces i (flagAt ∷ minViewAt ∷ []) ++ certificatePlaces m
 named m (Accumulate i) = certificatePlaces m
 named m (Decide i) = replicaPlaces i (decidedViewAt ∷ decidedBlockAt ∷ [])
 named m (Reboot i) =

@@ -1,0 +1,166 @@
+-- Only the words named for a call change, and lengths never do.
+use Prim.Native.Nat.{ℕ, zero, suc, _+_, _≤_, _<_}
+use mathlib.Core.Path.{_≡_, refl, sym, ap, _∙_}
+use mathlib.Core.Bool.{Bool, true, false, cond}
+use mathlib.Core.List.{List, [], _∷_, _++_, map, List·Memᴰ, List·Memᴰ·head, List·Memᴰ·tail}
+use native.Mathlib.Nat.{zero-add}
+use native.Mathlib.Omega.{arith}
+use lib.ListN.{length, getD, set, List·getD-eq-default}
+use lib.Seq.{getD-set-other}
+use lib.Dec.{ltb}
+use Rattle.protocol.specs.declared.Call.{Call}
+use Rattle.protocol.specs.declared.Call.the-variants.{
+  Open, Block, Prepare, Store, View, Accumulate, Decide, Reboot, Reserve, Request, Reply, Recover
+}
+use Rattle.protocol.specs.Memory.{
+  Memory, Certificate, Assignment, _becomes_, replicaCount, certificateCount, rowAt, certificateWords, certificateAt, certificate, words,
+  replica, update, appendCertificate, appendBlock
+}
+use Rattle.protocol.specs.Certificates.{file}
+use Rattle.protocol.specs.Quorum.{certificatesOf, firstOf}
+use Rattle.protocol.specs.Outcome.{Need, Rule}
+use Rattle.protocol.specs.Calls.{
+  issuing, freshReplicas, freshHeader, retires, opening, block, prepare, store, view, accumulate, decide, reboot, reserve, request, reply,
+  recover
+}
+use Rattle.protocol.specs.Runs.{ruleOf, step}
+use Rattle.protocol.specs.Theorems.{
+  Place, tableWord, logWord, blockWord, wordAt, below, certificatePlaces, blockPlaces, named, SameLengths, OnlyNamedChange, LengthsStay
+}
+use Rattle.protocol.proofs.Tests.{by-cond}
+use Rattle.protocol.proofs.Needs.{left-memory}
+use Rattle.protocol.proofs.Words.{Avoids, assign-elsewhere, sets-elsewhere}
+use Rattle.protocol.proofs.Changes.{update-lengths, append-lengths, append-table, block-lengths, block-table}
+use Rattle.protocol.proofs.Filing.{file-cases, file-lengths}
+use Rattle.protocol.proofs.Opened.{fresh-lengths, fresh-log, fresh-blocks, header-lengths}
+
+-- A place that is none of a list.
+abbrev Apart : Place → List Place → Type 0
+Apart p [] = Unit {0}
+Apart p (x ∷ xs) = (p ≡ x → ⊥) × Apart p xs
+
+apart : (p : Place) (xs : List Place) → (List·Memᴰ p xs → ⊥) → Apart p xs
+apart p [] h = tt
+apart p (x ∷ xs) h = (λ e. h (List·Memᴰ·head e), apart p xs (λ w. h (List·Memᴰ·tail w)))
+
+apart-both : (p : Place) (xs ys : List Place) → Apart p (xs ++ ys) → Apart p xs × Apart p ys
+apart-both p [] ys h = (tt, h)
+apart-both p (x ∷ xs) ys h = let both = apart-both p xs ys (h .1) in ((h .0, both .0), both .1)
+
+-- A place past a run of words from an index on.
+past-run : (word : ℕ → Place) (n at j : ℕ) → Apart (word j) (map (λ k. word (at + k)) (below n)) → at ≤ j → at + n ≤ j
+past-run word zero at j h le = omega arith
+past-run word (suc n) at j h le =
+    let more = past-run word n at j (h .1) le in
+    let other : j ≡ at + n → ⊥ = λ e. h .0 (ap word e) in
+    omega arith
+
+-- ---- the changes
+
+-- A place that no assignment to a replica names.
+abbrev AwayFrom : ℕ → Place → List Assignment → Type 0
+AwayFrom i p [] = Unit {0}
+AwayFrom i p ((o becomes v) ∷ rest) = (p ≡ tableWord (rowAt i + o) → ⊥) × AwayFrom i p rest
+
+avoids : (i j : ℕ) (cs : List Assignment) → AwayFrom i (tableWord j) cs → Avoids (rowAt i) cs j
+avoids i j [] h = tt
+avoids i j ((o becomes v) ∷ rest) h = (λ e. h .0 (ap tableWord e), avoids i j rest (h .1))
+
+update-frame : (m : Memory) (i : ℕ) (cs : List Assignment) (p : Place) → AwayFrom i p cs → wordAt (update m i cs) p ≡ wordAt m p
+unfolding wordAt update
+update-frame m i cs (tableWord j) h = assign-elsewhere cs (m .table) (rowAt i) j (avoids i j cs h)
+update-frame m i cs (logWord j) h = refl
+update-frame m i cs (blockWord j) h = refl
+
+append-frame : (m : Memory) (ws : List ℕ) → length ws ≡ certificateWords → (p : Place) → Apart p (certificatePlaces m) → wordAt (appendCertificate m ws) p ≡ wordAt m p
+unfolding wordAt appendCertificate
+append-frame m ws whole (tableWord j) h = append-table m ws whole j (λ e. h .0 (ap tableWord e))
+append-frame m ws whole (logWord j) h =
+    sets-elsewhere ws (m .log) (certificateAt (certificateCount m)) j
+    (λ le. let far = past-run logWord certificateWords (certificateAt (certificateCount m)) j (h .1) le in omega arith)
+append-frame m ws whole (blockWord j) h = refl
+
+issuing-frame : (m : Memory) (needs : List Need) (i : ℕ) (cs : List Assignment) (c : Certificate) (p : Place) → AwayFrom i p cs → Apart p (certificatePlaces m) → wordAt (issuing m needs i cs c .after) p ≡ wordAt m p
+unfolding issuing
+issuing-frame m needs i cs c p away new =
+    update-frame (file m (words c)) i cs p away
+    ∙ file-cases (λ x. wordAt x p ≡ wordAt m p) m (words c) (λ e. refl) (λ e. append-frame m (words c) refl p new)
+
+block-frame : (m : Memory) (b : ℕ) (p : Place) → Apart p (blockPlaces m) → wordAt (appendBlock m b) p ≡ wordAt m p
+unfolding wordAt appendBlock
+block-frame m b (tableWord j) h = block-table m b j (λ e. h .0 (ap tableWord e))
+block-frame m b (logWord j) h = refl
+block-frame m b (blockWord j) h = getD-set-other (m .blocks) _ j b 0 (λ e. h .1 .0 (ap blockWord e))
+
+opening-lengths : (m : Memory) (f : ℕ) → SameLengths (freshReplicas (freshHeader m f) (replicaCount f)) m
+opening-lengths m f =
+    let l = fresh-lengths (freshHeader m f) (replicaCount f) in
+    let s = header-lengths m f in
+    record { table = l .table ∙ s .table; log = l .log ∙ s .log; blocks = l .blocks ∙ s .blocks }
+
+opening-frame : (m : Memory) (f : ℕ) (p : Place) → Apart p (named m (Open f)) → wordAt (freshReplicas (freshHeader m f) (replicaCount f)) p ≡ wordAt m p
+unfolding wordAt named
+opening-frame m f (tableWord j) h =
+    let far = past-run tableWord (length (m .table)) 0 j (simp zero-add (h .1)) (omega arith) in
+    let s = opening-lengths m f in
+    List·getD-eq-default (freshReplicas (freshHeader m f) (replicaCount f) .table) 0 {n = j} (omega arith)
+    ∙ sym (List·getD-eq-default (m .table) 0 {n = j} (omega arith))
+opening-frame m f (logWord j) h = ap (λ (l : List ℕ). getD l j 0) (fresh-log (freshHeader m f) (replicaCount f))
+opening-frame m f (blockWord j) h =
+    ap (λ (l : List ℕ). getD l j 0) (fresh-blocks (freshHeader m f) (replicaCount f))
+    ∙ getD-set-other (m .blocks) _ j 0 0 (λ e. h .0 (ap blockWord e))
+
+-- ---- the calls
+
+frame : (m : Memory) (call : Call) (list : List ℕ) (p : Place) → Apart p (named m call) → wordAt (ruleOf m call list .after) p ≡ wordAt m p
+unfolding ruleOf named opening block prepare store view accumulate decide reboot reserve request reply recover
+frame m (Open f) list p h = opening-frame m f p h
+frame m (Block b) list p h = block-frame m b p h
+frame m (Prepare i b justification) list p h = issuing-frame m _ i _ _ p (h .0, tt) (h .1)
+frame m (Store i number) list p h = issuing-frame m _ i _ _ p (h .0, (h .1 .0, (h .1 .1 .0, (h .1 .1 .1 .0, tt)))) (h .1 .1 .1 .1)
+frame m (View i w) list p h = issuing-frame m _ i _ _ p (h .0, (h .1 .0, tt)) (h .1 .1)
+frame m (Accumulate i) list p h = issuing-frame m _ i _ _ p tt h
+frame m (Decide i) list p h =
+    update-frame m i _ p
+    (by-cond (AwayFrom i p) (ltb (replica m i .decidedView) (firstOf (certificatesOf m list) .view)) (λ e. h) (λ e. tt))
+frame m (Reboot i) list p h = update-frame m i _ p (by-cond (AwayFrom i p) (retires m i) (λ e. (h .0, tt)) (λ e. h))
+frame m (Reserve i) list p h = update-frame m i _ p h
+frame m (Request i) list p h = issuing-frame m _ i _ _ p tt h
+frame m (Reply i number) list p h =
+    issuing-frame m _ i _ _ p
+    (by-cond (AwayFrom i p) (ltb (replica m i .minView) (certificate m number .view)) (λ e. (h .0, (h .1 .0, tt))) (λ e. tt)) (h .1 .1)
+frame m (Recover i) list p h = update-frame m i _ p h
+
+pub only-named-change : OnlyNamedChange
+unfolding OnlyNamedChange step
+only-named-change m call list p h =
+    left-memory (λ x. wordAt x p ≡ wordAt m p) m (ruleOf m call list) refl
+    (λ e. frame m call list p (apart p (named m call) h))
+
+issuing-lengths : (m : Memory) (needs : List Need) (i : ℕ) (cs : List Assignment) (c : Certificate) → SameLengths (issuing m needs i cs c .after) m
+unfolding issuing
+issuing-lengths m needs i cs c =
+    let u = update-lengths (file m (words c)) i cs in
+    let f = file-lengths m (words c) refl in
+    record { table = u .table ∙ f .table; log = u .log ∙ f .log; blocks = u .blocks ∙ f .blocks }
+
+lengths-after : (m : Memory) (call : Call) (list : List ℕ) → SameLengths (ruleOf m call list .after) m
+unfolding ruleOf opening block prepare store view accumulate decide reboot reserve request reply recover
+lengths-after m (Open f) list = opening-lengths m f
+lengths-after m (Block b) list = block-lengths m b
+lengths-after m (Prepare i b justification) list = issuing-lengths m _ i _ _
+lengths-after m (Store i number) list = issuing-lengths m _ i _ _
+lengths-after m (View i w) list = issuing-lengths m _ i _ _
+lengths-after m (Accumulate i) list = issuing-lengths m _ i _ _
+lengths-after m (Decide i) list = update-lengths m i _
+lengths-after m (Reboot i) list = update-lengths m i _
+lengths-after m (Reserve i) list = update-lengths m i _
+lengths-after m (Request i) list = issuing-lengths m _ i _ _
+lengths-after m (Reply i number) list = issuing-lengths m _ i _ _
+lengths-after m (Recover i) list = update-lengths m i _
+
+pub lengths-stay : LengthsStay
+unfolding LengthsStay step
+lengths-stay m call list =
+    left-memory (λ x. SameLengths x m) m (ruleOf m call list) (record { table = refl; log = refl; blocks = refl })
+    (λ e. lengths-after m call list)

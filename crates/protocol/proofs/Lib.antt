@@ -12,3 +12,5 @@ pub mod Lists
 pub mod Opened
 pub mod LeavesForm
 pub mod Frame
+pub mod Alike
+pub mod Unread

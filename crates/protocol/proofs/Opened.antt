@@ -87,12 +87,31 @@ fresh-row m (suc k) i h room =
 pub header-lengths : (m : Memory) (f : ℕ) → SameLengths (freshHeader m f) m
 header-lengths m f = record { table = simp length-set; log = refl; blocks = simp length-set }
 
+pub record Header (m : Memory) (f : ℕ) : Type 0 where
+  pub faults : faultBound m ≡ f
+  pub certificates : certificateCount m ≡ 0
+  pub blocks : blockCount m ≡ 1
+
+pub header : (m : Memory) (f : ℕ) → lengthsFit m f ≡ true → Header (freshHeader m f) f
+unfolding lengthsFit
+header m f fit =
+    let h = each _ fit in
+    let t = m .table in
+    record {
+      faults =
+          getD-set-other (set (set t 0 f) 1 0) 2 0 1 0 (omega arith)
+          ∙ getD-set-other (set t 0 f) 1 0 0 0 (omega arith)
+          ∙ getD-set-same t 0 f 0 (omega tests);
+      certificates =
+          getD-set-other (set (set t 0 f) 1 0) 2 1 1 0 (omega arith)
+          ∙ getD-set-same (set t 0 f) 1 0 0 (simp length-set (omega tests));
+      blocks = getD-set-same (set (set t 0 f) 1 0) 2 1 0 (simp length-set (omega tests));
+    }
+
 -- What opening leaves, named: everything that the form and the later argument about lists of calls need to know of it.
 pub record Opened (m : Memory) (f : ℕ) (o : Memory) : Type 0 where
   pub lengths : SameLengths o m
-  pub faults : faultBound o ≡ f
-  pub certificates : certificateCount o ≡ 0
-  pub blocks : blockCount o ≡ 1
+  pub header : Header o f
   pub root : parent o 0 ≡ 0
   pub rows : (i : ℕ) → i < replicaCount f → replica o i ≡ fresh (counterStep m 0)
 
@@ -102,19 +121,16 @@ opened m f fit =
     let h = each _ fit in
     let s = header-lengths m f in
     let l = fresh-lengths (freshHeader m f) (replicaCount f) in
-    let head = fresh-header (freshHeader m f) (replicaCount f) in
+    let head = header m f fit in
+    let same = fresh-header (freshHeader m f) (replicaCount f) in
     record {
       lengths = record { table = l .table ∙ s .table; log = l .log ∙ s .log; blocks = l .blocks ∙ s .blocks };
-      faults =
-          head 0 (omega arith)
-          ∙ getD-set-other (set (set (m .table) 0 f) 1 0) 2 0 1 0 (omega arith)
-          ∙ getD-set-other (set (m .table) 0 f) 1 0 0 0 (omega arith)
-          ∙ getD-set-same (m .table) 0 f 0 (omega tests);
-      certificates =
-          head 1 (omega arith)
-          ∙ getD-set-other (set (set (m .table) 0 f) 1 0) 2 1 1 0 (omega arith)
-          ∙ getD-set-same (set (m .table) 0 f) 1 0 0 (simp length-set (omega tests));
-      blocks = head 2 (omega arith) ∙ getD-set-same (set (set (m .table) 0 f) 1 0) 2 1 0 (simp length-set (omega tests));
+      header =
+          record {
+            faults = same 0 (omega arith) ∙ head .faults;
+            certificates = same 1 (omega arith) ∙ head .certificates;
+            blocks = same 2 (omega arith) ∙ head .blocks;
+          };
       root = rw (fresh-blocks (freshHeader m f) (replicaCount f)) (getD-set-same (m .blocks) 0 0 0 (omega tests));
       rows = λ i own. fresh-row (freshHeader m f) (replicaCount f) i own (omega tests);
     }
@@ -123,13 +139,11 @@ pub opened-formed : (m : Memory) (f : ℕ) (o : Memory) → isFaultBound f ≡ t
 unfolding lengthsFit blockFormed replicaFormed counterStep
 opened-formed m f o low fit h =
     let a = each _ fit in
-    let f′ = h .faults in
-    let c = h .certificates in
-    let b = h .blocks in
+    let head = h .header in
     let s = h .lengths in
     record {
-      faults = rw f′ low;
-      lengths = rw f′ (lengths-same o m f s ∙ fit);
+      faults = rw (head .faults) low;
+      lengths = rw (head .faults) (lengths-same o m f s ∙ fit);
       counts = counts-fit o (omega tests) (omega tests) (omega tests);
       parents = λ x l. let q : x ≡ 0 = omega arith in rw q (let r = h .root in omega tests);
       rows = λ i l. ap (replicaFormed (blockCount o)) (h .rows i (omega arith)) ∙ all-hold _ (omega tests);

@@ -1,0 +1,134 @@
+-- Two memories that differ only in words past their counts: what is read of them is the same, and what a change leaves differs so again.
+use Prim.Native.Nat.{ℕ, zero, suc, _+_, _*_, _≤_, _<_}
+use mathlib.Core.Path.{_≡_, refl, sym, ap, _∙_, subst}
+use mathlib.Core.Bool.{Bool, true, false, cond, _&&_, _||_}
+use mathlib.Core.Logic.{_≢_}
+use mathlib.Core.List.{List, [], _∷_, map}
+use native.Mathlib.Omega.{arith}
+use lib.ListN.{length, getD, set, length-set}
+use lib.Seq.{sets, length-sets}
+use lib.Dec.{ltb, leb, eqb}
+use Rattle.protocol.specs.Memory.{
+  Memory, Certificate, Assignment, replicaCount, faultBound, certificateCount, blockCount, rowAt, replica, certificateWords, certificateAt,
+  certificateWord, certificate, words, blockAt, parent, assign, update, appendCertificate, appendBlock
+}
+use Rattle.protocol.specs.Form.{allHold, allBelow, isFaultBound, lengthsFit, countsFit, blockFormed, replicaFormed, certificateFormed, wellFormed}
+use Rattle.protocol.specs.Certificates.{firstBelow, hasWords, numberFor, isFiled, canFile, file}
+use Rattle.protocol.specs.Quorum.{every, isIssued, allIssued, certificatesOf}
+use Rattle.protocol.specs.Calls.{isBlock}
+use Rattle.protocol.specs.Theorems.{SameLengths, Alike}
+use Rattle.protocol.proofs.Tests.{tests, by-test, and-true, same-below}
+use Rattle.protocol.proofs.Words.{withinRow, set-alike, sets-alike}
+use Rattle.protocol.proofs.Changes.{certificate-same, update-lengths, update-header, append-lengths, append-table, append-count, block-lengths, block-table, block-count}
+use Rattle.protocol.proofs.Formed.{Formed, sizes}
+use Rattle.protocol.proofs.Keeps.{lengths-same}
+
+-- A memory with the same table and another log and other blocks.
+abbrev pub twin : Memory → List ℕ → List ℕ → Memory
+twin m l b = record { table = m .table; log = l; blocks = b }
+
+pub same-first : (k : ℕ) (s t : ℕ → Bool) → ((i : ℕ) → i < k → s i ≡ t i) → firstBelow k s ≡ firstBelow k t
+unfolding firstBelow
+same-first zero s t h = refl
+same-first (suc k) s t h = rw (same-first k s t (λ i l. h i (omega arith)), h k (omega arith)) refl
+
+module _ (m : Memory) (l b : List ℕ) (a : Alike m (twin m l b)) where
+  pub lengths-alike : SameLengths m (twin m l b)
+  lengths-alike = record { table = refl; log = a .logLength; blocks = a .blocksLength }
+
+  pub word-same : (c k : ℕ) → isIssued m c ≡ true → ltb k certificateWords ≡ true → certificateWord m c k ≡ certificateWord (twin m l b) c k
+  word-same c k h j = a .log (certificateAt c + k) (omega tests)
+
+  pub parent-same : (x : ℕ) → isBlock m x ≡ true → parent m x ≡ parent (twin m l b) x
+  parent-same x h = a .blocks (blockAt x) (omega tests)
+
+  pub named-same : (list : List ℕ) → allIssued m list ≡ true → certificatesOf m list ≡ certificatesOf (twin m l b) list
+  unfolding every
+  named-same [] e = refl
+  named-same (x ∷ xs) e =
+      let both = and-true (isIssued m x) (allIssued m xs) e in
+      let here = certificate-same m (twin m l b) x (λ k j. word-same x k (omega tests) (omega tests)) in
+      λ d. here d ∷ named-same xs (both .1) d
+
+  pub form-same : wellFormed m ≡ wellFormed (twin m l b)
+  unfolding wellFormed countsFit
+  form-same =
+      let fit = lengths-same m (twin m l b) (faultBound m) lengths-alike in
+      let parents =
+          same-below (blockCount m) (λ x. blockFormed x (parent m x)) (λ x. blockFormed x (parent (twin m l b) x))
+          (λ x h. ap (blockFormed x) (parent-same x (omega tests))) in
+      let log =
+          same-below (certificateCount m) (λ c. certificateFormed (replicaCount (faultBound m)) (blockCount m) (certificate m c))
+          (λ c. certificateFormed (replicaCount (faultBound m)) (blockCount m) (certificate (twin m l b) c))
+          (λ c h. ap (certificateFormed _ _) (certificate-same m (twin m l b) c (λ k j. word-same c k (omega tests) (omega tests)))) in
+      rw (fit, a .logLength, a .blocksLength, parents, log) refl
+
+  pub number-same : (ws : List ℕ) → numberFor m ws ≡ numberFor (twin m l b) ws
+  unfolding numberFor hasWords
+  number-same ws =
+      same-first (certificateCount m) _ _
+      (λ c h. same-below certificateWords _ _ (λ k j. ap (λ (x : ℕ). eqb x (getD ws k 0)) (word-same c k (omega tests) (omega tests))))
+
+  pub filed-same : (ws : List ℕ) → isFiled m ws ≡ isFiled (twin m l b) ws
+  unfolding isFiled
+  filed-same ws = rw number-same refl
+
+  pub can-same : (ws : List ℕ) → canFile m ws ≡ canFile (twin m l b) ws
+  unfolding canFile
+  can-same ws = rw (filed-same, a .logLength) refl
+
+  pub append-alike : (ws : List ℕ) → length ws ≡ certificateWords → Formed m → Alike (appendCertificate m ws) (appendCertificate (twin m l b) ws)
+  unfolding appendCertificate
+  append-alike ws whole formed =
+      let z = sizes m formed in
+      let more = append-count m ws whole (omega arith) in
+      let same : blockCount (appendCertificate m ws) ≡ blockCount m = append-table m ws whole 2 (omega arith) in
+      let at = certificateAt (certificateCount m) in
+      record {
+        table = refl;
+        logLength = length-sets (m .log) at ws ∙ a .logLength ∙ sym (length-sets l at ws);
+        blocksLength = a .blocksLength;
+        log =
+            λ k h.
+              sets-alike ws (m .log) l at k (a .logLength)
+              (λ far.
+                by-test (ltb k at) (λ e. a .log k (omega tests))
+                (λ e. let beyond = far (omega tests) in absurd (omega arith)));
+        blocks = λ k h. a .blocks k (omega arith);
+      }
+
+  pub file-alike : (ws : List ℕ) → length ws ≡ certificateWords → Formed m → Alike (file m ws) (file (twin m l b) ws)
+  unfolding file
+  file-alike ws whole formed = rw (← filed-same ws) (go (isFiled m ws))
+    where
+      go : (t : Bool) → Alike (cond t m (appendCertificate m ws)) (cond t (twin m l b) (appendCertificate (twin m l b) ws))
+      go true = a
+      go false = append-alike ws whole formed
+
+  pub block-alike : (p : ℕ) → Formed m → Alike (appendBlock m p) (appendBlock (twin m l b) p)
+  unfolding appendBlock
+  block-alike p formed =
+      let z = sizes m formed in
+      let more = block-count m p (omega arith) in
+      let same : certificateCount (appendBlock m p) ≡ certificateCount m = block-table m p 1 (omega arith) in
+      let at = blockAt (blockCount m) in
+      record {
+        table = refl;
+        logLength = a .logLength;
+        blocksLength = length-set (m .blocks) at p ∙ a .blocksLength ∙ sym (length-set b at p);
+        log = λ k h. a .log k (omega arith);
+        blocks = λ k h. set-alike (m .blocks) b at p k (a .blocksLength) (λ q. a .blocks k (omega arith));
+      }
+
+pub update-alike : (m m′ : Memory) (i : ℕ) (cs : List Assignment) → withinRow cs ≡ true → Alike m m′ → Alike (update m i cs) (update m′ i cs)
+unfolding update
+update-alike m m′ i cs within a =
+    let c : certificateCount (update m i cs) ≡ certificateCount m = update-header m i cs within 1 (omega arith) in
+    let b : blockCount (update m i cs) ≡ blockCount m = update-header m i cs within 2 (omega arith) in
+    record {
+      table = ap (λ (t : List ℕ). assign t (rowAt i) cs) (a .table);
+      logLength = a .logLength;
+      blocksLength = a .blocksLength;
+      log = λ k h. a .log k (omega arith);
+      blocks = λ k h. a .blocks k (omega arith);
+    }

@@ -1,25 +1,40 @@
 -- Two memories that differ only in words past their counts: what is read of them is the same, and what a change leaves differs so again.
-use Prim.Native.Nat.{ℕ, zero, suc, _+_, _*_, _≤_, _<_}
-use mathlib.Core.Path.{_≡_, refl, sym, ap, _∙_, subst}
-use mathlib.Core.Bool.{Bool, true, false, cond, _&&_, _||_}
-use mathlib.Core.Logic.{_≢_}
-use mathlib.Core.List.{List, [], _∷_, map}
+use Prim.Native.Nat.{ℕ, zero, suc, _+_, _<_}
+use mathlib.Core.Path.{_≡_, refl, sym, ap, _∙_}
+use mathlib.Core.Bool.{Bool, true, false, cond}
+use mathlib.Core.List.{List, [], _∷_}
 use native.Mathlib.Omega.{arith}
-use lib.ListN.{length, getD, set, length-set}
-use lib.Seq.{sets, length-sets}
-use lib.Dec.{ltb, leb, eqb}
+use lib.ListN.{length, getD, length-set}
+use lib.Seq.{length-sets}
+use lib.Dec.{ltb, eqb}
 use Rattle.protocol.specs.Memory.{
-  Memory, Certificate, Assignment, replicaCount, faultBound, certificateCount, blockCount, rowAt, replica, certificateWords, certificateAt,
-  certificateWord, certificate, words, blockAt, parent, assign, update, appendCertificate, appendBlock
+  Memory,
+  Assignment,
+  replicaCount,
+  faultBound,
+  certificateCount,
+  blockCount,
+  rowAt,
+  certificateWords,
+  certificateAt,
+  certificateWord,
+  certificate,
+  words,
+  blockAt,
+  parent,
+  assign,
+  update,
+  appendCertificate,
+  appendBlock,
 }
-use Rattle.protocol.specs.Form.{allHold, allBelow, isFaultBound, lengthsFit, countsFit, blockFormed, replicaFormed, certificateFormed, wellFormed}
+use Rattle.protocol.specs.Form.{countsFit, blockFormed, certificateFormed, wellFormed}
 use Rattle.protocol.specs.Certificates.{firstBelow, hasWords, numberFor, isFiled, canFile, file}
 use Rattle.protocol.specs.Quorum.{every, isIssued, allIssued, certificatesOf}
 use Rattle.protocol.specs.Calls.{isBlock}
 use Rattle.protocol.specs.Theorems.{SameLengths, Alike}
 use Rattle.protocol.proofs.Tests.{tests, by-test, and-true, same-below}
 use Rattle.protocol.proofs.Words.{withinRow, set-alike, sets-alike}
-use Rattle.protocol.proofs.Changes.{certificate-same, update-lengths, update-header, append-lengths, append-table, append-count, block-lengths, block-table, block-count}
+use Rattle.protocol.proofs.Changes.{certificate-same, update-header, append-table, append-count, block-table, block-count}
 use Rattle.protocol.proofs.Formed.{Formed, sizes}
 use Rattle.protocol.proofs.Keeps.{lengths-same}
 
@@ -36,7 +51,8 @@ module _ (m : Memory) (l b : List ℕ) (a : Alike m (twin m l b)) where
   pub lengths-alike : SameLengths m (twin m l b)
   lengths-alike = record { table = refl; log = a .logLength; blocks = a .blocksLength }
 
-  pub word-same : (c k : ℕ) → isIssued m c ≡ true → ltb k certificateWords ≡ true → certificateWord m c k ≡ certificateWord (twin m l b) c k
+  pub word-same : (c k : ℕ) → isIssued m c ≡ true → ltb k certificateWords ≡ true
+      → certificateWord m c k ≡ certificateWord (twin m l b) c k
   word-same c k h j = a .log (certificateAt c + k) (omega tests)
 
   pub parent-same : (x : ℕ) → isBlock m x ≡ true → parent m x ≡ parent (twin m l b) x
@@ -55,12 +71,12 @@ module _ (m : Memory) (l b : List ℕ) (a : Alike m (twin m l b)) where
   form-same =
       let fit = lengths-same m (twin m l b) (faultBound m) lengths-alike in
       let parents =
-          same-below (blockCount m) (λ x. blockFormed x (parent m x)) (λ x. blockFormed x (parent (twin m l b) x))
-          (λ x h. ap (blockFormed x) (parent-same x (omega tests))) in
+      same-below (blockCount m) (λ x. blockFormed x (parent m x)) (λ x. blockFormed x (parent (twin m l b) x))
+      (λ x h. ap (blockFormed x) (parent-same x (omega tests))) in
       let log =
-          same-below (certificateCount m) (λ c. certificateFormed (replicaCount (faultBound m)) (blockCount m) (certificate m c))
-          (λ c. certificateFormed (replicaCount (faultBound m)) (blockCount m) (certificate (twin m l b) c))
-          (λ c h. ap (certificateFormed _ _) (certificate-same m (twin m l b) c (λ k j. word-same c k (omega tests) (omega tests)))) in
+      same-below (certificateCount m) (λ c. certificateFormed (replicaCount (faultBound m)) (blockCount m) (certificate m c))
+      (λ c. certificateFormed (replicaCount (faultBound m)) (blockCount m) (certificate (twin m l b) c))
+      (λ c h. ap (certificateFormed _ _) (certificate-same m (twin m l b) c (λ k j. word-same c k (omega tests) (omega tests)))) in
       rw (fit, a .logLength, a .blocksLength, parents, log) refl
 
   pub number-same : (ws : List ℕ) → numberFor m ws ≡ numberFor (twin m l b) ws
@@ -77,7 +93,8 @@ module _ (m : Memory) (l b : List ℕ) (a : Alike m (twin m l b)) where
   unfolding canFile
   can-same ws = rw (filed-same, a .logLength) refl
 
-  pub append-alike : (ws : List ℕ) → length ws ≡ certificateWords → Formed m → Alike (appendCertificate m ws) (appendCertificate (twin m l b) ws)
+  pub append-alike : (ws : List ℕ) → length ws ≡ certificateWords → Formed m
+      → Alike (appendCertificate m ws) (appendCertificate (twin m l b) ws)
   unfolding appendCertificate
   append-alike ws whole formed =
       let z = sizes m formed in
@@ -90,10 +107,10 @@ module _ (m : Memory) (l b : List ℕ) (a : Alike m (twin m l b)) where
         blocksLength = a .blocksLength;
         log =
             λ k h.
-              sets-alike ws (m .log) l at k (a .logLength)
-              (λ far.
-                by-test (ltb k at) (λ e. a .log k (omega tests))
-                (λ e. let beyond = far (omega tests) in absurd (omega arith)));
+            sets-alike ws (m .log) l at k (a .logLength)
+            (λ far.
+            by-test (ltb k at) (λ e. a .log k (omega tests))
+            (λ e. let beyond = far (omega tests) in absurd (omega arith)));
         blocks = λ k h. a .blocks k (omega arith);
       }
 
@@ -120,7 +137,8 @@ module _ (m : Memory) (l b : List ℕ) (a : Alike m (twin m l b)) where
         blocks = λ k h. set-alike (m .blocks) b at p k (a .blocksLength) (λ q. a .blocks k (omega arith));
       }
 
-pub update-alike : (m m′ : Memory) (i : ℕ) (cs : List Assignment) → withinRow cs ≡ true → Alike m m′ → Alike (update m i cs) (update m′ i cs)
+pub update-alike : (m m′ : Memory) (i : ℕ) (cs : List Assignment) → withinRow cs ≡ true → Alike m m′
+    → Alike (update m i cs) (update m′ i cs)
 unfolding update
 update-alike m m′ i cs within a =
     let c : certificateCount (update m i cs) ≡ certificateCount m = update-header m i cs within 1 (omega arith) in

@@ -1,18 +1,17 @@
 -- Reading the memory after each of the three changes: words of a replica, a certificate more, a block more.
-use Prim.Native.Nat.{ℕ, zero, suc, _+_, _*_, _≤_, _<_}
-use mathlib.Core.Path.{_≡_, refl, sym, ap, _∙_}
-use mathlib.Core.Bool.{Bool, true, false, cond}
+use Prim.Native.Nat.{ℕ, _+_, _≤_, _<_}
+use mathlib.Core.Path.{_≡_, refl}
+use mathlib.Core.Bool.{true}
 use mathlib.Core.Logic.{_≢_}
-use mathlib.Core.List.{List, [], _∷_}
+use mathlib.Core.List.{List}
 use native.Mathlib.Omega.{arith}
-use lib.ListN.{length, getD, set, length-set}
-use lib.Seq.{sets, getD-set-same, getD-set-other, length-sets}
+use lib.ListN.{length, getD, length-set}
+use lib.Seq.{getD-set-same, getD-set-other, length-sets}
 use Rattle.protocol.specs.Memory.{
   Memory,
   Replica,
   Certificate,
   Assignment,
-  _becomes_,
   certificateCountAt,
   blockCountAt,
   certificateCount,
@@ -29,13 +28,11 @@ use Rattle.protocol.specs.Memory.{
   words,
   blockAt,
   parent,
-  assign,
   update,
   appendCertificate,
   appendBlock,
 }
 use Rattle.protocol.specs.Theorems.{SameLengths}
-use Rattle.protocol.proofs.Tests.{tests}
 use Rattle.protocol.proofs.Words.{
   assigned,
   withinRow,
@@ -48,7 +45,8 @@ use Rattle.protocol.proofs.Words.{
 }
 
 -- A replica or a certificate is as before where its words are.
-pub replica-same : (m m′ : Memory) (i : ℕ) → ((k : ℕ) → k < replicaWords → replicaWord m i k ≡ replicaWord m′ i k) → replica m i ≡ replica m′ i
+pub replica-same : (m m′ : Memory) (i : ℕ) → ((k : ℕ) → k < replicaWords → replicaWord m i k ≡ replicaWord m′ i k)
+    → replica m i ≡ replica m′ i
 replica-same m m′ i h =
     λ d.
     record {
@@ -63,7 +61,8 @@ replica-same m m′ i h =
       decidedBlock = h 8 (omega arith) d;
     }
 
-pub certificate-same : (m m′ : Memory) (c : ℕ) → ((k : ℕ) → k < certificateWords → certificateWord m c k ≡ certificateWord m′ c k) → certificate m c ≡ certificate m′ c
+pub certificate-same : (m m′ : Memory) (c : ℕ) → ((k : ℕ) → k < certificateWords → certificateWord m c k ≡ certificateWord m′ c k)
+    → certificate m c ≡ certificate m′ c
 certificate-same m m′ c h =
     λ d.
     record {
@@ -169,7 +168,8 @@ module _ (m : Memory) (ws : List ℕ) (whole : length ws ≡ certificateWords) w
       certificate-same (appendCertificate m ws) m c
       (λ k l. sets-elsewhere ws (m .log) (certificateAt (certificateCount m)) (certificateAt c + k) (λ le. omega arith))
 
-  pub append-new : certificateAt (certificateCount m) + certificateWords ≤ length (m .log) → certificate (appendCertificate m ws) (certificateCount m) ≡ certificateFrom ws
+  pub append-new : certificateAt (certificateCount m) + certificateWords ≤ length (m .log)
+      → certificate (appendCertificate m ws) (certificateCount m) ≡ certificateFrom ws
   unfolding appendCertificate
   append-new room =
       λ d.

@@ -1,28 +1,17 @@
 -- Filing a certificate: whatever holds of the memory as it is and with the certificate appended holds of the memory filed.
-use Prim.Native.Nat.{ℕ, zero, suc, _+_, _≤_, _<_}
-use mathlib.Core.Path.{_≡_, refl, sym, ap, _∙_}
-use mathlib.Core.Bool.{Bool, true, false, cond, _||_}
+use Prim.Native.Nat.{ℕ}
+use mathlib.Core.Path.{_≡_, refl}
+use mathlib.Core.Bool.{Bool, true, false, cond}
 use mathlib.Core.Logic.{_≢_}
-use mathlib.Core.List.{List, [], _∷_}
-use native.Mathlib.Omega.{arith}
+use mathlib.Core.List.{List}
 use lib.ListN.{length, getD}
-use Rattle.protocol.specs.Memory.{
-  Memory,
-  Replica,
-  Certificate,
-  faultBound,
-  certificateCountAt,
-  certificateCount,
-  blockCount,
-  replica,
-  certificateWords,
-  appendCertificate,
-}
+use Rattle.protocol.specs.Memory.{Memory, certificateCountAt, replica, certificateWords, appendCertificate}
 use Rattle.protocol.specs.Certificates.{isFiled, canFile, file, logHasRoom}
 use Rattle.protocol.specs.Theorems.{SameLengths}
 use Rattle.protocol.proofs.Changes.{append-lengths, append-table, append-replica}
 
-pub file-cases : (P : Memory → Type 0) (m : Memory) (ws : List ℕ) → (isFiled m ws ≡ true → P m) → (isFiled m ws ≡ false → P (appendCertificate m ws)) → P (file m ws)
+pub file-cases : (P : Memory → Type 0) (m : Memory) (ws : List ℕ) → (isFiled m ws ≡ true → P m)
+    → (isFiled m ws ≡ false → P (appendCertificate m ws)) → P (file m ws)
 unfolding file
 file-cases P m ws old new = go (isFiled m ws) refl
   where

@@ -1,43 +1,24 @@
 -- The form, both ways: what it tells, and what shows it. Then the three changes that keep it: words of a replica, a certificate, a block.
-use Prim.Native.Nat.{ℕ, zero, suc, _+_, _*_, _≤_, _<_, _%_}
-use mathlib.Core.Path.{_≡_, refl, sym, ap, _∙_, subst}
-use mathlib.Core.Bool.{Bool, true, false, cond, _&&_}
-use mathlib.Core.Logic.{_≢_}
-use mathlib.Core.List.{List, [], _∷_}
-use native.Mathlib.Omega.{arith}
-use lib.ListN.{length, getD, set, length-set}
-use lib.Seq.{sets, getD-set-same, getD-set-other, length-sets}
-use lib.Dec.{ltb, leb, eqb}
+use Prim.Native.Nat.{ℕ, _≤_, _<_, _%_}
+use mathlib.Core.Path.{_≡_}
+use mathlib.Core.Bool.{true}
+use lib.ListN.{length}
 use Rattle.protocol.specs.Memory.{
   Memory,
-  Replica,
-  Certificate,
-  Assignment,
-  _becomes_,
   replicaCount,
   faultBound,
   certificateCount,
   blockCount,
-  rowAt,
-  replicaWords,
   tableLength,
-  replicaWord,
   replica,
   certificateWords,
   certificateAt,
-  certificateWord,
   certificate,
   words,
   blockAt,
   parent,
-  assign,
-  update,
-  appendCertificate,
-  appendBlock,
 }
 use Rattle.protocol.specs.Form.{
-  allHold,
-  allBelow,
   isFaultBound,
   lengthsFit,
   countsFit,
@@ -46,8 +27,7 @@ use Rattle.protocol.specs.Form.{
   certificateFormed,
   wellFormed,
 }
-use Rattle.protocol.proofs.Tests.{tests, by-test, each, all-hold, at-below, all-below}
-use Rattle.protocol.proofs.Words.{assigned, withinRow, avoids-row, length-assign, assign-elsewhere, assign-at, sets-elsewhere, sets-at}
+use Rattle.protocol.proofs.Tests.{tests, each, all-hold, at-below, all-below}
 
 pub record Formed (m : Memory) : Type 0 where
   pub faults : isFaultBound (faultBound m) ≡ true
@@ -55,7 +35,8 @@ pub record Formed (m : Memory) : Type 0 where
   pub counts : countsFit m ≡ true
   pub parents : (b : ℕ) → b < blockCount m → blockFormed b (parent m b) ≡ true
   pub rows : (i : ℕ) → i < replicaCount (faultBound m) → replicaFormed (blockCount m) (replica m i) ≡ true
-  pub log : (c : ℕ) → c < certificateCount m → certificateFormed (replicaCount (faultBound m)) (blockCount m) (certificate m c) ≡ true
+  pub log : (c : ℕ) → c < certificateCount m
+      → certificateFormed (replicaCount (faultBound m)) (blockCount m) (certificate m c) ≡ true
 
 pub formed : (m : Memory) → wellFormed m ≡ true → Formed m
 unfolding wellFormed

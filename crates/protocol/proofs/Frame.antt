@@ -1,36 +1,84 @@
 -- Only the words named for a call change, and lengths never do.
-use Prim.Native.Nat.{ℕ, zero, suc, _+_, _≤_, _<_}
+use Prim.Native.Nat.{ℕ, zero, suc, _+_, _≤_}
 use mathlib.Core.Path.{_≡_, refl, sym, ap, _∙_}
-use mathlib.Core.Bool.{Bool, true, false, cond}
 use mathlib.Core.List.{List, [], _∷_, _++_, map, List·Memᴰ, List·Memᴰ·head, List·Memᴰ·tail}
 use native.Mathlib.Nat.{zero-add}
 use native.Mathlib.Omega.{arith}
-use lib.ListN.{length, getD, set, List·getD-eq-default}
+use lib.ListN.{length, getD, List·getD-eq-default}
 use lib.Seq.{getD-set-other}
 use lib.Dec.{ltb}
 use Rattle.protocol.specs.declared.Call.{Call}
 use Rattle.protocol.specs.declared.Call.the-variants.{
-  Open, Block, Prepare, Store, View, Accumulate, Decide, Reboot, Reserve, Request, Reply, Recover
+  Open,
+  Block,
+  Prepare,
+  Store,
+  View,
+  Accumulate,
+  Decide,
+  Reboot,
+  Reserve,
+  Request,
+  Reply,
+  Recover,
 }
 use Rattle.protocol.specs.Memory.{
-  Memory, Certificate, Assignment, _becomes_, replicaCount, certificateCount, rowAt, certificateWords, certificateAt, certificate, words,
-  replica, update, appendCertificate, appendBlock
+  Memory,
+  Certificate,
+  Assignment,
+  _becomes_,
+  replicaCount,
+  certificateCount,
+  rowAt,
+  certificateWords,
+  certificateAt,
+  certificate,
+  words,
+  replica,
+  update,
+  appendCertificate,
+  appendBlock,
 }
 use Rattle.protocol.specs.Certificates.{file}
 use Rattle.protocol.specs.Quorum.{certificatesOf, firstOf}
-use Rattle.protocol.specs.Outcome.{Need, Rule}
+use Rattle.protocol.specs.Outcome.{Need}
 use Rattle.protocol.specs.Calls.{
-  issuing, freshReplicas, freshHeader, retires, opening, block, prepare, store, view, accumulate, decide, reboot, reserve, request, reply,
-  recover
+  issuing,
+  freshReplicas,
+  freshHeader,
+  retires,
+  opening,
+  block,
+  prepare,
+  store,
+  view,
+  accumulate,
+  decide,
+  reboot,
+  reserve,
+  request,
+  reply,
+  recover,
 }
 use Rattle.protocol.specs.Runs.{ruleOf, step}
 use Rattle.protocol.specs.Theorems.{
-  Place, tableWord, logWord, blockWord, wordAt, below, certificatePlaces, blockPlaces, named, SameLengths, OnlyNamedChange, LengthsStay
+  Place,
+  tableWord,
+  logWord,
+  blockWord,
+  wordAt,
+  below,
+  certificatePlaces,
+  blockPlaces,
+  named,
+  SameLengths,
+  OnlyNamedChange,
+  LengthsStay,
 }
 use Rattle.protocol.proofs.Tests.{by-cond}
 use Rattle.protocol.proofs.Needs.{left-memory}
 use Rattle.protocol.proofs.Words.{Avoids, assign-elsewhere, sets-elsewhere}
-use Rattle.protocol.proofs.Changes.{update-lengths, append-lengths, append-table, block-lengths, block-table}
+use Rattle.protocol.proofs.Changes.{update-lengths, append-table, block-lengths, block-table}
 use Rattle.protocol.proofs.Filing.{file-cases, file-lengths}
 use Rattle.protocol.proofs.Opened.{fresh-lengths, fresh-log, fresh-blocks, header-lengths}
 
@@ -72,7 +120,8 @@ update-frame m i cs (tableWord j) h = assign-elsewhere cs (m .table) (rowAt i) j
 update-frame m i cs (logWord j) h = refl
 update-frame m i cs (blockWord j) h = refl
 
-append-frame : (m : Memory) (ws : List ℕ) → length ws ≡ certificateWords → (p : Place) → Apart p (certificatePlaces m) → wordAt (appendCertificate m ws) p ≡ wordAt m p
+append-frame : (m : Memory) (ws : List ℕ) → length ws ≡ certificateWords → (p : Place) → Apart p (certificatePlaces m)
+    → wordAt (appendCertificate m ws) p ≡ wordAt m p
 unfolding wordAt appendCertificate
 append-frame m ws whole (tableWord j) h = append-table m ws whole j (λ e. h .0 (ap tableWord e))
 append-frame m ws whole (logWord j) h =
@@ -80,7 +129,8 @@ append-frame m ws whole (logWord j) h =
     (λ le. let far = past-run logWord certificateWords (certificateAt (certificateCount m)) j (h .1) le in omega arith)
 append-frame m ws whole (blockWord j) h = refl
 
-issuing-frame : (m : Memory) (needs : List Need) (i : ℕ) (cs : List Assignment) (c : Certificate) (p : Place) → AwayFrom i p cs → Apart p (certificatePlaces m) → wordAt (issuing m needs i cs c .after) p ≡ wordAt m p
+issuing-frame : (m : Memory) (needs : List Need) (i : ℕ) (cs : List Assignment) (c : Certificate) (p : Place) → AwayFrom i p cs
+    → Apart p (certificatePlaces m) → wordAt (issuing m needs i cs c .after) p ≡ wordAt m p
 unfolding issuing
 issuing-frame m needs i cs c p away new =
     update-frame (file m (words c)) i cs p away
@@ -98,7 +148,8 @@ opening-lengths m f =
     let s = header-lengths m f in
     record { table = l .table ∙ s .table; log = l .log ∙ s .log; blocks = l .blocks ∙ s .blocks }
 
-opening-frame : (m : Memory) (f : ℕ) (p : Place) → Apart p (named m (Open f)) → wordAt (freshReplicas (freshHeader m f) (replicaCount f)) p ≡ wordAt m p
+opening-frame : (m : Memory) (f : ℕ) (p : Place) → Apart p (named m (Open f))
+    → wordAt (freshReplicas (freshHeader m f) (replicaCount f)) p ≡ wordAt m p
 unfolding wordAt named
 opening-frame m f (tableWord j) h =
     let far = past-run tableWord (length (m .table)) 0 j (simp zero-add (h .1)) (omega arith) in
@@ -112,7 +163,8 @@ opening-frame m f (blockWord j) h =
 
 -- ---- the calls
 
-frame : (m : Memory) (call : Call) (list : List ℕ) (p : Place) → Apart p (named m call) → wordAt (ruleOf m call list .after) p ≡ wordAt m p
+frame : (m : Memory) (call : Call) (list : List ℕ) (p : Place) → Apart p (named m call)
+    → wordAt (ruleOf m call list .after) p ≡ wordAt m p
 unfolding ruleOf named opening block prepare store view accumulate decide reboot reserve request reply recover
 frame m (Open f) list p h = opening-frame m f p h
 frame m (Block b) list p h = block-frame m b p h
@@ -137,7 +189,8 @@ only-named-change m call list p h =
     left-memory (λ x. wordAt x p ≡ wordAt m p) m (ruleOf m call list) refl
     (λ e. frame m call list p (apart p (named m call) h))
 
-issuing-lengths : (m : Memory) (needs : List Need) (i : ℕ) (cs : List Assignment) (c : Certificate) → SameLengths (issuing m needs i cs c .after) m
+issuing-lengths : (m : Memory) (needs : List Need) (i : ℕ) (cs : List Assignment) (c : Certificate)
+    → SameLengths (issuing m needs i cs c .after) m
 unfolding issuing
 issuing-lengths m needs i cs c =
     let u = update-lengths (file m (words c)) i cs in

@@ -1,12 +1,11 @@
 -- What keeps the form: words of a replica that stay in their ranges, a certificate in its ranges, a block on an added one.
-use Prim.Native.Nat.{ℕ, zero, suc, _+_, _*_, _≤_, _<_}
-use mathlib.Core.Path.{_≡_, refl, sym, ap, _∙_, subst}
-use mathlib.Core.Bool.{Bool, true, false, cond}
-use mathlib.Core.Logic.{_≢_}
+use Prim.Native.Nat.{ℕ, _+_, _≤_, _<_}
+use mathlib.Core.Path.{_≡_, refl, ap, _∙_}
+use mathlib.Core.Bool.{true, false}
 use mathlib.Core.List.{List, [], _∷_}
 use native.Mathlib.Omega.{arith}
-use lib.ListN.{length, getD}
-use lib.Dec.{ltb, leb, eqb}
+use lib.ListN.{length}
+use lib.Dec.{eqb}
 use Rattle.protocol.specs.Memory.{
   Memory,
   Replica,
@@ -16,8 +15,6 @@ use Rattle.protocol.specs.Memory.{
   faultBound,
   certificateCount,
   blockCount,
-  rowAt,
-  replicaWords,
   replica,
   certificateWords,
   certificateAt,
@@ -29,7 +26,7 @@ use Rattle.protocol.specs.Memory.{
   appendCertificate,
   appendBlock,
 }
-use Rattle.protocol.specs.Form.{allHold, isFaultBound, lengthsFit, countsFit, blockFormed, replicaFormed, certificateFormed}
+use Rattle.protocol.specs.Form.{lengthsFit, countsFit, blockFormed, replicaFormed, certificateFormed}
 use Rattle.protocol.specs.Certificates.{canFile, file, logHasRoom}
 use Rattle.protocol.specs.Outcome.{Need, _else_, noRoom}
 use Rattle.protocol.specs.Calls.{isReplica, issuing}
@@ -37,7 +34,7 @@ use Rattle.protocol.specs.Theorems.{SameLengths}
 use Rattle.protocol.proofs.Tests.{tests, by-test, each, all-hold}
 use Rattle.protocol.proofs.Needs.{Holds, holds-both}
 use Rattle.protocol.proofs.Words.{withinRow}
-use Rattle.protocol.proofs.Formed.{Formed, Sizes, sizes}
+use Rattle.protocol.proofs.Formed.{Formed, sizes}
 use Rattle.protocol.proofs.Filing.{file-cases, must-have-room, file-table, file-replica}
 use Rattle.protocol.proofs.Changes.{
   changed,
@@ -66,7 +63,8 @@ pub lengths-same : (m m′ : Memory) (f : ℕ) → SameLengths m m′ → length
 unfolding lengthsFit
 lengths-same m m′ f s = rw (s .table, s .log, s .blocks) refl
 
-pub counts-fit : (m : Memory) → certificateAt (certificateCount m) ≤ length (m .log) → blockAt (blockCount m) ≤ length (m .blocks) → 1 ≤ blockCount m → countsFit m ≡ true
+pub counts-fit : (m : Memory) → certificateAt (certificateCount m) ≤ length (m .log) → blockAt (blockCount m) ≤ length (m .blocks)
+    → 1 ≤ blockCount m → countsFit m ≡ true
 unfolding countsFit
 counts-fit m a b c = all-hold _ (omega tests)
 
@@ -90,7 +88,8 @@ pub record Suits (m : Memory) (i : ℕ) (cs : List Assignment) : Type 0 where
   pub within : withinRow cs ≡ true
   pub row : replicaFormed (blockCount m) (changed cs (replica m i)) ≡ true
 
-pub update-keeps : (m : Memory) (i : ℕ) (cs : List Assignment) → Formed m → isReplica m i ≡ true → Suits m i cs → Formed (update m i cs)
+pub update-keeps : (m : Memory) (i : ℕ) (cs : List Assignment) → Formed m → isReplica m i ≡ true → Suits m i cs
+    → Formed (update m i cs)
 unfolding update
 update-keeps m i cs h own suits =
     let within = suits .within in
@@ -117,7 +116,8 @@ update-keeps m i cs h own suits =
 
 -- ---- a certificate more
 
-pub append-keeps : (m : Memory) (ws : List ℕ) → length ws ≡ certificateWords → Formed m → logHasRoom m ≡ true → certificateFormed (replicaCount (faultBound m)) (blockCount m) (certificateFrom ws) ≡ true → Formed (appendCertificate m ws)
+pub append-keeps : (m : Memory) (ws : List ℕ) → length ws ≡ certificateWords → Formed m → logHasRoom m ≡ true
+    → certificateFormed (replicaCount (faultBound m)) (blockCount m) (certificateFrom ws) ≡ true → Formed (appendCertificate m ws)
 unfolding appendCertificate
 append-keeps m ws whole h room good =
     let z = sizes m h in
@@ -143,13 +143,15 @@ append-keeps m ws whole h room good =
     }
 
 -- Filing, where it is found or has room.
-pub file-keeps : (m : Memory) (c : Certificate) → Formed m → canFile m (words c) ≡ true → certificateFormed (replicaCount (faultBound m)) (blockCount m) c ≡ true → Formed (file m (words c))
+pub file-keeps : (m : Memory) (c : Certificate) → Formed m → canFile m (words c) ≡ true
+    → certificateFormed (replicaCount (faultBound m)) (blockCount m) c ≡ true → Formed (file m (words c))
 file-keeps m c h can good =
     file-cases Formed m (words c) (λ e. h) (λ e. append-keeps m (words c) refl h (must-have-room m (words c) can e) good)
 
 -- ---- a block more
 
-pub block-keeps : (m : Memory) (p : ℕ) → Formed m → p < blockCount m → blockAt (blockCount m) < length (m .blocks) → Formed (appendBlock m p)
+pub block-keeps : (m : Memory) (p : ℕ) → Formed m → p < blockCount m → blockAt (blockCount m) < length (m .blocks)
+    → Formed (appendBlock m p)
 unfolding appendBlock
 block-keeps m p h known room =
     let z = sizes m h in
@@ -181,11 +183,15 @@ block-keeps m p h known room =
 -- ---- an issuing call: the certificate filed, words of the replica changed
 
 -- The needs of an issuing call, and that its certificate can be filed.
-pub issuing-needs : (m : Memory) (needs : List Need) (i : ℕ) (cs : List Assignment) (c : Certificate) → Holds (issuing m needs i cs c .needs) → Holds needs × (canFile m (words c) ≡ true)
+pub issuing-needs : (m : Memory) (needs : List Need) (i : ℕ) (cs : List Assignment) (c : Certificate)
+    → Holds (issuing m needs i cs c .needs) → Holds needs × (canFile m (words c) ≡ true)
 unfolding issuing
 issuing-needs m needs i cs c h = let both = holds-both needs (canFile m (words c) else noRoom ∷ []) h in (both .0, both .1 .0)
 
-pub issuing-keeps : (m : Memory) (needs : List Need) (i : ℕ) (cs : List Assignment) (c : Certificate) → Holds (issuing m needs i cs c .needs) → Formed m → isReplica m i ≡ true → certificateFormed (replicaCount (faultBound m)) (blockCount m) c ≡ true → Suits m i cs → Formed (issuing m needs i cs c .after)
+pub issuing-keeps : (m : Memory) (needs : List Need) (i : ℕ) (cs : List Assignment) (c : Certificate)
+    → Holds (issuing m needs i cs c .needs) → Formed m → isReplica m i ≡ true
+    → certificateFormed (replicaCount (faultBound m)) (blockCount m) c ≡ true → Suits m i cs
+    → Formed (issuing m needs i cs c .after)
 unfolding issuing
 issuing-keeps m needs i cs c hold h own certificate suits =
     let f : faultBound (file m (words c)) ≡ faultBound m = file-table m (words c) refl 0 (omega arith) in

@@ -1,10 +1,10 @@
 -- An accepted call leaves well-formed memory.
-use Prim.Native.Nat.{ℕ, zero, suc, _+_, _≤_, _<_, max}
-use mathlib.Core.Path.{_≡_, refl, sym, ap, _∙_}
+use Prim.Native.Nat.{ℕ, _+_, _≤_}
+use mathlib.Core.Path.{_≡_, refl}
 use mathlib.Core.Bool.{Bool, true, false, cond, _||_}
-use mathlib.Core.List.{List, [], _∷_}
+use mathlib.Core.List.{List}
 use native.Mathlib.Omega.{arith}
-use lib.Dec.{ltb, leb, eqb}
+use lib.Dec.{ltb, eqb}
 use Rattle.protocol.specs.declared.Call.{Call}
 use Rattle.protocol.specs.declared.Call.the-variants.{
   Open,
@@ -21,12 +21,22 @@ use Rattle.protocol.specs.declared.Call.the-variants.{
   Recover,
 }
 use Rattle.protocol.specs.declared.Justification.{Justification}
-use Rattle.protocol.specs.Memory.{Memory, Certificate, replicaCount, ceiling, faultBound, blockCount, retired, replica, certificate, update}
-use Rattle.protocol.specs.Form.{wellFormed, replicaFormed, certificateFormed}
+use Rattle.protocol.specs.Memory.{
+  Memory,
+  Certificate,
+  replicaCount,
+  ceiling,
+  faultBound,
+  blockCount,
+  retired,
+  replica,
+  certificate,
+  update,
+}
+use Rattle.protocol.specs.Form.{replicaFormed, certificateFormed}
 use Rattle.protocol.specs.Counter.{counterStep}
 use Rattle.protocol.specs.Quorum.{certificatesOf, firstOf}
 use Rattle.protocol.specs.Calls.{
-  issuing,
   retires,
   opening,
   block,
@@ -48,7 +58,7 @@ use Rattle.protocol.proofs.Needs.{Holds, no-refusal, accepted-after}
 use Rattle.protocol.proofs.Rules.{needs-hold}
 use Rattle.protocol.proofs.Formed.{Formed, formed, form}
 use Rattle.protocol.proofs.Keeps.{Suits, update-keeps, block-keeps, issuing-needs, issuing-keeps}
-use Rattle.protocol.proofs.Lists.{All, all-named, first-named, latest-named}
+use Rattle.protocol.proofs.Lists.{all-named, first-named, greatest-named}
 use Rattle.protocol.proofs.Opened.{opened, opened-formed}
 
 -- A certificate in its ranges.
@@ -72,7 +82,8 @@ store-leaves m i number hold =
     let p = each _ (z .log number (omega tests)) in
     issuing-keeps m _ i _ _ hold z (h .1 .0) (all-hold _ (omega tests)) (record { within = refl; row = all-hold _ (omega tests) })
 
-prepare-leaves : (m : Memory) (i b : ℕ) (j : Justification) (list : List ℕ) → Holds (prepare m i b j list .needs) → Formed (prepare m i b j list .after)
+prepare-leaves : (m : Memory) (i b : ℕ) (j : Justification) (list : List ℕ) → Holds (prepare m i b j list .needs)
+    → Formed (prepare m i b j list .after)
 unfolding prepare replicaFormed certificateFormed
 prepare-leaves m i b j list hold =
     let h = issuing-needs m _ i _ _ hold .0 in
@@ -93,7 +104,8 @@ view-leaves m i w hold =
     small true l = omega arith
     small false l = l
 
-accumulate-leaves : (m : Memory) (i : ℕ) (list : List ℕ) → Holds (accumulate m i list .needs) → Formed (accumulate m i list .after)
+accumulate-leaves : (m : Memory) (i : ℕ) (list : List ℕ) → Holds (accumulate m i list .needs)
+    → Formed (accumulate m i list .after)
 unfolding accumulate replicaFormed certificateFormed
 accumulate-leaves m i list hold =
     let h = issuing-needs m _ i _ _ hold .0 in
@@ -101,7 +113,7 @@ accumulate-leaves m i list hold =
     let r = each _ (z .rows i (omega tests)) in
     let cs = all-named (InRange m) m list (h .1 .1 .1 .0) (z .log) in
     let c = each _ (first-named (InRange m) m list (h .1 .1 .0) cs) in
-    let g = each _ (latest-named (InRange m) m list (h .1 .1 .0) cs) in
+    let g = each _ (greatest-named (InRange m) m list (h .1 .1 .0) cs) in
     issuing-keeps m _ i _ _ hold z (h .1 .0) (all-hold _ (omega tests)) (record { within = refl; row = all-hold _ (omega tests) })
 
 decide-leaves : (m : Memory) (i : ℕ) (list : List ℕ) → Holds (decide m i list .needs) → Formed (decide m i list .after)
@@ -116,7 +128,8 @@ decide-leaves m i list h =
     (λ e. update-keeps m i _ z (h .1 .0) (record { within = refl; row = all-hold _ (omega tests) }))
 
 -- A reboot that does not retire the replica stays within 1,000,000.
-in-range : (m : Memory) (i : ℕ) → retires m i ≡ false → (replica m i .boot + 1 ≤ ceiling) × (replica m i .viewLimit + counterStep m (replica m i .boot + 1) ≤ ceiling)
+in-range : (m : Memory) (i : ℕ) → retires m i ≡ false
+    → (replica m i .boot + 1 ≤ ceiling) × (replica m i .viewLimit + counterStep m (replica m i .boot + 1) ≤ ceiling)
 in-range m i e =
     let a = or-false (eqb (replica m i .status) retired || ltb ceiling (replica m i .boot + 1)) _ e in
     let b = or-false (eqb (replica m i .status) retired) _ (a .0) in
@@ -166,7 +179,7 @@ recover-leaves m i list h =
     let z = formed m (h .0) in
     let r = each _ (z .rows i (omega tests)) in
     let cs = all-named (InRange m) m list (h .1 .1 .1 .0) (z .log) in
-    let g = each _ (latest-named (InRange m) m list (h .1 .1 .0) cs) in
+    let g = each _ (greatest-named (InRange m) m list (h .1 .1 .0) cs) in
     update-keeps m i _ z (h .1 .0) (record { within = refl; row = all-hold _ (omega tests) })
 
 leaves : (m : Memory) (call : Call) (list : List ℕ) → Holds (ruleOf m call list .needs) → Formed (ruleOf m call list .after)

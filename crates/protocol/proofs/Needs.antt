@@ -1,14 +1,14 @@
 -- What a list of needs tells: of an accepted call, that every need holds; of a refused one, that nothing changed and the lowest number won.
-use Prim.Native.Nat.{ℕ, zero, suc, _≤_, _<_}
-use mathlib.Core.Path.{_≡_, refl, sym, ap, _∙_, subst}
-use mathlib.Core.Bool.{Bool, true, false, cond, _&&_}
-use mathlib.Core.List.{List, [], _∷_, _++_, List·Memᴰ, List·Memᴰ·cases-cons, List·Memᴰ·not-nil}
+use Prim.Native.Nat.{ℕ, zero, suc, _≤_}
+use mathlib.Core.Path.{_≡_, refl, ap}
+use mathlib.Core.Bool.{Bool, true, false, _&&_}
+use mathlib.Core.List.{List, [], _∷_, _++_, List·Memᴰ, List·Memᴰ·head, List·Memᴰ·tail, List·Memᴰ·cases-cons, List·Memᴰ·not-nil}
 use mathlib.Core.Logic.{⊎-elim}
 use native.Mathlib.Omega.{arith}
 use lib.Dec.{leb}
 use Rattle.protocol.specs.Memory.{Memory}
-use Rattle.protocol.specs.Outcome.{Outcome, Need, _else_, Rule, firstRefusal, answered, follow}
-use Rattle.protocol.specs.Theorems.{Accepted, Unchanged, Lowest}
+use Rattle.protocol.specs.Outcome.{Need, _else_, Rule, firstRefusal, answered, follow}
+use Rattle.protocol.specs.Theorems.{Accepted, Refused, Lowest}
 use Rattle.protocol.proofs.Tests.{tests, and-true}
 
 -- Every need of a list holds.
@@ -52,7 +52,8 @@ unfolding follow answered
 accepted-after m rule e = ap (λ (n : ℕ). answered n m rule .memory) (no-refusal m rule e)
 
 -- What holds of the memory as it was and of the memory on success holds of the memory left.
-pub left-memory : (P : Memory → Type 0) (m : Memory) (rule : Rule) → P m → (firstRefusal (rule .needs) ≡ 0 → P (rule .after)) → P (follow m rule .memory)
+pub left-memory : (P : Memory → Type 0) (m : Memory) (rule : Rule) → P m → (firstRefusal (rule .needs) ≡ 0 → P (rule .after))
+    → P (follow m rule .memory)
 unfolding follow answered
 left-memory P m rule before after = go (firstRefusal (rule .needs)) refl
   where
@@ -60,13 +61,21 @@ left-memory P m rule before after = go (firstRefusal (rule .needs)) refl
     go zero e = after e
     go (suc n) e = before
 
-pub unchanged : (m : Memory) (rule : Rule) → (Accepted (follow m rule) → ⊥) → Unchanged m (follow m rule)
+-- A refusal is that of a need that fails.
+failing-need : (ns : List Need) → (firstRefusal ns ≡ 0 → ⊥) → List·Memᴰ (false else firstRefusal ns) ns
+unfolding firstRefusal
+failing-need [] h = absurd (h refl)
+failing-need ((true else n) ∷ rest) h = List·Memᴰ·tail (failing-need rest h)
+failing-need ((false else n) ∷ rest) h = List·Memᴰ·head refl
+
+pub refused : (m : Memory) (rule : Rule) → (Accepted (follow m rule) → ⊥) → Refused m rule (follow m rule)
 unfolding follow answered
-unchanged m rule h = go (firstRefusal (rule .needs)) h
+refused m rule h = go (firstRefusal (rule .needs)) (failing-need (rule .needs)) h
   where
-    go : (n : ℕ) → (Accepted (answered n m rule) → ⊥) → Unchanged m (answered n m rule)
-    go zero h = absurd (h refl)
-    go (suc n) h = record { memory = refl; first = refl; second = refl }
+    go : (n : ℕ) → ((n ≡ 0 → ⊥) → List·Memᴰ (false else n) (rule .needs)) → (Accepted (answered n m rule) → ⊥)
+        → Refused m rule (answered n m rule)
+    go zero w h = absurd (h refl)
+    go (suc n) w h = record { number = w h; memory = refl; first = refl; second = refl }
 
 -- ---- the lowest number
 
@@ -77,13 +86,15 @@ same-test e = cc
 same-number : {s t : Bool} {k n : ℕ} → (s else k) ≡ (t else n) → k ≡ n
 same-number e = cc
 
-rising-least : (ns : List Need) (least : ℕ) → risingFrom least ns ≡ true → {t : Bool} {k : ℕ} → List·Memᴰ (t else k) ns → least ≤ k
+rising-least : (ns : List Need) (least : ℕ) → risingFrom least ns ≡ true → {t : Bool} {k : ℕ} → List·Memᴰ (t else k) ns
+    → least ≤ k
 rising-least [] least r w = absurd (List·Memᴰ·not-nil w)
 rising-least ((s else n) ∷ rest) least r {t} {k} w =
     let both = and-true (leb least n) (risingFrom n rest) r in
     ⊎-elim (λ e. let q = same-number e in omega tests) (λ v. let b = rising-least rest n (both .1) v in omega tests) (List·Memᴰ·cases-cons w)
 
-pub lowest-refusal : (ns : List Need) (least : ℕ) → risingFrom least ns ≡ true → {k : ℕ} → List·Memᴰ (false else k) ns → (least ≤ firstRefusal ns) × (firstRefusal ns ≤ k)
+pub lowest-refusal : (ns : List Need) (least : ℕ) → risingFrom least ns ≡ true → {k : ℕ} → List·Memᴰ (false else k) ns
+    → (least ≤ firstRefusal ns) × (firstRefusal ns ≤ k)
 unfolding firstRefusal
 lowest-refusal [] least r w = absurd (List·Memᴰ·not-nil w)
 lowest-refusal ((true else n) ∷ rest) least r {k} w =
@@ -94,7 +105,8 @@ lowest-refusal ((false else n) ∷ rest) least r {k} w =
     let both = and-true (leb least n) (risingFrom n rest) r in
     (omega tests, ⊎-elim (λ e. let q = same-number e in omega arith) (λ v. rising-least rest n (both .1) v) (List·Memᴰ·cases-cons w))
 
-pub lowest : (m : Memory) (rule : Rule) → risingFrom 1 (rule .needs) ≡ true → {k : ℕ} → List·Memᴰ (false else k) (rule .needs) → Lowest (follow m rule) k
+pub lowest : (m : Memory) (rule : Rule) → risingFrom 1 (rule .needs) ≡ true → {k : ℕ} → List·Memᴰ (false else k) (rule .needs)
+    → Lowest (follow m rule) k
 unfolding follow answered
 lowest m rule r {k} w = go (firstRefusal (rule .needs)) (lowest-refusal (rule .needs) 1 r w)
   where

@@ -1,13 +1,11 @@
 -- What opening leaves: a header, fresh replicas, one block; so the form, whatever the memory held.
-use Prim.Native.Nat.{ℕ, zero, suc, _+_, _*_, _≤_, _<_}
-use mathlib.Core.Path.{_≡_, refl, sym, ap, _∙_}
-use mathlib.Core.Bool.{Bool, true, false, cond}
-use mathlib.Core.Logic.{_≢_}
-use mathlib.Core.List.{List, [], _∷_}
+use Prim.Native.Nat.{ℕ, zero, suc, _≤_, _<_}
+use mathlib.Core.Path.{_≡_, refl, ap, _∙_}
+use mathlib.Core.Bool.{true}
 use native.Mathlib.Omega.{arith}
 use lib.ListN.{length, getD, set, length-set}
 use lib.Seq.{getD-set-same, getD-set-other}
-use lib.Dec.{ltb, leb, eqb}
+use lib.Dec.{eqb}
 use Rattle.protocol.specs.Memory.{
   Memory,
   Replica,
@@ -17,21 +15,18 @@ use Rattle.protocol.specs.Memory.{
   blockCount,
   rowStart,
   rowAt,
-  replicaWords,
-  tableLength,
   replica,
-  blockAt,
   parent,
   live,
   lowered,
   update,
 }
-use Rattle.protocol.specs.Form.{isFaultBound, lengthsFit, countsFit, blockFormed, replicaFormed, certificateFormed}
+use Rattle.protocol.specs.Form.{isFaultBound, lengthsFit, blockFormed, replicaFormed}
 use Rattle.protocol.specs.Counter.{counterStep}
 use Rattle.protocol.specs.Calls.{freshReplica, freshReplicas, freshHeader}
 use Rattle.protocol.specs.Theorems.{SameLengths}
 use Rattle.protocol.proofs.Tests.{tests, by-test, each, all-hold}
-use Rattle.protocol.proofs.Changes.{changed, update-lengths, update-header, update-other, update-own}
+use Rattle.protocol.proofs.Changes.{update-lengths, update-header, update-other, update-own}
 use Rattle.protocol.proofs.Formed.{Formed}
 use Rattle.protocol.proofs.Keeps.{lengths-same, counts-fit}
 
@@ -73,7 +68,8 @@ unfolding freshReplicas
 fresh-header m zero j h = refl
 fresh-header m (suc k) j h = update-header (freshReplicas m k) k (freshReplica m) refl j h ∙ fresh-header m k j h
 
-pub fresh-row : (m : Memory) (k i : ℕ) → i < k → rowAt k ≤ length (m .table) → replica (freshReplicas m k) i ≡ fresh (counterStep m 0)
+pub fresh-row : (m : Memory) (k i : ℕ) → i < k → rowAt k ≤ length (m .table)
+    → replica (freshReplicas m k) i ≡ fresh (counterStep m 0)
 unfolding freshReplicas
 fresh-row m zero i h room = absurd (omega arith)
 fresh-row m (suc k) i h room =

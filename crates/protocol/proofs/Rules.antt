@@ -1,7 +1,7 @@
 -- What all twelve rules have in common: the numbers of their needs. So a refused call changes nothing, and the lowest number wins.
 use Prim.Native.Nat.{ℕ}
 use mathlib.Core.Path.{_≡_, refl}
-use mathlib.Core.Bool.{Bool, true, false}
+use mathlib.Core.Bool.{true, false}
 use mathlib.Core.List.{List}
 use native.Mathlib.Omega.{arith}
 use Rattle.protocol.specs.declared.Call.{Call}
@@ -20,7 +20,7 @@ use Rattle.protocol.specs.declared.Call.the-variants.{
   Recover,
 }
 use Rattle.protocol.specs.Memory.{Memory}
-use Rattle.protocol.specs.Outcome.{firstRefusal}
+use Rattle.protocol.specs.Outcome.{firstRefusal, answered, follow}
 use Rattle.protocol.specs.Calls.{
   issuing,
   opening,
@@ -37,8 +37,8 @@ use Rattle.protocol.specs.Calls.{
   recover,
 }
 use Rattle.protocol.specs.Runs.{ruleOf, step}
-use Rattle.protocol.specs.Theorems.{Accepted, isOpening, RefusedChangesNothing, LowestWins}
-use Rattle.protocol.proofs.Needs.{Holds, positive, risingFrom, all-needs, no-refusal, unchanged, lowest}
+use Rattle.protocol.specs.Theorems.{isOpening, RefusedChangesNothing, LowestWins, OpeningTestsFaultsFirst}
+use Rattle.protocol.proofs.Needs.{Holds, positive, risingFrom, all-needs, refused, lowest}
 
 numbers-positive : (m : Memory) (call : Call) (list : List ℕ) → positive (ruleOf m call list .needs) ≡ true
 unfolding ruleOf issuing opening block prepare store view accumulate decide reboot reserve request reply recover
@@ -55,7 +55,8 @@ numbers-positive m (Request i) list = refl
 numbers-positive m (Reply i number) list = refl
 numbers-positive m (Recover i) list = refl
 
-numbers-rise : (m : Memory) (call : Call) (list : List ℕ) → isOpening call ≡ false → risingFrom 1 (ruleOf m call list .needs) ≡ true
+numbers-rise : (m : Memory) (call : Call) (list : List ℕ) → isOpening call ≡ false
+    → risingFrom 1 (ruleOf m call list .needs) ≡ true
 unfolding ruleOf issuing opening block prepare store view accumulate decide reboot reserve request reply recover
 numbers-rise m (Open f) list e = let z : _≡_ {A = ℕ} 0 1 = cc in absurd (omega arith)
 numbers-rise m (Block p) list e = refl
@@ -71,13 +72,18 @@ numbers-rise m (Reply i number) list e = refl
 numbers-rise m (Recover i) list e = refl
 
 -- Every need of a call that nothing refuses holds.
-pub needs-hold : (m : Memory) (call : Call) (list : List ℕ) → firstRefusal (ruleOf m call list .needs) ≡ 0 → Holds (ruleOf m call list .needs)
+pub needs-hold : (m : Memory) (call : Call) (list : List ℕ) → firstRefusal (ruleOf m call list .needs) ≡ 0
+    → Holds (ruleOf m call list .needs)
 needs-hold m call list e = all-needs (ruleOf m call list .needs) (numbers-positive m call list) e
 
 pub refused-changes-nothing : RefusedChangesNothing
 unfolding RefusedChangesNothing step
-refused-changes-nothing m call list h = unchanged m (ruleOf m call list) h
+refused-changes-nothing m call list h = refused m (ruleOf m call list) h
 
 pub lowest-wins : LowestWins
 unfolding LowestWins step
 lowest-wins m call list e number w = lowest m (ruleOf m call list) (numbers-rise m call list e) w
+
+pub opening-tests-faults-first : OpeningTestsFaultsFirst
+unfolding OpeningTestsFaultsFirst step ruleOf opening follow firstRefusal answered
+opening-tests-faults-first m f list e = rw e refl

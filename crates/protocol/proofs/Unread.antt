@@ -1,45 +1,86 @@
 -- Words past the counts are not read.
-use Prim.Native.Nat.{ℕ, zero, suc, _+_, _≤_, _<_}
-use mathlib.Core.Path.{_≡_, refl, sym, ap, _∙_, subst}
-use mathlib.Core.Bool.{Bool, true, false, cond}
-use mathlib.Core.List.{List, [], _∷_, _++_}
+use Prim.Native.Nat.{ℕ, zero, suc}
+use mathlib.Core.Path.{_≡_, refl, ap, subst}
+use mathlib.Core.Bool.{Bool, true}
+use mathlib.Core.List.{List, [], _∷_}
 use native.Mathlib.Omega.{arith}
-use lib.ListN.{length, length-set}
+use lib.ListN.{length-set}
 use lib.Dec.{ltb}
 use Rattle.protocol.specs.declared.Call.{Call}
 use Rattle.protocol.specs.declared.Call.the-variants.{
-  Open, Block, Prepare, Store, View, Accumulate, Decide, Reboot, Reserve, Request, Reply, Recover
+  Open,
+  Block,
+  Prepare,
+  Store,
+  View,
+  Accumulate,
+  Decide,
+  Reboot,
+  Reserve,
+  Request,
+  Reply,
+  Recover,
 }
-use Rattle.protocol.specs.Memory.{Memory, Certificate, Assignment, replicaCount, certificateCount, certificate, replica, words, update}
+use Rattle.protocol.specs.Memory.{Memory, Certificate, Assignment, replicaCount, certificate, replica, words, update}
 use Rattle.protocol.specs.declared.Justification.{Justification}
 use Rattle.protocol.specs.declared.Justification.the-variants.{Acc, Commits}
 use Rattle.protocol.specs.Counter.{counterStep}
 use Rattle.protocol.specs.Form.{wellFormed, lengthsFit}
-use Rattle.protocol.specs.Certificates.{canFile, numberFor, file}
+use Rattle.protocol.specs.Certificates.{file}
 use Rattle.protocol.specs.Quorum.{certificatesOf, firstOf}
 use Rattle.protocol.specs.Outcome.{Need, _else_, Rule, firstRefusal, answered, follow}
 use Rattle.protocol.specs.Calls.{
-  issuing, isSized, numbersOf, retires, freshReplica, freshReplicas, freshHeader, opening, block, prepare, store, view, accumulate, decide, reboot, reserve, request, reply, recover
+  issuing,
+  isSized,
+  numbersOf,
+  retires,
+  freshReplica,
+  freshReplicas,
+  freshHeader,
+  opening,
+  block,
+  prepare,
+  store,
+  view,
+  accumulate,
+  decide,
+  reboot,
+  reserve,
+  request,
+  reply,
+  recover,
 }
 use Rattle.protocol.specs.Runs.{ruleOf, step}
 use Rattle.protocol.specs.Theorems.{Alike, SameAnswer, PastCountsUnread}
-use Rattle.protocol.proofs.Tests.{tests, by-test, by-cond}
-use Rattle.protocol.proofs.Needs.{Holds, positive, all-needs}
+use Rattle.protocol.proofs.Tests.{by-test, by-cond}
+use Rattle.protocol.proofs.Needs.{Holds}
 use Rattle.protocol.proofs.Rules.{needs-hold}
 use Rattle.protocol.proofs.Words.{withinRow, set-alike}
 use Rattle.protocol.proofs.Formed.{formed}
 use Rattle.protocol.proofs.Keeps.{lengths-same, issuing-needs}
 use Rattle.protocol.proofs.Opened.{header}
 use Rattle.protocol.proofs.Alike.{
-  twin, lengths-alike, word-same, parent-same, named-same, form-same, number-same, can-same, file-alike, block-alike, update-alike
+  twin,
+  lengths-alike,
+  word-same,
+  parent-same,
+  named-same,
+  form-same,
+  number-same,
+  can-same,
+  file-alike,
+  block-alike,
+  update-alike,
 }
 
 -- Two lists of needs that agree as far as the first one that fails.
 data Agree : List Need → List Need → Type 0 where
   agree-end : Agree [] []
-  agree-next : {t t′ : Bool} {k : ℕ} {ns ns′ : List Need} → t ≡ t′ → (t ≡ true → Agree ns ns′) → Agree ((t else k) ∷ ns) ((t′ else k) ∷ ns′)
+  agree-next : {t t′ : Bool} {k : ℕ} {ns ns′ : List Need} → t ≡ t′ → (t ≡ true → Agree ns ns′)
+      → Agree ((t else k) ∷ ns) ((t′ else k) ∷ ns′)
 
-next : {t t′ : Bool} {k : ℕ} {ns ns′ : List Need} → t ≡ t′ → (t ≡ true → Agree ns ns′) → Agree ((t else k) ∷ ns) ((t′ else k) ∷ ns′)
+next : {t t′ : Bool} {k : ℕ} {ns ns′ : List Need} → t ≡ t′ → (t ≡ true → Agree ns ns′)
+    → Agree ((t else k) ∷ ns) ((t′ else k) ∷ ns′)
 next p q = agree-next p q
 
 agree-self : (ns : List Need) → Agree ns ns
@@ -62,7 +103,8 @@ record SameRule (r r′ : Rule) : Type 0 where
   needs : Agree (r .needs) (r′ .needs)
   results : Holds (r .needs) → Results r r′
 
-follow-same : (m m′ : Memory) (r r′ : Rule) → Alike m m′ → (firstRefusal (r .needs) ≡ 0 → Holds (r .needs)) → SameRule r r′ → SameAnswer (follow m r) (follow m′ r′)
+follow-same : (m m′ : Memory) (r r′ : Rule) → Alike m m′ → (firstRefusal (r .needs) ≡ 0 → Holds (r .needs)) → SameRule r r′
+    → SameAnswer (follow m r) (follow m′ r′)
 unfolding follow answered
 follow-same m m′ r r′ a hold s =
     rw (← agree-refusal (s .needs)) (go (firstRefusal (r .needs)) refl)
@@ -79,7 +121,8 @@ record Within (cs : List Assignment) : Type 0 where
   row : withinRow cs ≡ true
 
 module _ (m : Memory) (l b : List ℕ) (a : Alike m (twin m l b)) where
-  issued-same : (ns ns′ : List Need) (i : ℕ) (cs : List Assignment) (c : Certificate) → Within cs → wellFormed m ≡ true → Results (issuing m ns i cs c) (issuing (twin m l b) ns′ i cs c)
+  issued-same : (ns ns′ : List Need) (i : ℕ) (cs : List Assignment) (c : Certificate) → Within cs → wellFormed m ≡ true
+      → Results (issuing m ns i cs c) (issuing (twin m l b) ns′ i cs c)
   unfolding issuing
   issued-same ns ns′ i cs c within form =
       record {
@@ -103,14 +146,16 @@ module _ (m : Memory) (l b : List ℕ) (a : Alike m (twin m l b)) where
   sized-same (Acc number) list = refl
   sized-same (Commits v x) list = refl
 
-  prepare-needs : (i x : ℕ) (j : Justification) (list : List ℕ) → Agree (prepare m i x j list .needs) (prepare (twin m l b) i x j list .needs)
+  prepare-needs : (i x : ℕ) (j : Justification) (list : List ℕ)
+      → Agree (prepare m i x j list .needs) (prepare (twin m l b) i x j list .needs)
   unfolding prepare issuing
   prepare-needs i x j list =
       next (form-same m l b a)
       (λ _. next refl (λ _. next (sized-same j list) (λ _. next refl (λ added. next refl (λ issued.
-        simp (can-same m l b a, named-same m l b a (numbersOf j list) issued, parent-same m l b a) (agree-self _))))))
+      simp (can-same m l b a, named-same m l b a (numbersOf j list) issued, parent-same m l b a) (agree-self _))))))
 
-  prepare-results : (i x : ℕ) (j : Justification) (list : List ℕ) → Holds (prepare m i x j list .needs) → Results (prepare m i x j list) (prepare (twin m l b) i x j list)
+  prepare-results : (i x : ℕ) (j : Justification) (list : List ℕ) → Holds (prepare m i x j list .needs)
+      → Results (prepare m i x j list) (prepare (twin m l b) i x j list)
   unfolding prepare
   prepare-results i x j list hold =
       let h = issuing-needs m _ i _ _ hold .0 in
@@ -143,7 +188,8 @@ module _ (m : Memory) (l b : List ℕ) (a : Alike m (twin m l b)) where
       next (form-same m l b a)
       (λ _. next refl (λ _. next refl (λ _. next refl (λ issued. simp (can-same m l b a, named-same m l b a list issued) (agree-self _)))))
 
-  accumulate-results : (i : ℕ) (list : List ℕ) → Holds (accumulate m i list .needs) → Results (accumulate m i list) (accumulate (twin m l b) i list)
+  accumulate-results : (i : ℕ) (list : List ℕ) → Holds (accumulate m i list .needs)
+      → Results (accumulate m i list) (accumulate (twin m l b) i list)
   unfolding accumulate
   accumulate-results i list hold =
       let h = issuing-needs m _ i _ _ hold .0 in
@@ -158,8 +204,8 @@ module _ (m : Memory) (l b : List ℕ) (a : Alike m (twin m l b)) where
             (λ _. next refl (λ _. next refl (λ _. next refl (λ issued. simp (named-same m l b a list issued) (agree-self _)))));
         results =
             λ h.
-              simp (named-same m l b a list (h .1 .1 .1 .0))
-              (record { first = refl; second = refl; after = updated-same i _ (by-cond Within (ltb (replica m i .decidedView) (firstOf (certificatesOf (twin m l b) list) .view)) (λ _. record { row = refl }) (λ _. record { row = refl })) });
+            simp (named-same m l b a list (h .1 .1 .1 .0))
+            (record { first = refl; second = refl; after = updated-same i _ (by-cond Within (ltb (replica m i .decidedView) (firstOf (certificatesOf (twin m l b) list) .view)) (λ _. record { row = refl }) (λ _. record { row = refl })) });
       }
 
   reboot-same : (i : ℕ) → SameRule (reboot m i) (reboot (twin m l b) i)
@@ -169,7 +215,7 @@ module _ (m : Memory) (l b : List ℕ) (a : Alike m (twin m l b)) where
         needs = next (form-same m l b a) (λ _. agree-self _);
         results =
             λ h.
-              record { first = refl; second = refl; after = updated-same i _ (by-cond Within (retires m i) (λ _. record { row = refl }) (λ _. record { row = refl })) };
+            record { first = refl; second = refl; after = updated-same i _ (by-cond Within (retires m i) (λ _. record { row = refl }) (λ _. record { row = refl })) };
       }
 
   reserve-same : (i : ℕ) → SameRule (reserve m i) (reserve (twin m l b) i)
@@ -214,10 +260,11 @@ module _ (m : Memory) (l b : List ℕ) (a : Alike m (twin m l b)) where
             (λ _. next refl (λ _. next refl (λ _. next refl (λ issued. simp (named-same m l b a list issued) (agree-self _)))));
         results =
             λ h.
-              simp (named-same m l b a list (h .1 .1 .1 .0)) (record { first = refl; second = refl; after = updated-same i _ (record { row = refl }) });
+            simp (named-same m l b a list (h .1 .1 .1 .0)) (record { first = refl; second = refl; after = updated-same i _ (record { row = refl }) });
       }
 
-  fresh-alike : (f k : ℕ) → lengthsFit m f ≡ true → Alike (freshReplicas (freshHeader m f) k) (freshReplicas (freshHeader (twin m l b) f) k)
+  fresh-alike : (f k : ℕ) → lengthsFit m f ≡ true
+      → Alike (freshReplicas (freshHeader m f) k) (freshReplicas (freshHeader (twin m l b) f) k)
   unfolding freshReplicas counterStep
   fresh-alike f zero fit =
       let h = header m f fit in
@@ -262,5 +309,6 @@ pub past-counts-unread : PastCountsUnread
 unfolding PastCountsUnread
 past-counts-unread m m′ call list a = go (m′ .table) (a .table) a
   where
-    go : (t : List ℕ) → m .table ≡ t → Alike m (record { table = t; log = m′ .log; blocks = m′ .blocks }) → SameAnswer (step m call list) (step (record { table = t; log = m′ .log; blocks = m′ .blocks }) call list)
+    go : (t : List ℕ) → m .table ≡ t → Alike m (record { table = t; log = m′ .log; blocks = m′ .blocks })
+        → SameAnswer (step m call list) (step (record { table = t; log = m′ .log; blocks = m′ .blocks }) call list)
     go t e = subst (λ (t : List ℕ). Alike m (record { table = t; log = m′ .log; blocks = m′ .blocks }) → SameAnswer (step m call list) (step (record { table = t; log = m′ .log; blocks = m′ .blocks }) call list)) e (λ a. step-same m (m′ .log) (m′ .blocks) a call list)

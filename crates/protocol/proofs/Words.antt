@@ -1,13 +1,13 @@
 -- Reading words after writes: one word, words of a replica, a run of words.
-use Prim.Native.Nat.{ℕ, zero, suc, _+_, _*_, _≤_, _<_}
+use Prim.Native.Nat.{ℕ, zero, suc, _+_, _≤_, _<_}
 use mathlib.Core.Path.{_≡_, refl, sym, ap, _∙_}
 use mathlib.Core.Logic.{_≢_}
 use mathlib.Core.Bool.{Bool, true, false, cond, _&&_}
-use mathlib.Core.List.{List, [], _∷_, map}
+use mathlib.Core.List.{List, [], _∷_}
 use native.Mathlib.Omega.{arith}
 use lib.ListN.{length, getD, set, length-set, List·getD-eq-default}
-use lib.Seq.{sets, getD-set-same, getD-set-other, set-out, length-sets}
-use lib.Dec.{ltb, leb, eqb}
+use lib.Seq.{sets, getD-set-same, getD-set-other}
+use lib.Dec.{ltb, eqb}
 use Rattle.protocol.specs.Memory.{Assignment, _becomes_, assign, replicaWords}
 use Rattle.protocol.proofs.Tests.{tests, by-test, and-true}
 
@@ -32,25 +32,29 @@ pub length-assign : (changes : List Assignment) (t : List ℕ) (at : ℕ) → le
 length-assign [] t at = refl
 length-assign ((o becomes v) ∷ rest) t at = length-assign rest (set t (at + o) v) at ∙ length-set t (at + o) v
 
-pub assign-elsewhere : (changes : List Assignment) (t : List ℕ) (at j : ℕ) → Avoids at changes j → getD (assign t at changes) j 0 ≡ getD t j 0
+pub assign-elsewhere : (changes : List Assignment) (t : List ℕ) (at j : ℕ) → Avoids at changes j
+    → getD (assign t at changes) j 0 ≡ getD t j 0
 assign-elsewhere [] t at j h = refl
 assign-elsewhere ((o becomes v) ∷ rest) t at j h =
     assign-elsewhere rest (set t (at + o) v) at j (h .1) ∙ getD-set-other t (at + o) j v 0 (h .0)
 
 -- What lies outside the row is avoided.
-pub avoids-row : (changes : List Assignment) (at j : ℕ) → withinRow changes ≡ true → (at ≤ j → at + replicaWords ≤ j) → Avoids at changes j
+pub avoids-row : (changes : List Assignment) (at j : ℕ) → withinRow changes ≡ true → (at ≤ j → at + replicaWords ≤ j)
+    → Avoids at changes j
 avoids-row [] at j w h = tt
 avoids-row ((o becomes v) ∷ rest) at j w h =
     let both = and-true (ltb o replicaWords) (withinRow rest) w in
     (λ e. let far = h (omega arith) in omega tests, avoids-row rest at j (both .1) h)
 
-set-at : (t : List ℕ) (at o k v : ℕ) → at + o < length t → getD (set t (at + o) v) (at + k) 0 ≡ cond (eqb o k) v (getD t (at + k) 0)
+set-at : (t : List ℕ) (at o k v : ℕ) → at + o < length t
+    → getD (set t (at + o) v) (at + k) 0 ≡ cond (eqb o k) v (getD t (at + k) 0)
 set-at t at o k v h =
     by-test (eqb o k)
     (λ e. rw e (let q : o ≡ k = omega tests in rw (← q) (getD-set-same t (at + o) v 0 h)))
     (λ e. rw e (getD-set-other t (at + o) (at + k) v 0 (omega tests)))
 
-pub assign-at : (changes : List Assignment) (t : List ℕ) (at k : ℕ) → withinRow changes ≡ true → at + replicaWords ≤ length t → getD (assign t at changes) (at + k) 0 ≡ assigned changes k (getD t (at + k) 0)
+pub assign-at : (changes : List Assignment) (t : List ℕ) (at k : ℕ) → withinRow changes ≡ true → at + replicaWords ≤ length t
+    → getD (assign t at changes) (at + k) 0 ≡ assigned changes k (getD t (at + k) 0)
 assign-at [] t at k w h = refl
 assign-at ((o becomes v) ∷ rest) t at k w h =
     let both = and-true (ltb o replicaWords) (withinRow rest) w in
@@ -65,7 +69,8 @@ sets-elsewhere (a ∷ ws) l at j h =
     sets-elsewhere ws (set l at a) (suc at) j (λ le. let far = h (omega arith) in omega arith)
     ∙ getD-set-other l at j a 0 (λ e. let far = h (omega arith) in omega arith)
 
-pub sets-at : (ws l : List ℕ) (at k : ℕ) → k < length ws → at + length ws ≤ length l → getD (sets l at ws) (at + k) 0 ≡ getD ws k 0
+pub sets-at : (ws l : List ℕ) (at k : ℕ) → k < length ws → at + length ws ≤ length l
+    → getD (sets l at ws) (at + k) 0 ≡ getD ws k 0
 sets-at [] l at k h room = absurd (omega arith)
 sets-at (a ∷ ws) l at zero h room =
     let e : at + 0 ≡ at = omega arith in
@@ -76,7 +81,8 @@ sets-at (a ∷ ws) l at (suc k) h room =
 
 -- ---- the same write in two lists
 
-pub set-alike : (l l′ : List ℕ) (at a j : ℕ) → length l ≡ length l′ → (j ≢ at → getD l j 0 ≡ getD l′ j 0) → getD (set l at a) j 0 ≡ getD (set l′ at a) j 0
+pub set-alike : (l l′ : List ℕ) (at a j : ℕ) → length l ≡ length l′ → (j ≢ at → getD l j 0 ≡ getD l′ j 0)
+    → getD (set l at a) j 0 ≡ getD (set l′ at a) j 0
 set-alike l l′ at a j n h =
     by-test (eqb j at)
     (λ e. let q : j ≡ at = omega tests in rw q (here (ltb at (length l)) refl))
@@ -88,7 +94,8 @@ set-alike l l′ at a j n h =
         List·getD-eq-default (set l at a) 0 (simp length-set (omega tests))
         ∙ sym (List·getD-eq-default (set l′ at a) 0 (simp length-set (omega tests)))
 
-pub sets-alike : (ws l l′ : List ℕ) (at j : ℕ) → length l ≡ length l′ → ((at ≤ j → at + length ws ≤ j) → getD l j 0 ≡ getD l′ j 0) → getD (sets l at ws) j 0 ≡ getD (sets l′ at ws) j 0
+pub sets-alike : (ws l l′ : List ℕ) (at j : ℕ) → length l ≡ length l′ → ((at ≤ j → at + length ws ≤ j) → getD l j 0 ≡ getD l′ j 0)
+    → getD (sets l at ws) j 0 ≡ getD (sets l′ at ws) j 0
 sets-alike [] l l′ at j n h = h (λ le. omega arith)
 sets-alike (a ∷ ws) l l′ at j n h =
     sets-alike ws (set l at a) (set l′ at a) (suc at) j (simp length-set n)

@@ -1,6 +1,6 @@
 -- Lines of parents and heights (document 01, "Memory", the blocks): by recursion up the parents.
 use Prim.Native.Nat.{ℕ, zero, suc, _+_}
-use mathlib.Core.Bool.{Bool, true, false, cond, not, _&&_, _||_}
+use mathlib.Core.Bool.{Bool, cond, not, _&&_, _||_}
 use lib.Dec.{eqb}
 use Rattle.protocol.specs.Memory.{Memory, parent}
 
@@ -8,9 +8,10 @@ use Rattle.protocol.specs.Memory.{Memory, parent}
 -- Whether block a is in the line of block b, at most so many steps up, where each block has the parent that the function gives.
 unfoldable pub inLine : (ℕ → ℕ) → ℕ → ℕ → ℕ → Bool
 inLine parentOf zero a b = eqb a b
-inLine parentOf (suc steps) a b = eqb a b || not (eqb b 0) && inLine parentOf steps a (parentOf b)
+inLine parentOf (suc steps) a b = eqb a b || (not (eqb b 0) && inLine parentOf steps a (parentOf b))
 
--- Block b is at most b steps above block 0, as each parent is below its block.
+-- In well-formed memory each parent is below its block, so block b is at most b steps above block 0 and the steps never run out:
+-- the code recurses on the block number itself, which falls.
 abbrev pub isAncestorBy : (ℕ → ℕ) → ℕ → ℕ → Bool
 isAncestorBy parentOf a b = inLine parentOf b a b
 

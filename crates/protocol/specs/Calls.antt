@@ -1,7 +1,7 @@
 -- The rules of the twelve calls (document 01, "Calls"), each with its sentence. The needs of each stand in rising order, as in the
 -- table of refusals; opening alone tests f (2) before lengths (1).
 use Prim.Native.Nat.{ℕ, zero, suc, _+_, max}
-use mathlib.Core.Bool.{Bool, true, false, cond, not, _||_}
+use mathlib.Core.Bool.{Bool, true, cond, not, _||_}
 use mathlib.Core.List.{List, [], _∷_, _++_}
 use lib.ListN.{length, set}
 use lib.Dec.{ltb, leb, eqb}
@@ -18,9 +18,7 @@ use Rattle.protocol.specs.Memory.{
   certificateCountAt,
   blockCountAt,
   faultBound,
-  certificateCount,
   blockCount,
-  rowAt,
   statusAt,
   bootAt,
   minViewAt,
@@ -40,7 +38,6 @@ use Rattle.protocol.specs.Memory.{
   words,
   blockAt,
   parent,
-  assign,
   update,
   appendBlock,
 }
@@ -71,7 +68,7 @@ use Rattle.protocol.specs.Quorum.{
   isCommitQuorum,
   isNewViewQuorum,
   isReplyQuorum,
-  latest,
+  greatest,
 }
 use Rattle.protocol.specs.Outcome.{
   Need,
@@ -84,7 +81,7 @@ use Rattle.protocol.specs.Outcome.{
   wrongCertificate,
   wrongBlock,
   wrongView,
-  counterTooLow,
+  counterLimit,
   noRoom,
 }
 
@@ -99,7 +96,7 @@ isBlock m b = ltb b (blockCount m)
 abbrev pub hasStatus : Memory → ℕ → ℕ → Bool
 hasStatus m i s = eqb (replica m i .status) s
 
--- A call that issues a certificate: "an issuing call gives the certificate number and 0"; words of the replica change too.
+-- A call that issues a certificate: "an issuing call gives the certificate number and 0"; words of the replica may change too.
 -- 9 comes last, and only where the certificate must be added.
 unfoldable pub issuing : Memory → List Need → ℕ → List Assignment → Certificate → Rule
 issuing m needs i changes c =
@@ -166,19 +163,20 @@ abbrev pub numbersOf : Justification → List ℕ → List ℕ
 numbersOf (Acc number) list = number ∷ []
 numbersOf (Commits view block) list = list
 
+-- A commit quorum is a list of f+1; an ACC has no list.
 abbrev pub isSized : Memory → Justification → List ℕ → Bool
 isSized m (Acc number) list = true
 isSized m (Commits view block) list = isQuorumSize m list
 
 -- "Ground view w is the ACC's view, or one above the commits'."
-abbrev pub viewOf : Justification → List Certificate → ℕ
-viewOf (Acc number) cs = firstOf cs .view
-viewOf (Commits view block) cs = view + 1
+abbrev pub proposalView : Justification → List Certificate → ℕ
+proposalView (Acc number) cs = firstOf cs .view
+proposalView (Commits view block) cs = view + 1
 
 -- "the ground's block"
-abbrev pub blockOf : Justification → List Certificate → ℕ
-blockOf (Acc number) cs = firstOf cs .block
-blockOf (Commits view block) cs = block
+abbrev pub justifiedBlock : Justification → List Certificate → ℕ
+justifiedBlock (Acc number) cs = firstOf cs .block
+justifiedBlock (Commits view block) cs = block
 
 -- "An ACC's signer is the box"; the commits are of the view and block that the caller names.
 abbrev pub isJustified : ℕ → Justification → List Certificate → Bool
@@ -191,7 +189,7 @@ unfoldable pub prepare : Memory → ℕ → ℕ → Justification → List ℕ �
 prepare m i b justification list =
     let r = replica m i in
     let cs = certificatesOf m (numbersOf justification list) in
-    let w = viewOf justification cs in
+    let w = proposalView justification cs in
     issuing m
     (wellFormed m else wrongForm
     ∷ isReplica m i else outOfRange
@@ -202,10 +200,10 @@ prepare m i b justification list =
     ∷ isJustified i justification cs else wrongCertificate
     ∷ leads (faultBound m) w i else wrongCertificate
     ∷ not (eqb b 0) else wrongBlock
-    ∷ eqb (parent m b) (blockOf justification cs) else wrongBlock
+    ∷ eqb (parent m b) (justifiedBlock justification cs) else wrongBlock
     ∷ eqb (r .minView) w else wrongView
     ∷ eqb (r .flag) lowered else wrongView
-    ∷ ltb w (r .viewLimit) else counterTooLow
+    ∷ ltb w (r .viewLimit) else counterLimit
     ∷ [])
     i (flagAt becomes raised ∷ []) (propOf i w b)
 
@@ -223,7 +221,7 @@ store m i number =
     ∷ isKind PROP p else wrongCertificate
     ∷ leads (faultBound m) (p .view) (p .signer) else wrongCertificate
     ∷ leb (r .minView) (p .view) else wrongView
-    ∷ ltb (p .view) (r .viewLimit) else counterTooLow
+    ∷ ltb (p .view) (r .viewLimit) else counterLimit
     ∷ [])
     i
     (storedViewAt becomes p .view
@@ -245,7 +243,7 @@ view m i w =
     ∷ leb w ceiling else outOfRange
     ∷ hasStatus m i live else wrongStatus
     ∷ leb (r .minView) w else wrongView
-    ∷ ltb w (r .viewLimit) else counterTooLow
+    ∷ ltb w (r .viewLimit) else counterLimit
     ∷ [])
     i (flagAt becomes cond (ltb (r .minView) w) lowered (r .flag) ∷ minViewAt becomes w ∷ [])
     (newViewOf i w (r .storedBlock) (r .storedView))
@@ -263,7 +261,7 @@ accumulate m i list =
     ∷ hasStatus m i live else wrongStatus
     ∷ isNewViewQuorum (firstOf cs .view) cs else wrongCertificate
     ∷ [])
-    i [] (accOf i (firstOf cs .view) (latest cs .block) (latest cs .ofView))
+    i [] (accOf i (firstOf cs .view) (greatest cs .block) (greatest cs .ofView))
 
 -- "Decide(box, list): any status; matching commits. Values block, view. If the view is above the shown view, both shown words are set."
 unfoldable pub decide : Memory → ℕ → List ℕ → Rule
@@ -322,7 +320,7 @@ reserve m i =
           wellFormed m else wrongForm
           ∷ isReplica m i else outOfRange
           ∷ not (hasStatus m i retired) else wrongStatus
-          ∷ leb limit ceiling else counterTooLow
+          ∷ leb limit ceiling else counterLimit
           ∷ [];
       first = limit;
       second = 0;
@@ -350,7 +348,7 @@ reply m i number =
     ∷ hasStatus m i live else wrongStatus
     ∷ isKind REQ q else wrongCertificate
     ∷ not (eqb (q .signer) i) else wrongCertificate
-    ∷ leb (q .view) (r .viewLimit) else counterTooLow
+    ∷ leb (q .view) (r .viewLimit) else counterLimit
     ∷ [])
     i (cond (ltb (r .minView) (q .view)) (minViewAt becomes q .view ∷ flagAt becomes lowered ∷ []) [])
     (replyOf i (q .view) (r .storedBlock) (r .storedView) (q .signer) (q .boot))
@@ -361,8 +359,8 @@ reply m i number =
 unfoldable pub recover : Memory → ℕ → List ℕ → Rule
 recover m i list =
     let r = replica m i in
-    let c = latest (certificatesOf m list) in
-    let low = max (r .minView) (c .ofView + 1) in
+    let c = greatest (certificatesOf m list) in
+    let next = max (r .minView) (c .ofView + 1) in
     record {
       needs =
           wellFormed m else wrongForm
@@ -371,14 +369,14 @@ recover m i list =
           ∷ allIssued m list else unknownNumber
           ∷ hasStatus m i recovering else wrongStatus
           ∷ isReplyQuorum i (r .boot) (r .minView) (certificatesOf m list) else wrongCertificate
-          ∷ leb low (r .viewLimit) else counterTooLow
+          ∷ leb next (r .viewLimit) else counterLimit
           ∷ [];
-      first = low;
+      first = next;
       second = c .ofView;
       after =
           update m i
           (statusAt becomes live
-          ∷ minViewAt becomes low
+          ∷ minViewAt becomes next
           ∷ storedViewAt becomes c .ofView
           ∷ storedBlockAt becomes c .block
           ∷ []);

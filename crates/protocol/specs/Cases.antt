@@ -1,6 +1,6 @@
 -- The cases that document 01 marks P ("Edges"), in one table: a start, calls, and the answers expected of them.
 use Prim.Native.Nat.{ℕ}
-use mathlib.Core.List.{List, [], _∷_, _++_, map}
+use mathlib.Core.List.{List, [], _∷_, map}
 use mathlib.Core.Path.{_≡_}
 use lib.ListN.{replicate}
 use Rattle.protocol.specs.declared.Answer.{Answer}
@@ -19,9 +19,18 @@ use Rattle.protocol.specs.declared.Call.the-variants.{
   Reply,
   Recover,
 }
-use Rattle.protocol.specs.declared.Justification.the-variants.{Acc}
+use Rattle.protocol.specs.declared.Justification.the-variants.{Acc, Commits}
 use Rattle.protocol.specs.Memory.{Memory, tableLength, certificateAt, blockAt, viewLimitAt, _becomes_, update}
-use Rattle.protocol.specs.Outcome.{outOfRange, wrongStatus, wrongCertificate, wrongBlock, wrongView, counterTooLow, noRoom}
+use Rattle.protocol.specs.Outcome.{
+  wrongForm,
+  outOfRange,
+  wrongStatus,
+  wrongCertificate,
+  wrongBlock,
+  wrongView,
+  counterLimit,
+  noRoom,
+}
 use Rattle.protocol.specs.Runs.{Invocation, run, answers}
 
 pub record Case : Type 0 where
@@ -118,7 +127,7 @@ cases =
           ∷ accepted 7 0
           ∷ accepted 8 0
           ∷ accepted 64 1
-          ∷ refused counterTooLow
+          ∷ refused counterLimit
           ∷ accepted 128 0
           ∷ accepted 9 0
           ∷ [];
@@ -126,20 +135,32 @@ cases =
     -- "P: f 0 and 31 return 2, 1 and 30 pass."
     ∷ record { start = blank 0; calls = plain (Open 0) ∷ []; expected = refused outOfRange ∷ [] }
     ∷ record { start = blank 31; calls = plain (Open 31) ∷ []; expected = refused outOfRange ∷ [] }
+    -- "Opening tests f before lengths."
+    ∷ record { start = blank 1; calls = plain (Open 31) ∷ plain (Open 2) ∷ []; expected = refused outOfRange ∷ refused wrongForm ∷ [] }
     ∷ record { start = blank 1; calls = plain (Open 1) ∷ []; expected = accepted 3 0 ∷ [] }
     ∷ record { start = blank 30; calls = plain (Open 30) ∷ []; expected = accepted 61 0 ∷ [] }
     -- "P: fresh, View 63 passes, 64 returns 8."
     ∷ record { start = opened; calls = plain (View 0 63) ∷ []; expected = accepted 0 0 ∷ [] }
-    ∷ record { start = opened; calls = plain (View 0 64) ∷ []; expected = refused counterTooLow ∷ [] }
+    ∷ record { start = opened; calls = plain (View 0 64) ∷ []; expected = refused counterLimit ∷ [] }
     -- "P: a list naming one commit twice, 5."
-    ∷ record { start = from script; calls = Decide 0 on (4 ∷ 4 ∷ []) ∷ []; expected = refused wrongCertificate ∷ [] }
+    ∷ record {
+      start = from script;
+      calls = Decide 0 on (4 ∷ 4 ∷ []) ∷ Prepare 2 1 (Commits 1 1) on (4 ∷ 4 ∷ []) ∷ [];
+      expected = refused wrongCertificate ∷ refused wrongCertificate ∷ [];
+    }
+    -- Commits justify a proposal of the view above theirs, once that is the leader's lowest view.
+    ∷ record {
+      start = from script;
+      calls = plain (Block 1) ∷ Prepare 2 2 (Commits 1 1) on (4 ∷ 5 ∷ []) ∷ Prepare 2 2 (Commits 1 0) on (4 ∷ 5 ∷ []) ∷ [];
+      expected = accepted 2 0 ∷ accepted 6 0 ∷ refused wrongCertificate ∷ [];
+    }
     -- "P: block 0 on a ground of block 0, 6."
     ∷ record { start = accumulated; calls = plain (Prepare 1 0 (Acc 2)) ∷ []; expected = refused wrongBlock ∷ [] }
     -- "P: second prepare in a view, 7."
     ∷ record {
       start = accumulated;
-      calls = plain (Prepare 1 1 (Acc 2)) ∷ plain (Prepare 1 1 (Acc 2)) ∷ [];
-      expected = accepted 3 0 ∷ refused wrongView ∷ [];
+      calls = plain (Prepare 1 1 (Acc 2)) ∷ plain (Prepare 1 1 (Acc 2)) ∷ plain (Block 0) ∷ plain (Prepare 1 2 (Acc 2)) ∷ [];
+      expected = accepted 3 0 ∷ refused wrongView ∷ accepted 2 0 ∷ refused wrongView ∷ [];
     }
     -- "P: a full book still answers a repeated View with its old number."
     ∷ record {
@@ -147,12 +168,12 @@ cases =
       calls = plain (Open 1) ∷ plain (View 2 5) ∷ plain (View 1 5) ∷ plain (View 2 5) ∷ [];
       expected = accepted 3 0 ∷ accepted 0 0 ∷ refused noRoom ∷ accepted 0 0 ∷ [];
     }
-    -- "P: at boot 0 and bound 999,936 a reserve gives 1,000,000, the next returns 8, a reboot then gives spent." A spent replica's
-    -- reboot answers its old boot and low, and its reserve 4.
+    -- "P: at boot 0 and bound 999,936 a reserve gives 1,000,000, the next returns 8, a reboot then gives spent." A
+    -- reboot that retires answers the old boot and low; a retired replica's reboot answers them again, and its reserve 4.
     ∷ record {
       start = update opened 0 (viewLimitAt becomes 999936 ∷ []);
-      calls = plain (Reserve 0) ∷ plain (Reserve 0) ∷ plain (Reboot 0) ∷ plain (Reserve 0) ∷ [];
-      expected = accepted 1000000 0 ∷ refused counterTooLow ∷ accepted 0 1 ∷ refused wrongStatus ∷ [];
+      calls = plain (Reserve 0) ∷ plain (Reserve 0) ∷ plain (Reboot 0) ∷ plain (Reboot 0) ∷ plain (Reserve 0) ∷ [];
+      expected = accepted 1000000 0 ∷ refused counterLimit ∷ accepted 0 1 ∷ accepted 0 1 ∷ refused wrongStatus ∷ [];
     }
     ∷ []
 

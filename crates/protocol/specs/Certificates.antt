@@ -1,10 +1,18 @@
 -- Kinds of certificates, and filing one (document 01, "Memory", the paragraph "Kinds").
 use Prim.Native.Nat.{ℕ, zero, suc, _+_}
-use mathlib.Core.Bool.{Bool, true, false, cond, _||_}
+use mathlib.Core.Bool.{Bool, cond, _||_}
 use mathlib.Core.List.{List}
 use lib.ListN.{length, getD}
 use lib.Dec.{ltb, eqb}
-use Rattle.protocol.specs.Memory.{Memory, Certificate, certificateWords, certificateAt, certificateWord, certificateCount, appendCertificate}
+use Rattle.protocol.specs.Memory.{
+  Memory,
+  Certificate,
+  certificateWords,
+  certificateAt,
+  certificateWord,
+  certificateCount,
+  appendCertificate,
+}
 use Rattle.protocol.specs.Form.{allBelow}
 
 -- "Kinds: 1 PROP, 2 COMMIT, 3 NEWVIEW, 4 ACC, 5 REQ, 6 REPLY."

@@ -1,6 +1,6 @@
 -- The form that every call but opening tests (document 01, "Memory", the paragraph "Form").
 use Prim.Native.Nat.{ℕ, zero, suc, _%_}
-use mathlib.Core.Bool.{Bool, true, false, cond, _&&_}
+use mathlib.Core.Bool.{Bool, true, cond, _&&_}
 use mathlib.Core.List.{List, [], _∷_}
 use lib.ListN.{length}
 use lib.Dec.{ltb, leb, eqb}
@@ -81,12 +81,15 @@ replicaFormed added r =
     ∷ ltb (r .decidedBlock) added
     ∷ [])
 
+abbrev pub lastKind : ℕ
+lastKind = 6
+
 -- "in an issued certificate, kind 1 to 6, signer and subject below n, view, of-view and boot ≤ 1,000,000"; its block is a named one
 unfoldable pub certificateFormed : ℕ → ℕ → Certificate → Bool
 certificateFormed replicas added c =
     allHold
     (leb 1 (c .kind)
-    ∷ leb (c .kind) 6
+    ∷ leb (c .kind) lastKind
     ∷ ltb (c .signer) replicas
     ∷ ltb (c .subject) replicas
     ∷ leb (c .view) ceiling

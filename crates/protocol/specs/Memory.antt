@@ -1,8 +1,8 @@
 -- The memory of a ledger (document 01, "Memory"): three lists of words, and where each word stands. "Numbers are decimal, words are
--- 32-bit unsigned": here a word is any number, so that what is proved holds for words of every width.
-use Prim.Native.Nat.{ℕ, suc, _+_, _*_}
+-- 32-bit unsigned": here a word is any number, so that what is proved holds for any contents.
+use Prim.Native.Nat.{ℕ, _+_, _*_}
 use mathlib.Core.List.{List, [], _∷_}
-use lib.ListN.{length, getD, set}
+use lib.ListN.{getD, set}
 use lib.Seq.{sets}
 
 -- "Three word slices are lent." Document 01's table, book and blocks.
@@ -52,9 +52,11 @@ abbrev pub replicaWords : ℕ
 replicaWords = 9
 
 abbrev pub rowAt : ℕ → ℕ
-rowAt replica = rowStart + replicaWords * replica
+rowAt i = rowStart + replicaWords * i
 
 -- "then nine words a box: status (0 live, 1 waiting, 2 spent), boot, low, bound, flag, stored view, stored block, shown view, shown block."
+-- Here low is minView, the lowest view that the replica may still sign in; bound is viewLimit, the first that it may not sign in before
+-- its counter is moved; shown is decided; waiting is recovering and spent is retired.
 abbrev pub statusAt : ℕ
 statusAt = 0
 
@@ -82,7 +84,6 @@ decidedViewAt = 7
 abbrev pub decidedBlockAt : ℕ
 decidedBlockAt = 8
 
--- Document 01's waiting is recovering, its spent is retired.
 abbrev pub live : ℕ
 live = 0
 
@@ -92,7 +93,7 @@ recovering = 1
 abbrev pub retired : ℕ
 retired = 2
 
--- The flag: raised once the replica has proposed in its lowest view.
+-- The flag: raised once the replica has proposed in the view minView.
 abbrev pub lowered : ℕ
 lowered = 0
 
@@ -140,6 +141,27 @@ certificateWords = 7
 abbrev pub certificateAt : ℕ → ℕ
 certificateAt c = certificateWords * c
 
+abbrev pub kindAt : ℕ
+kindAt = 0
+
+abbrev pub signerAt : ℕ
+signerAt = 1
+
+abbrev pub viewAt : ℕ
+viewAt = 2
+
+abbrev pub proposedBlockAt : ℕ
+proposedBlockAt = 3
+
+abbrev pub ofViewAt : ℕ
+ofViewAt = 4
+
+abbrev pub subjectAt : ℕ
+subjectAt = 5
+
+abbrev pub subjectBootAt : ℕ
+subjectBootAt = 6
+
 pub record Certificate : Type 0 where
   pub kind : ℕ
   pub signer : ℕ
@@ -155,13 +177,13 @@ certificateWord m c k = getD (m .log) (certificateAt c + k) 0
 abbrev pub certificate : Memory → ℕ → Certificate
 certificate m c =
     record {
-      kind = certificateWord m c 0;
-      signer = certificateWord m c 1;
-      view = certificateWord m c 2;
-      block = certificateWord m c 3;
-      ofView = certificateWord m c 4;
-      subject = certificateWord m c 5;
-      boot = certificateWord m c 6;
+      kind = certificateWord m c kindAt;
+      signer = certificateWord m c signerAt;
+      view = certificateWord m c viewAt;
+      block = certificateWord m c proposedBlockAt;
+      ofView = certificateWord m c ofViewAt;
+      subject = certificateWord m c subjectAt;
+      boot = certificateWord m c subjectBootAt;
     }
 
 -- The words of a certificate, as they stand in the log.

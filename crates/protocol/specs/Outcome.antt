@@ -1,6 +1,6 @@
 -- What a call gives: its answer and the memory it leaves; and the table of refusals (document 01, "Calls").
 use Prim.Native.Nat.{ℕ, zero, suc}
-use mathlib.Core.Bool.{Bool, true, false, cond}
+use mathlib.Core.Bool.{Bool, cond}
 use mathlib.Core.List.{List, [], _∷_}
 use Rattle.protocol.specs.declared.Answer.{Answer}
 use Rattle.protocol.specs.Memory.{Memory}
@@ -9,7 +9,7 @@ pub record Outcome : Type 0 where
   pub answer : Answer
   pub memory : Memory
 
--- The column "Returned" of the table.
+-- The column "Returned" of the table. 0 is "accepted"; 10, "script line unreadable", is the program's alone.
 -- "lengths or form wrong (opening: lengths only)"
 abbrev pub wrongForm : ℕ
 wrongForm = 1
@@ -39,8 +39,8 @@ abbrev pub wrongView : ℕ
 wrongView = 7
 
 -- "meter: bound not above the view, or below what reply or recover needs, or reserve past 1,000,000"
-abbrev pub counterTooLow : ℕ
-counterTooLow = 8
+abbrev pub counterLimit : ℕ
+counterLimit = 8
 
 -- "no free place for a new block or certificate"
 abbrev pub noRoom : ℕ

@@ -68,9 +68,9 @@ isReplyQuorum replica boot view cs =
     ∷ [])
 
 -- "the greatest of-view, the first in the list if several": the one so far, against the rest of the list.
-unfoldable pub latestFrom : Certificate → List Certificate → Certificate
-latestFrom best [] = best
-latestFrom best (c ∷ cs) = latestFrom (cond (ltb (best .ofView) (c .ofView)) c best) cs
+unfoldable pub greatestFrom : Certificate → List Certificate → Certificate
+greatestFrom best [] = best
+greatestFrom best (c ∷ cs) = greatestFrom (cond (ltb (best .ofView) (c .ofView)) c best) cs
 
-abbrev pub latest : List Certificate → Certificate
-latest cs = latestFrom (firstOf cs) cs
+abbrev pub greatest : List Certificate → Certificate
+greatest cs = greatestFrom (firstOf cs) cs

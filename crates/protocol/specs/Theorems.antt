@@ -1,5 +1,6 @@
--- What holds of the rules, for every call and any contents of the memory: demand 1 of the definitions, and the order of refusals.
--- Each type here is a statement; proofs/ has a proof of it under the same name in lower case.
+-- What holds of the rules, for every call and any contents of the memory: what a refused call leaves, what an accepted one leaves and
+-- may change, what is not read, and which refusal is returned. Each type here is a statement, proved in proofs/ under the same name in
+-- lower case with hyphens.
 use Prim.Native.Nat.{ℕ, zero, suc, _+_, _≤_, _<_}
 use mathlib.Core.Path.{_≡_}
 use mathlib.Core.Bool.{Bool, true, false}
@@ -40,32 +41,34 @@ use Rattle.protocol.specs.Memory.{
   certificateAt,
   blockAt,
 }
-use Rattle.protocol.specs.Form.{wellFormed}
-use Rattle.protocol.specs.Outcome.{Outcome, Need, _else_, Rule}
+use Rattle.protocol.specs.Form.{isFaultBound, wellFormed}
+use Rattle.protocol.specs.Outcome.{Outcome, _else_, Rule, outOfRange}
 use Rattle.protocol.specs.Runs.{ruleOf, step}
 
 -- A call is accepted: its number is 0.
 abbrev pub Accepted : Outcome → Type 0
 Accepted o = o .answer .number ≡ 0
 
--- ---- "a refused call leaves every word and returns its number and two zeros"
+-- ---- A refused call returns the number of a need that fails and two zeros, and leaves every word.
 
-pub record Unchanged (m : Memory) (o : Outcome) : Type 0 where
+pub record Refused (m : Memory) (rule : Rule) (o : Outcome) : Type 0 where
+  pub number : List·Memᴰ (false else o .answer .number) (rule .needs)
   pub memory : o .memory ≡ m
   pub first : o .answer .first ≡ 0
   pub second : o .answer .second ≡ 0
 
 unfoldable pub RefusedChangesNothing : Type 0
 RefusedChangesNothing =
-    (m : Memory) (call : Call) (list : List ℕ) → (Accepted (step m call list) → ⊥) → Unchanged m (step m call list)
+    (m : Memory) (call : Call) (list : List ℕ) → (Accepted (step m call list)
+    → ⊥) → Refused m (ruleOf m call list) (step m call list)
 
--- ---- an accepted call "leaves well-formed memory", opening from any earlier contents too
+-- ---- An accepted call leaves well-formed memory, opening from any earlier contents too.
 
 unfoldable pub AcceptedLeavesForm : Type 0
 AcceptedLeavesForm =
     (m : Memory) (call : Call) (list : List ℕ) → Accepted (step m call list) → wellFormed (step m call list .memory) ≡ true
 
--- ---- "an accepted call changes only the words named for it"
+-- ---- A call changes at most the words named for it.
 
 -- A word of the memory: its slice and its index.
 pub data Place : Type 0 where
@@ -91,7 +94,7 @@ certificatePlaces m =
 abbrev pub blockPlaces : Memory → List Place
 blockPlaces m = tableWord blockCountAt ∷ blockWord (blockAt (blockCount m)) ∷ []
 
--- The words named for each call.
+-- The words named for each call: those that it may change where it is accepted.
 unfoldable pub named : Memory → Call → List Place
 named m (Open f) = blockWord (blockAt 0) ∷ map tableWord (below (length (m .table)))
 named m (Block p) = blockPlaces m
@@ -155,7 +158,7 @@ isOpening (Request i) = false
 isOpening (Reply i number) = false
 isOpening (Recover i) = false
 
--- Of the needs that fail, none has a lower number than the one returned; and what is returned is not 0.
+-- Where a need fails the call is refused, with a number that is not above that of the need.
 pub record Lowest (o : Outcome) (number : ℕ) : Type 0 where
   pub refused : 1 ≤ o .answer .number
   pub least : o .answer .number ≤ number
@@ -164,3 +167,7 @@ unfoldable pub LowestWins : Type 0
 LowestWins =
     (m : Memory) (call : Call) (list : List ℕ) → isOpening call ≡ false → (number : ℕ)
     → List·Memᴰ (false else number) (ruleOf m call list .needs) → Lowest (step m call list) number
+
+unfoldable pub OpeningTestsFaultsFirst : Type 0
+OpeningTestsFaultsFirst =
+    (m : Memory) (f : ℕ) (list : List ℕ) → isFaultBound f ≡ false → step m (Open f) list .answer .number ≡ outOfRange

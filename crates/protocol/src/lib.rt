@@ -15,18 +15,27 @@ pub enum Justification {
 }
 
 // The twelve calls of document 01. A replica comes first, where the call has one. The list of certificate numbers that some calls
-// have stands beside the call.
+// have stands beside the call: the commits of a Prepare, and the list of Accumulate, Decide and Recover. Any other call, and a Prepare
+// on an ACC, passes over what stands there.
 pub enum Call {
+    // f
     Open(u32),
+    // the parent
     Block(u32),
+    // replica, block
     Prepare(u32, u32, Justification),
+    // replica, the number of a PROP
     Store(u32, u32),
+    // replica, view
     View(u32, u32),
+    // replica
     Accumulate(u32),
     Decide(u32),
     Reboot(u32),
     Reserve(u32),
     Request(u32),
+    // replica, the number of a REQ
     Reply(u32, u32),
+    // replica
     Recover(u32),
 }

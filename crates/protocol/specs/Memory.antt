@@ -11,6 +11,9 @@ pub record Memory : Type 0 where
   pub log : List ℕ
   pub blocks : List ℕ
 
+abbrev pub memory : List ℕ → List ℕ → List ℕ → Memory
+memory t l b = record { table = t; log = l; blocks = b }
+
 -- "f is 1 to 30"
 abbrev pub maxFaultBound : ℕ
 maxFaultBound = 30

@@ -3,11 +3,15 @@ use Prim.Native.Nat.{ℕ, zero, suc}
 use mathlib.Core.Bool.{Bool, cond}
 use mathlib.Core.List.{List, [], _∷_}
 use Rattle.protocol.specs.declared.Answer.{Answer}
-use Rattle.protocol.specs.Memory.{Memory}
+use Rattle.protocol.specs.Memory.{Memory, memory}
 
 pub record Outcome : Type 0 where
   pub answer : Answer
   pub memory : Memory
+
+-- An answer, with what the three slices hold then.
+abbrev pub left : Answer → List ℕ → List ℕ → List ℕ → Outcome
+left a t l b = record { answer = a; memory = memory t l b }
 
 -- The column "Returned" of the table. 0 is "accepted"; 10, "script line unreadable", is the program's alone.
 -- "lengths or form wrong (opening: lengths only)"

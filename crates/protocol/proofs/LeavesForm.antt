@@ -65,15 +65,15 @@ use Rattle.protocol.proofs.Opened.{opened, opened-formed}
 abbrev InRange : Memory → Certificate → Type 0
 InRange m c = certificateFormed (replicaCount (faultBound m)) (blockCount m) c ≡ true
 
-opening-leaves : (m : Memory) (f : ℕ) → Holds (opening m f .needs) → Formed (opening m f .after)
+pub opening-leaves : (m : Memory) (f : ℕ) → Holds (opening m f .needs) → Formed (opening m f .after)
 unfolding opening
 opening-leaves m f h = opened-formed m f _ (h .0) (h .1 .0) (opened m f (h .1 .0))
 
-block-leaves : (m : Memory) (p : ℕ) → Holds (block m p .needs) → Formed (block m p .after)
+pub block-leaves : (m : Memory) (p : ℕ) → Holds (block m p .needs) → Formed (block m p .after)
 unfolding block
 block-leaves m p h = block-keeps m p (formed m (h .0)) (omega tests) (omega tests)
 
-store-leaves : (m : Memory) (i number : ℕ) → Holds (store m i number .needs) → Formed (store m i number .after)
+pub store-leaves : (m : Memory) (i number : ℕ) → Holds (store m i number .needs) → Formed (store m i number .after)
 unfolding store replicaFormed certificateFormed
 store-leaves m i number hold =
     let h = issuing-needs m _ i _ _ hold .0 in
@@ -82,7 +82,7 @@ store-leaves m i number hold =
     let p = each _ (z .log number (omega tests)) in
     issuing-keeps m _ i _ _ hold z (h .1 .0) (all-hold _ (omega tests)) (record { within = refl; row = all-hold _ (omega tests) })
 
-prepare-leaves : (m : Memory) (i b : ℕ) (j : Justification) (list : List ℕ) → Holds (prepare m i b j list .needs)
+pub prepare-leaves : (m : Memory) (i b : ℕ) (j : Justification) (list : List ℕ) → Holds (prepare m i b j list .needs)
     → Formed (prepare m i b j list .after)
 unfolding prepare replicaFormed certificateFormed
 prepare-leaves m i b j list hold =
@@ -91,7 +91,7 @@ prepare-leaves m i b j list hold =
     let r = each _ (z .rows i (omega tests)) in
     issuing-keeps m _ i _ _ hold z (h .1 .0) (all-hold _ (omega tests)) (record { within = refl; row = all-hold _ (omega tests) })
 
-view-leaves : (m : Memory) (i w : ℕ) → Holds (view m i w .needs) → Formed (view m i w .after)
+pub view-leaves : (m : Memory) (i w : ℕ) → Holds (view m i w .needs) → Formed (view m i w .after)
 unfolding view replicaFormed certificateFormed
 view-leaves m i w hold =
     let h = issuing-needs m _ i _ _ hold .0 in
@@ -104,7 +104,7 @@ view-leaves m i w hold =
     small true l = omega arith
     small false l = l
 
-accumulate-leaves : (m : Memory) (i : ℕ) (list : List ℕ) → Holds (accumulate m i list .needs)
+pub accumulate-leaves : (m : Memory) (i : ℕ) (list : List ℕ) → Holds (accumulate m i list .needs)
     → Formed (accumulate m i list .after)
 unfolding accumulate replicaFormed certificateFormed
 accumulate-leaves m i list hold =
@@ -116,7 +116,7 @@ accumulate-leaves m i list hold =
     let g = each _ (greatest-named (InRange m) m list (h .1 .1 .0) cs) in
     issuing-keeps m _ i _ _ hold z (h .1 .0) (all-hold _ (omega tests)) (record { within = refl; row = all-hold _ (omega tests) })
 
-decide-leaves : (m : Memory) (i : ℕ) (list : List ℕ) → Holds (decide m i list .needs) → Formed (decide m i list .after)
+pub decide-leaves : (m : Memory) (i : ℕ) (list : List ℕ) → Holds (decide m i list .needs) → Formed (decide m i list .after)
 unfolding decide replicaFormed certificateFormed
 decide-leaves m i list h =
     let z = formed m (h .0) in
@@ -135,7 +135,7 @@ in-range m i e =
     let b = or-false (eqb (replica m i .status) retired) _ (a .0) in
     omega tests
 
-reboot-leaves : (m : Memory) (i : ℕ) → Holds (reboot m i .needs) → Formed (reboot m i .after)
+pub reboot-leaves : (m : Memory) (i : ℕ) → Holds (reboot m i .needs) → Formed (reboot m i .after)
 unfolding reboot replicaFormed
 reboot-leaves m i h =
     let z = formed m (h .0) in
@@ -146,14 +146,14 @@ reboot-leaves m i h =
     let fits = in-range m i e in
     update-keeps m i _ z (h .1 .0) (record { within = refl; row = all-hold _ (omega tests) }))
 
-reserve-leaves : (m : Memory) (i : ℕ) → Holds (reserve m i .needs) → Formed (reserve m i .after)
+pub reserve-leaves : (m : Memory) (i : ℕ) → Holds (reserve m i .needs) → Formed (reserve m i .after)
 unfolding reserve replicaFormed
 reserve-leaves m i h =
     let z = formed m (h .0) in
     let r = each _ (z .rows i (omega tests)) in
     update-keeps m i _ z (h .1 .0) (record { within = refl; row = all-hold _ (omega tests) })
 
-request-leaves : (m : Memory) (i : ℕ) → Holds (request m i .needs) → Formed (request m i .after)
+pub request-leaves : (m : Memory) (i : ℕ) → Holds (request m i .needs) → Formed (request m i .after)
 unfolding request replicaFormed certificateFormed
 request-leaves m i hold =
     let h = issuing-needs m _ i _ _ hold .0 in
@@ -161,7 +161,7 @@ request-leaves m i hold =
     let r = each _ (z .rows i (omega tests)) in
     issuing-keeps m _ i _ _ hold z (h .1 .0) (all-hold _ (omega tests)) (record { within = refl; row = all-hold _ (omega tests) })
 
-reply-leaves : (m : Memory) (i number : ℕ) → Holds (reply m i number .needs) → Formed (reply m i number .after)
+pub reply-leaves : (m : Memory) (i number : ℕ) → Holds (reply m i number .needs) → Formed (reply m i number .after)
 unfolding reply replicaFormed certificateFormed
 reply-leaves m i number hold =
     let h = issuing-needs m _ i _ _ hold .0 in
@@ -173,7 +173,7 @@ reply-leaves m i number hold =
     (λ e. record { within = refl; row = all-hold _ (omega tests) })
     (λ e. record { within = refl; row = all-hold _ (omega tests) }))
 
-recover-leaves : (m : Memory) (i : ℕ) (list : List ℕ) → Holds (recover m i list .needs) → Formed (recover m i list .after)
+pub recover-leaves : (m : Memory) (i : ℕ) (list : List ℕ) → Holds (recover m i list .needs) → Formed (recover m i list .after)
 unfolding recover replicaFormed certificateFormed
 recover-leaves m i list h =
     let z = formed m (h .0) in

@@ -14,3 +14,12 @@ pub mod LeavesForm
 pub mod Frame
 pub mod Alike
 pub mod Unread
+pub mod Line
+pub mod Meeting
+pub mod Safety
+pub mod Moves
+pub mod Acts
+pub mod Quorums
+pub mod SafeParts
+pub mod SafeCalls
+pub mod SafePrepare

@@ -9,5 +9,7 @@ pub mod Quorum
 pub mod Outcome
 pub mod Calls
 pub mod Runs
+pub mod History
 pub mod Theorems
+pub mod Agreement
 pub mod Cases

@@ -1,0 +1,78 @@
+-- Lines of parents: a block's ancestors, as the steps up to them; and what the tests and heights of specs/Ancestry.antt say of them.
+use Prim.Native.Nat.{ℕ, zero, suc, _+_, _≤_, _<_}
+use mathlib.Core.Path.{_≡_, refl, sym, ap, _∙_}
+use mathlib.Core.Bool.{Bool, true, false, cond, not, _&&_, _||_}
+use native.Mathlib.Omega.{arith}
+use lib.Dec.{ltb, eqb}
+use Rattle.protocol.specs.Ancestry.{inLine, isAncestorBy, stepsToRoot, heightBy}
+use Rattle.protocol.proofs.Tests.{tests, by-test, by-cond}
+
+-- Block a is block b, or is in the line of b's parent, for b not 0.
+pub data Line (parentOf : ℕ → ℕ) (a : ℕ) : ℕ → Type 0 where
+  self : Line parentOf a a
+  up : {b : ℕ} → (b ≡ 0 → ⊥) → Line parentOf a (parentOf b) → Line parentOf a b
+
+-- Each parent is below its block, for the blocks below a count.
+abbrev pub Falls : (ℕ → ℕ) → ℕ → Type 0
+Falls parentOf count = (b : ℕ) → b < count → (b ≡ 0 → ⊥) → parentOf b < b
+
+-- ---- lines are the same where the parents are
+
+pub line-same : (p q : ℕ → ℕ) (count : ℕ) → Falls p count → ((b : ℕ) → b < count → p b ≡ q b) → {a b : ℕ} → b < count → Line p a b → Line q a b
+line-same p q count falls same l self = self
+line-same p q count falls same {a} {b} l (up n w) =
+    let lower = falls b l n in
+    let e = same b l in
+    up n (rw (← e) (line-same p q count falls same (omega arith) w))
+
+-- ---- the test, and the height, by steps: more steps than the block's number change nothing
+
+line-found : (p : ℕ → ℕ) (count : ℕ) → Falls p count → {a b : ℕ} → (steps : ℕ) → b ≤ steps → b < count → Line p a b → inLine p steps a b ≡ true
+unfolding inLine
+line-found p count falls zero le l self = omega tests
+line-found p count falls {a} (suc steps) le l self = let e : eqb a a ≡ true = omega tests in rw e refl
+line-found p count falls {a} {b} zero le l (up n w) = absurd (n (omega arith))
+line-found p count falls {a} {b} (suc steps) le l (up n w) =
+    let lower = falls b l n in
+    let found = line-found p count falls steps (omega arith) (omega arith) w in
+    let e : eqb b 0 ≡ false = omega tests in
+    rw (e, found) (either (eqb a b))
+  where
+    either : (t : Bool) → (t || true) ≡ true
+    either true = refl
+    either false = refl
+
+pub is-ancestor : (p : ℕ → ℕ) (count : ℕ) → Falls p count → {a b : ℕ} → b < count → Line p a b → isAncestorBy p a b ≡ true
+is-ancestor p count falls {a} {b} l w = line-found p count falls b (omega arith) l w
+
+-- Heights with steps to spare.
+steps-same : (p q : ℕ → ℕ) (count : ℕ) → Falls p count → ((b : ℕ) → b < count → p b ≡ q b) → (b s t : ℕ) → b < count → b ≤ s → b ≤ t → stepsToRoot p s b ≡ stepsToRoot q t b
+unfolding stepsToRoot
+steps-same p q count falls same b zero zero l x y = refl
+steps-same p q count falls same b zero (suc t) l x y = let e : eqb b 0 ≡ true = omega tests in rw e refl
+steps-same p q count falls same b (suc s) zero l x y = let e : eqb b 0 ≡ true = omega tests in rw e refl
+steps-same p q count falls same b (suc s) (suc t) l x y =
+    by-test (eqb b 0) (λ e. rw e refl)
+    (λ e.
+      let lower = falls b l (omega tests) in
+      rw (e, ← same b l, steps-same p q count falls same (p b) s t (omega arith) (omega arith) (omega arith)) refl)
+
+pub height-same : (p q : ℕ → ℕ) (count : ℕ) → Falls p count → ((b : ℕ) → b < count → p b ≡ q b) → (b : ℕ) → b < count → heightBy p b ≡ heightBy q b
+height-same p q count falls same b l = steps-same p q count falls same b b b l (omega arith) (omega arith)
+
+pub height-up : (p : ℕ → ℕ) (count : ℕ) → Falls p count → (b : ℕ) → b < count → (b ≡ 0 → ⊥) → heightBy p b ≡ heightBy p (p b) + 1
+unfolding stepsToRoot
+height-up p count falls zero l n = absurd (n refl)
+height-up p count falls (suc b) l n =
+    let lower = falls (suc b) l n in
+    let e : eqb (suc b) 0 ≡ false = omega tests in
+    rw e (ap (λ (h : ℕ). h + 1) (steps-same p p count falls (λ x y. refl) (p (suc b)) b (p (suc b)) (omega arith) (omega arith) (omega arith)))
+
+-- An ancestor is not higher.
+pub height-line : (p : ℕ → ℕ) (count : ℕ) → Falls p count → {a b : ℕ} → b < count → Line p a b → heightBy p a ≤ heightBy p b
+height-line p count falls l self = omega arith
+height-line p count falls {a} {b} l (up n w) =
+    let lower = falls b l n in
+    let e = height-up p count falls b l n in
+    let h = height-line p count falls (omega arith) w in
+    omega arith

@@ -1,0 +1,84 @@
+-- What the calls of a list and their answers tell (document 01, "Whole lists of calls"): the parents given, the decisions named, the panels.
+-- Nothing here reads a word of the memory.
+use Prim.Native.Nat.{ℕ}
+use mathlib.Core.Bool.{cond}
+use mathlib.Core.List.{List, [], _∷_}
+use lib.Dec.{ltb, eqb}
+use Rattle.protocol.specs.declared.Answer.{Answer}
+use Rattle.protocol.specs.declared.Call.{Call}
+use Rattle.protocol.specs.declared.Call.the-variants.{
+  Open, Block, Prepare, Store, View, Accumulate, Decide, Reboot, Reserve, Request, Reply, Recover
+}
+use Rattle.protocol.specs.Memory.{Memory}
+use Rattle.protocol.specs.Ancestry.{heightBy}
+use Rattle.protocol.specs.Runs.{Invocation, step}
+
+-- What a call is to the history: an accepted Open, an accepted Block with the number it returned and the parent it was given, an accepted
+-- Decide with the block and the view it returned, or anything else, every refused call included.
+pub data Event : Type 0 where
+  reopened : Event
+  added : ℕ → ℕ → Event
+  decided : ℕ → ℕ → ℕ → Event
+  other : Event
+
+abbrev pub acceptedEvent : Call → Answer → Event
+acceptedEvent (Open f) a = reopened
+acceptedEvent (Block p) a = added (a .first) p
+acceptedEvent (Prepare i b justification) a = other
+acceptedEvent (Store i number) a = other
+acceptedEvent (View i w) a = other
+acceptedEvent (Accumulate i) a = other
+acceptedEvent (Decide i) a = decided i (a .first) (a .second)
+acceptedEvent (Reboot i) a = other
+acceptedEvent (Reserve i) a = other
+acceptedEvent (Request i) a = other
+acceptedEvent (Reply i number) a = other
+acceptedEvent (Recover i) a = other
+
+unfoldable pub eventOf : Call → Answer → Event
+eventOf call a = cond (eqb (a .number) 0) (acceptedEvent call a) other
+
+-- The events of a list of calls, the newest first, after those of an earlier list.
+unfoldable pub history : List Event → Memory → List Invocation → List Event
+history past m [] = past
+history past m (q ∷ qs) =
+    let o = step m (q .call) (q .list) in
+    history (eventOf (q .call) (o .answer) ∷ past) (o .memory) qs
+
+-- "A block's parent is the one that its accepted Block call was given"; block 0 has parent 0.
+unfoldable pub givenParent : List Event → ℕ → ℕ
+givenParent [] b = 0
+givenParent (reopened ∷ past) b = givenParent past b
+givenParent (added number p ∷ past) b = cond (eqb b number) p (givenParent past b)
+givenParent (decided i c v ∷ past) b = givenParent past b
+givenParent (other ∷ past) b = givenParent past b
+
+-- "the block named by its accepted Decide of greatest view so far (the first if several), or block 0 if there is none"
+pub data Shown : Type 0 where
+  none : Shown
+  _inView_ : ℕ → ℕ → Shown
+
+infix 68 _inView_
+
+unfoldable pub later : Shown → ℕ → ℕ → Shown
+later none b v = b inView v
+later (c inView w) b v = cond (ltb w v) (b inView v) (c inView w)
+
+unfoldable pub shown : List Event → ℕ → Shown
+shown [] i = none
+shown (reopened ∷ past) i = shown past i
+shown (added number p ∷ past) i = shown past i
+shown (decided j b v ∷ past) i = cond (eqb i j) (later (shown past i) b v) (shown past i)
+shown (other ∷ past) i = shown past i
+
+abbrev pub shownBlock : Shown → ℕ
+shownBlock none = 0
+shownBlock (b inView v) = b
+
+abbrev pub shownView : Shown → ℕ
+shownView none = 0
+shownView (b inView v) = v
+
+-- "A box's panel shows the height of its shown block"; "lines and heights go by these" parents.
+unfoldable pub panel : List Event → ℕ → ℕ
+panel past i = heightBy (givenParent past) (shownBlock (shown past i))

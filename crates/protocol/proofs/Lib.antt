@@ -23,3 +23,6 @@ pub mod Quorums
 pub mod SafeParts
 pub mod SafeCalls
 pub mod SafePrepare
+pub mod SafeEnds
+pub mod Reached
+pub mod Agreement

@@ -1,11 +1,11 @@
 -- Lines of parents: a block's ancestors, as the steps up to them; and what the tests and heights of specs/Ancestry.antt say of them.
 use Prim.Native.Nat.{ℕ, zero, suc, _+_, _≤_, _<_}
-use mathlib.Core.Path.{_≡_, refl, sym, ap, _∙_}
-use mathlib.Core.Bool.{Bool, true, false, cond, not, _&&_, _||_}
+use mathlib.Core.Path.{_≡_, refl, ap}
+use mathlib.Core.Bool.{Bool, true, false, not, _||_}
 use native.Mathlib.Omega.{arith}
-use lib.Dec.{ltb, eqb}
+use lib.Dec.{eqb}
 use Rattle.protocol.specs.Ancestry.{inLine, isAncestorBy, stepsToRoot, heightBy}
-use Rattle.protocol.proofs.Tests.{tests, by-test, by-cond}
+use Rattle.protocol.proofs.Tests.{tests, by-test}
 
 -- Block a is block b, or is in the line of b's parent, for b not 0.
 pub data Line (parentOf : ℕ → ℕ) (a : ℕ) : ℕ → Type 0 where
@@ -18,7 +18,8 @@ Falls parentOf count = (b : ℕ) → b < count → (b ≡ 0 → ⊥) → parentO
 
 -- ---- lines are the same where the parents are
 
-pub line-same : (p q : ℕ → ℕ) (count : ℕ) → Falls p count → ((b : ℕ) → b < count → p b ≡ q b) → {a b : ℕ} → b < count → Line p a b → Line q a b
+pub line-same : (p q : ℕ → ℕ) (count : ℕ) → Falls p count → ((b : ℕ) → b < count → p b ≡ q b) → {a b : ℕ} → b < count → Line p a b
+    → Line q a b
 line-same p q count falls same l self = self
 line-same p q count falls same {a} {b} l (up n w) =
     let lower = falls b l n in
@@ -27,7 +28,8 @@ line-same p q count falls same {a} {b} l (up n w) =
 
 -- ---- the test, and the height, by steps: more steps than the block's number change nothing
 
-line-found : (p : ℕ → ℕ) (count : ℕ) → Falls p count → {a b : ℕ} → (steps : ℕ) → b ≤ steps → b < count → Line p a b → inLine p steps a b ≡ true
+line-found : (p : ℕ → ℕ) (count : ℕ) → Falls p count → {a b : ℕ} → (steps : ℕ) → b ≤ steps → b < count → Line p a b
+    → inLine p steps a b ≡ true
 unfolding inLine
 line-found p count falls zero le l self = omega tests
 line-found p count falls {a} (suc steps) le l self = let e : eqb a a ≡ true = omega tests in rw e refl
@@ -46,7 +48,8 @@ pub is-ancestor : (p : ℕ → ℕ) (count : ℕ) → Falls p count → {a b : �
 is-ancestor p count falls {a} {b} l w = line-found p count falls b (omega arith) l w
 
 -- Heights with steps to spare.
-steps-same : (p q : ℕ → ℕ) (count : ℕ) → Falls p count → ((b : ℕ) → b < count → p b ≡ q b) → (b s t : ℕ) → b < count → b ≤ s → b ≤ t → stepsToRoot p s b ≡ stepsToRoot q t b
+steps-same : (p q : ℕ → ℕ) (count : ℕ) → Falls p count → ((b : ℕ) → b < count → p b ≡ q b) → (b s t : ℕ) → b < count → b ≤ s
+    → b ≤ t → stepsToRoot p s b ≡ stepsToRoot q t b
 unfolding stepsToRoot
 steps-same p q count falls same b zero zero l x y = refl
 steps-same p q count falls same b zero (suc t) l x y = let e : eqb b 0 ≡ true = omega tests in rw e refl
@@ -54,10 +57,11 @@ steps-same p q count falls same b (suc s) zero l x y = let e : eqb b 0 ≡ true 
 steps-same p q count falls same b (suc s) (suc t) l x y =
     by-test (eqb b 0) (λ e. rw e refl)
     (λ e.
-      let lower = falls b l (omega tests) in
-      rw (e, ← same b l, steps-same p q count falls same (p b) s t (omega arith) (omega arith) (omega arith)) refl)
+    let lower = falls b l (omega tests) in
+    rw (e, ← same b l, steps-same p q count falls same (p b) s t (omega arith) (omega arith) (omega arith)) refl)
 
-pub height-same : (p q : ℕ → ℕ) (count : ℕ) → Falls p count → ((b : ℕ) → b < count → p b ≡ q b) → (b : ℕ) → b < count → heightBy p b ≡ heightBy q b
+pub height-same : (p q : ℕ → ℕ) (count : ℕ) → Falls p count → ((b : ℕ) → b < count → p b ≡ q b) → (b : ℕ) → b < count
+    → heightBy p b ≡ heightBy q b
 height-same p q count falls same b l = steps-same p q count falls same b b b l (omega arith) (omega arith)
 
 pub height-up : (p : ℕ → ℕ) (count : ℕ) → Falls p count → (b : ℕ) → b < count → (b ≡ 0 → ⊥) → heightBy p b ≡ heightBy p (p b) + 1

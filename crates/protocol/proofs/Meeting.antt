@@ -1,13 +1,13 @@
 -- Quorums meet, for every f: two lists of f+1 different numbers below 2f+1 share a member.
-use Prim.Native.Nat.{ℕ, zero, suc, _+_, _*_, _≤_, _<_}
-use mathlib.Core.Path.{_≡_, refl, sym, ap, _∙_}
-use mathlib.Core.Bool.{Bool, true, false, cond, not, _&&_, _||_}
+use Prim.Native.Nat.{ℕ, zero, suc, _+_, _≤_, _<_}
+use mathlib.Core.Path.{_≡_, refl, ap}
+use mathlib.Core.Bool.{Bool, true, false, cond, not, _||_}
 use mathlib.Core.Logic.{_⊎_, inl, inr, ⊎-elim}
 use mathlib.Core.List.{List, [], _∷_, _++_}
 use native.Mathlib.Omega.{arith}
 use borrow.Author.Tests.{not-true}
 use lib.ListN.{length, length-append}
-use lib.Dec.{ltb, eqb}
+use lib.Dec.{eqb}
 use Rattle.protocol.specs.Memory.{replicaCount}
 use Rattle.protocol.specs.Quorum.{contains, distinct}
 use Rattle.protocol.proofs.Tests.{tests, by-test, by-cond, and-true, or-false}
@@ -48,9 +48,9 @@ without-length x (y ∷ ys) d =
     let a = apart y ys d in
     by-test (eqb x y)
     (λ e.
-      let q : x ≡ y = omega tests in
-      let same = without-same y ys (a .0) in
-      rw e (rw q (omega arith)))
+    let q : x ≡ y = omega tests in
+    let same = without-same y ys (a .0) in
+    rw e (rw q (omega arith)))
     (λ e. let shorter = without-length x ys (a .1) in rw e (omega arith))
 
 without-absent : (z x : ℕ) (l : List ℕ) → contains z l ≡ false → contains z (without x l) ≡ false
@@ -105,8 +105,8 @@ search-shared (x ∷ xs) R =
     by-test (contains x R)
     (λ e. inl (record { member = x; left = let s : eqb x x ≡ true = omega tests in rw s refl; right = e }))
     (λ e.
-      ⊎-elim (λ s. inl (record { member = s .member; left = rw (s .left) (either (eqb (s .member) x)); right = s .right }))
-      (λ m. inr (e, m)) (search-shared xs R))
+    ⊎-elim (λ s. inl (record { member = s .member; left = rw (s .left) (either (eqb (s .member) x)); right = s .right }))
+    (λ m. inr (e, m)) (search-shared xs R))
   where
     either : (t : Bool) → (t || true) ≡ true
     either true = refl
@@ -139,8 +139,8 @@ pub meet : (f : ℕ) (Q R : List ℕ) → Quorum f Q → Quorum f R → Shared Q
 meet f Q R q r =
     ⊎-elim (λ s. s)
     (λ m.
-      let most =
-          pigeonhole (replicaCount f) (Q ++ R) (append-distinct Q R (q .different) (r .different) m)
-          (append-below (replicaCount f) Q R (q .replicas) (r .replicas)) in
-      absurd (omega (arith, length-append Q R)))
+    let most =
+    pigeonhole (replicaCount f) (Q ++ R) (append-distinct Q R (q .different) (r .different) m)
+    (append-below (replicaCount f) Q R (q .replicas) (r .replicas)) in
+    absurd (omega (arith, length-append Q R)))
     (search-shared Q R)

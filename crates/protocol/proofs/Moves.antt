@@ -1,25 +1,44 @@
 -- What every call does to the memory, shown once, and what the invariant keeps from that alone.
 use Prim.Native.Nat.{ℕ, zero, suc, _≤_, _<_}
-use mathlib.Core.Path.{_≡_, refl, sym, ap, _∙_, subst}
-use mathlib.Core.Bool.{Bool, true, false}
+use mathlib.Core.Path.{_≡_, sym, ap, subst}
+use mathlib.Core.Bool.{false}
 use mathlib.Core.Logic.{_⊎_, inl, inr, ⊎-elim}
 use mathlib.Core.List.{List, [], _∷_}
 use lib.ListN.{getD}
 use native.Mathlib.Omega.{arith}
 use lib.Dec.{ltb, eqb}
 use Rattle.protocol.specs.Memory.{
-  Memory, Replica, Certificate, replicaCount, faultBound, certificateCount, blockCount, replica, certificate, parent, live, raised
+  Memory,
+  Replica,
+  Certificate,
+  faultBound,
+  certificateCount,
+  blockCount,
+  replica,
+  certificate,
+  parent,
+  raised,
 }
-use Rattle.protocol.specs.Form.{blockFormed, certificateFormed}
-use Rattle.protocol.specs.Certificates.{PROP, COMMIT, NEWVIEW, ACC, REPLY}
+use Rattle.protocol.specs.Form.{blockFormed}
+use Rattle.protocol.specs.Certificates.{COMMIT}
 use Rattle.protocol.specs.Agreement.{Extends}
 use Rattle.protocol.proofs.Tests.{tests, by-test, each}
 use Rattle.protocol.proofs.Formed.{Formed}
-use Rattle.protocol.proofs.Line.{Line, Falls, line-same}
-use Rattle.protocol.proofs.Meeting.{Quorum}
+use Rattle.protocol.proofs.Line.{Falls, line-same}
 use Rattle.protocol.proofs.Safety.{
-  Issued, Proposal, Commit, CommitTo, Proposed, Committed, Origin, CanCommit, Choosable, Chosen, Ancestor, PropSafe, CommitSafe, ReportSafe, AccSafe, clauses,
-  CertificateSafe, ReplicaSafe, Safe
+  Issued,
+  Commit,
+  Committed,
+  Origin,
+  CanCommit,
+  Choosable,
+  Chosen,
+  Ancestor,
+  PropSafe,
+  ReportSafe,
+  clauses,
+  CertificateSafe,
+  ReplicaSafe,
 }
 
 -- The log and the blocks only grow, no lowest view and no limit falls, a flag falls only with its lowest view's rise or its limit's reach,
@@ -30,11 +49,11 @@ pub record Moves (m m′ : Memory) : Type 0 where
   pub lows : (i : ℕ) → replica m i .minView ≤ replica m′ i .minView
   pub limits : (i : ℕ) → replica m i .viewLimit ≤ replica m′ i .viewLimit
   pub flags :
-    (i : ℕ) → replica m′ i .minView < replica m i .viewLimit → replica m′ i .minView ≡ replica m i .minView
-    → replica m i .flag ≡ raised → replica m′ i .flag ≡ raised
+      (i : ℕ) → replica m′ i .minView < replica m i .viewLimit → replica m′ i .minView ≡ replica m i .minView
+      → replica m i .flag ≡ raised → replica m′ i .flag ≡ raised
   pub commits :
-    (c : ℕ) → certificateCount m ≤ c → c < certificateCount m′ → certificate m′ c .kind ≡ COMMIT
-    → (replica m (certificate m′ c .signer) .minView ≤ certificate m′ c .view)
+      (c : ℕ) → certificateCount m ≤ c → c < certificateCount m′ → certificate m′ c .kind ≡ COMMIT
+      → (replica m (certificate m′ c .signer) .minView ≤ certificate m′ c .view)
       × (certificate m′ c .view < replica m′ (certificate m′ c .signer) .minView)
 
 -- Well-formed parents fall.
@@ -91,20 +110,21 @@ module _ (m m′ : Memory) (mv : Moves m m′) where
   -- ---- backwards
 
   -- A COMMIT was there, or its signer could still commit in its view and now has left it.
-  pub committed-before : {v i : ℕ} → Committed m′ v i → Committed m v i ⊎ ((replica m i .minView ≤ v) × (v < replica m′ i .minView))
+  pub committed-before : {v i : ℕ} → Committed m′ v i
+      → Committed m v i ⊎ ((replica m i .minView ≤ v) × (v < replica m′ i .minView))
   committed-before {v} {i} x =
       by-test (ltb (x .number) (certificateCount m))
       (λ e.
-        inl
-        (record {
-          number = x .number;
-          issued = omega tests;
-          holds = subst (Commit v i) (mv .extends .certificate (x .number) (omega tests)) (x .holds);
-        }))
+      inl
+      (record {
+        number = x .number;
+        issued = omega tests;
+        holds = subst (Commit v i) (mv .extends .certificate (x .number) (omega tests)) (x .holds);
+      }))
       (λ e.
-        inr
-        (rw (← (x .holds .view), ← (x .holds .signer))
-        (mv .commits (x .number) (omega tests) (x .issued) (x .holds .kind))))
+      inr
+      (rw (← (x .holds .view), ← (x .holds .signer))
+      (mv .commits (x .number) (omega tests) (x .issued) (x .holds .kind))))
 
   can-commit-before : {v i : ℕ} → CanCommit m′ v i → CanCommit m v i
   can-commit-before {v} {i} h =
@@ -153,19 +173,28 @@ module _ (m m′ : Memory) (mv : Moves m m′) where
     pub certificate-after : Formed m → c .block < blockCount m → CertificateSafe m c → CertificateSafe m′ c
     certificate-after formed known h =
         let low = mv .lows (c .signer) in
-        carried (clauses m c) (clauses m′ c)
-        (λ x. tt,
-        (prop-after formed known,
-        (λ h. record { positive = h .positive; low = omega arith; proposed = issued-after _ (h .proposed) },
-        (λ h. (report-after (h .0), h .1),
-        (λ h.
-          record {
-            positive = h .positive;
-            older = h .older;
-            origin = origin-after (h .origin);
-            covers = λ v a b ch. h .covers v a b (choosable-before ch);
-          },
-        (λ x. tt, (report-after, tt)))))))
+        carried (clauses m c) (clauses m′ c) (
+          λ x. tt,
+          (
+            prop-after formed known,
+            (
+              λ h. record { positive = h .positive; low = omega arith; proposed = issued-after _ (h .proposed) },
+              (
+                λ h. (report-after (h .0), h .1),
+                (
+                  λ h.
+                      record {
+                        positive = h .positive;
+                        older = h .older;
+                        origin = origin-after (h .origin);
+                        covers = λ v a b ch. h .covers v a b (choosable-before ch);
+                      },
+                  (λ x. tt, (report-after, tt)),
+                ),
+              ),
+            ),
+          ),
+        )
         (c .kind) h
 
   pub replica-after : (i : ℕ) → replica m′ i ≡ replica m i → ReplicaSafe m i (replica m i) → ReplicaSafe m′ i (replica m i)
@@ -175,7 +204,7 @@ module _ (m m′ : Memory) (mv : Moves m m′) where
         stored = origin-after (h .stored);
         covers =
             λ e v x ch.
-              h .covers e v (⊎-elim (λ old. old) (λ new. let a = new .0 in let b = new .1 in absurd (omega arith)) (committed-before x))
-              (choosable-before ch);
+            h .covers e v (⊎-elim (λ old. old) (λ new. let a = new .0 in let b = new .1 in absurd (omega arith)) (committed-before x))
+            (choosable-before ch);
         decided = ⊎-elim (λ z. inl z) (λ c. inr (chosen-after c)) (h .decided);
       }

@@ -51,6 +51,10 @@ pub accepted-after : (m : Memory) (rule : Rule) → Accepted (follow m rule) →
 unfolding follow answered
 accepted-after m rule e = ap (λ (n : ℕ). answered n m rule .memory) (no-refusal m rule e)
 
+pub accepted-first : (m : Memory) (rule : Rule) → Accepted (follow m rule) → follow m rule .answer .first ≡ rule .first
+unfolding follow answered
+accepted-first m rule e = ap (λ (n : ℕ). answered n m rule .answer .first) (no-refusal m rule e)
+
 -- What holds of the memory as it was and of the memory on success holds of the memory left.
 pub left-memory : (P : Memory → Type 0) (m : Memory) (rule : Rule) → P m → (firstRefusal (rule .needs) ≡ 0 → P (rule .after))
     → P (follow m rule .memory)

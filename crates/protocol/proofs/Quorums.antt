@@ -1,23 +1,32 @@
 -- What a list that passes its test tells: its signers are a quorum, each of its certificates has what was tested, and none has a greater
 -- of-view than its greatest.
-use Prim.Native.Nat.{ℕ, _+_, _≤_, _<_}
-use mathlib.Core.Path.{_≡_, refl, sym, ap, _∙_}
-use mathlib.Core.Bool.{Bool, true, false, cond, _&&_, _||_}
-use mathlib.Core.Logic.{_⊎_, inl, inr, ⊎-elim}
-use mathlib.Core.List.{List, [], _∷_, map}
+use Prim.Native.Nat.{ℕ, _≤_, _<_}
+use mathlib.Core.Path.{_≡_, _∙_}
+use mathlib.Core.Bool.{Bool, true, cond}
+use mathlib.Core.Logic.{⊎-elim}
+use mathlib.Core.List.{List, [], _∷_}
 use native.Mathlib.Omega.{arith}
-use lib.ListN.{length, length-map}
+use lib.ListN.{length-map}
 use lib.Dec.{ltb, eqb}
 use Rattle.protocol.specs.Memory.{Memory, Certificate, replicaCount, faultBound, certificateCount, certificate}
 use Rattle.protocol.specs.Form.{certificateFormed}
 use Rattle.protocol.specs.Quorum.{
-  every, isQuorumSize, allIssued, certificatesOf, firstOf, contains, distinct, signers, greatestFrom, greatest
+  every,
+  isQuorumSize,
+  allIssued,
+  certificatesOf,
+  firstOf,
+  contains,
+  distinct,
+  signers,
+  greatestFrom,
+  greatest,
 }
 use Rattle.protocol.proofs.Tests.{tests, by-test, by-cond, and-true, each}
 use Rattle.protocol.proofs.Formed.{Formed}
 use Rattle.protocol.proofs.Lists.{All, all-named}
 use Rattle.protocol.proofs.Meeting.{AllBelow, Quorum, meet}
-use Rattle.protocol.proofs.Safety.{Committed, CanCommit, Choosable, ReportSafe}
+use Rattle.protocol.proofs.Safety.{Choosable, ReportSafe}
 
 -- ---- lists of certificates
 
@@ -31,7 +40,9 @@ all-both P Q [] p q = tt
 all-both P Q (c ∷ cs) p q = ((p .0, q .0), all-both P Q cs (p .1) (q .1))
 
 -- What holds of every issued certificate and what a test of each of a list tells, together.
-pub each-tested : (m : Memory) (P Q : Certificate → Type 0) (test : Certificate → Bool) (list : List ℕ) → allIssued m list ≡ true → ((k : ℕ) → k < certificateCount m → P (certificate m k)) → every test (certificatesOf m list) ≡ true → ((c : Certificate) → P c → test c ≡ true → Q c) → All Q (certificatesOf m list)
+pub each-tested : (m : Memory) (P Q : Certificate → Type 0) (test : Certificate → Bool) (list : List ℕ) → allIssued m list ≡ true
+    → ((k : ℕ) → k < certificateCount m → P (certificate m k)) → every test (certificatesOf m list) ≡ true
+    → ((c : Certificate) → P c → test c ≡ true → Q c) → All Q (certificatesOf m list)
 each-tested m P Q test list issued known tested both =
     go (certificatesOf m list) (all-named P m list issued known) (all-every test (certificatesOf m list) tested)
   where
@@ -49,22 +60,24 @@ pub record SignedBy (P : Certificate → Type 0) (j : ℕ) : Type 0 where
   pub holds : P certificate
   pub signer : certificate .signer ≡ j
 
-pub signed-by : (P : Certificate → Type 0) (cs : List Certificate) (j : ℕ) → All P cs → contains j (signers cs) ≡ true → SignedBy P j
+pub signed-by : (P : Certificate → Type 0) (cs : List Certificate) (j : ℕ) → All P cs → contains j (signers cs) ≡ true
+    → SignedBy P j
 unfolding contains
 signed-by P [] j h e = let z : _≡_ {A = ℕ} 0 1 = cc in absurd (omega arith)
 signed-by P (c ∷ cs) j h e =
     by-test (eqb j (c .signer)) (λ t. record { certificate = c; holds = h .0; signer = omega tests })
     (λ t. signed-by P cs j (h .1) (rw t at e))
 
-greatest-from : (best : Certificate) (cs : List Certificate) → (best .ofView ≤ greatestFrom best cs .ofView) × All (λ c. c .ofView ≤ greatestFrom best cs .ofView) cs
+greatest-from : (best : Certificate) (cs : List Certificate)
+    → (best .ofView ≤ greatestFrom best cs .ofView) × All (λ c. c .ofView ≤ greatestFrom best cs .ofView) cs
 unfolding greatestFrom
 greatest-from best [] = (omega arith, tt)
 greatest-from best (c ∷ cs) =
     let next = cond (ltb (best .ofView) (c .ofView)) c best in
     let rest = greatest-from next cs in
     let over =
-        by-cond (λ (x : Certificate). (best .ofView ≤ x .ofView) × (c .ofView ≤ x .ofView)) (ltb (best .ofView) (c .ofView)) {x = c}
-        {y = best} (λ e. omega tests) (λ e. omega tests) in
+    by-cond (λ (x : Certificate). (best .ofView ≤ x .ofView) × (c .ofView ≤ x .ofView)) (ltb (best .ofView) (c .ofView)) {x = c}
+    {y = best} (λ e. omega tests) (λ e. omega tests) in
     (omega (arith, over .0, rest .0), (omega (arith, over .1, rest .0), rest .1))
 
 pub greatest-over : (cs : List Certificate) → All (λ c. c .ofView ≤ greatest cs .ofView) cs
@@ -76,7 +89,8 @@ signers-below : (n : ℕ) (cs : List Certificate) → All (λ c. c .signer < n) 
 signers-below n [] h = tt
 signers-below n (c ∷ cs) h = (h .0, signers-below n cs (h .1))
 
-pub quorum : (m : Memory) (list : List ℕ) → Formed m → isQuorumSize m list ≡ true → allIssued m list ≡ true → distinct (signers (certificatesOf m list)) ≡ true → Quorum (faultBound m) (signers (certificatesOf m list))
+pub quorum : (m : Memory) (list : List ℕ) → Formed m → isQuorumSize m list ≡ true → allIssued m list ≡ true
+    → distinct (signers (certificatesOf m list)) ≡ true → Quorum (faultBound m) (signers (certificatesOf m list))
 unfolding certificateFormed
 quorum m list h size issued different =
     record {
@@ -89,12 +103,13 @@ quorum m list h size issued different =
     }
 
 -- A quorum of reports of view w covers every view below w that may be decided: the greatest of-view is at least that view.
-pub covers : (m : Memory) (cs : List Certificate) (w : ℕ) → Quorum (faultBound m) (signers cs) → All (λ c. ReportSafe m c × (c .view ≡ w)) cs → (v : ℕ) → v < w → Choosable m v → v ≤ greatest cs .ofView
+pub covers : (m : Memory) (cs : List Certificate) (w : ℕ) → Quorum (faultBound m) (signers cs)
+    → All (λ c. ReportSafe m c × (c .view ≡ w)) cs → (v : ℕ) → v < w → Choosable m v → v ≤ greatest cs .ofView
 covers m cs w q reports v below ch =
     let s = meet (faultBound m) (ch .members) (signers cs) (ch .quorum) q in
     let x =
-        signed-by (λ c. (ReportSafe m c × (c .view ≡ w)) × (c .ofView ≤ greatest cs .ofView)) cs (s .member)
-        (all-both (λ c. ReportSafe m c × (c .view ≡ w)) (λ c. c .ofView ≤ greatest cs .ofView) cs reports (greatest-over cs)) (s .right) in
+    signed-by (λ c. (ReportSafe m c × (c .view ≡ w)) × (c .ofView ≤ greatest cs .ofView)) cs (s .member)
+    (all-both (λ c. ReportSafe m c × (c .view ≡ w)) (λ c. c .ofView ≤ greatest cs .ofView) cs reports (greatest-over cs)) (s .right) in
     let r = x .holds .0 .0 in
     let w′ = x .holds .0 .1 in
     let g = x .holds .1 in

@@ -1,40 +1,89 @@
 -- The invariant after each call that one replica makes.
-use Prim.Native.Nat.{ℕ, _+_, _≤_, _<_, max}
-use mathlib.Core.Path.{_≡_, refl, sym, ap, _∙_, subst}
-use mathlib.Core.Bool.{Bool, true, false, cond}
-use mathlib.Core.Logic.{_⊎_, inl, inr, ⊎-elim}
+use Prim.Native.Nat.{ℕ, _≤_}
+use mathlib.Core.Path.{_≡_, refl, ap}
+use mathlib.Core.Bool.{true}
+use mathlib.Core.Logic.{inl, inr, ⊎-elim}
 use mathlib.Core.List.{List, [], _∷_}
 use native.Mathlib.Omega.{arith}
-use lib.Dec.{ltb, leb, eqb}
-use Rattle.protocol.specs.declared.Justification.{Justification}
-use Rattle.protocol.specs.declared.Justification.the-variants.{Acc, Commits}
-use Rattle.protocol.specs.Memory.{Memory, Replica, Certificate, Assignment, _becomes_, minViewAt, flagAt, lowered, replicaCount, faultBound, certificateCount, replica, certificate, parent, raised, update}
+use lib.Dec.{ltb}
+use Rattle.protocol.specs.Memory.{
+  Memory,
+  Replica,
+  Certificate,
+  Assignment,
+  _becomes_,
+  minViewAt,
+  flagAt,
+  lowered,
+  replica,
+  certificate,
+  raised,
+  update,
+}
 use Rattle.protocol.specs.Form.{replicaFormed}
-use Rattle.protocol.specs.Certificates.{PROP, COMMIT, NEWVIEW, ACC, REPLY}
-use Rattle.protocol.specs.Leader.{leads}
-use Rattle.protocol.specs.Quorum.{certificatesOf, signers, firstOf, greatest, isCommitQuorum, isNewViewQuorum, isReplyQuorum}
-use Rattle.protocol.specs.Calls.{isReplica, retires, prepare, store, view, accumulate, decide, reboot, reserve, request, reply, recover}
-use Rattle.protocol.proofs.Tests.{tests, by-test, by-cond, each}
+use Rattle.protocol.specs.Certificates.{NEWVIEW, REPLY}
+use Rattle.protocol.specs.Quorum.{certificatesOf, signers, firstOf, isCommitQuorum, isNewViewQuorum, isReplyQuorum}
+use Rattle.protocol.specs.Calls.{
+  isReplica,
+  retires,
+  decisionWords,
+  store,
+  view,
+  accumulate,
+  decide,
+  reboot,
+  reserve,
+  request,
+  reply,
+  recover,
+}
+use Rattle.protocol.proofs.Tests.{tests, by-cond, each}
 use Rattle.protocol.proofs.Needs.{Holds}
 use Rattle.protocol.proofs.Words.{withinRow}
 use Rattle.protocol.proofs.Changes.{changed}
 use Rattle.protocol.proofs.Formed.{Formed, formed}
 use Rattle.protocol.proofs.Keeps.{issuing-needs}
-use Rattle.protocol.proofs.Lists.{All, all-named, first-named, greatest-named}
+use Rattle.protocol.proofs.Lists.{first-named, greatest-named}
 use Rattle.protocol.proofs.Quorums.{signed-by, all-map, each-tested, quorum, covers}
 use Rattle.protocol.proofs.LeavesForm.{
-  prepare-leaves, store-leaves, view-leaves, accumulate-leaves, decide-leaves, reboot-leaves, reserve-leaves, request-leaves,
-  reply-leaves, recover-leaves
+  store-leaves,
+  view-leaves,
+  accumulate-leaves,
+  decide-leaves,
+  reboot-leaves,
+  reserve-leaves,
+  request-leaves,
+  reply-leaves,
+  recover-leaves,
 }
 use Rattle.protocol.proofs.Safety.{
-  Issued, CommitTo, Proposal, Proposed, Committed, Origin, Choosable, Chosen, Ancestor, PropSafe, CommitSafe, ReportSafe, NewViewSafe, AccSafe, CertificateSafe,
-  clause, ReplicaSafe, Safe
+  Issued,
+  CommitTo,
+  Proposed,
+  Chosen,
+  ReportSafe,
+  NewViewSafe,
+  CertificateSafe,
+  clause,
+  ReplicaSafe,
+  Safe,
 }
 use Rattle.protocol.proofs.Moves.{Moves, issued-after, origin-after, chosen-after, choosable-before, committed-before}
-use Rattle.protocol.proofs.Acts.{Acts, Advances, CommitsNow, update-acts, issuing-acts, moves, committed-same, safe-after}
-use Rattle.protocol.proofs.SafeParts.{Keeps, stored-after, decided-after, replica-kept, left-behind, extend}
+use Rattle.protocol.proofs.Acts.{
+  Acts,
+  Advances,
+  GoesOn,
+  update-acts,
+  issuing-acts,
+  moves,
+  committed-same,
+  safe-after,
+  quiet-after,
+  goes-on,
+}
+use Rattle.protocol.proofs.SafeParts.{Keeps, stored-after, decided-after, replica-kept, left-behind}
 
-store-safe : (m : Memory) (i number : ℕ) → Holds (store m i number .needs) → Safe m → Safe (store m i number .after)
+pub store-safe : (m : Memory) (i number : ℕ) → Holds (store m i number .needs) → Safe m → GoesOn m (store m i number .after)
 unfolding store replicaFormed
 store-safe m i number hold safe =
     let h = issuing-needs m _ i _ _ hold .0 in
@@ -45,24 +94,24 @@ store-safe m i number hold safe =
     let row = safe .rows i (omega tests) in
     let acts = issuing-acts m _ i _ _ hold z (h .1 .0) refl in
     let mv =
-        moves m _ i _ _ acts (record { low = omega tests; limit = omega arith; flag = λ a e x. absurd (omega tests) })
-        (λ k. record { signer = refl; could = omega tests; left = omega arith }) in
+    moves m _ i _ _ acts (record { low = omega tests; limit = omega arith; flag = λ a e x. absurd (omega tests) })
+    (λ k. record { signer = refl; could = omega tests; left = omega arith }) in
     let proposed : Proposed m (p .view) (p .block) =
-        record { number = number; issued = omega tests; holds = record { kind = omega tests; view = refl; block = refl } } in
+    record { number = number; issued = omega tests; holds = record { kind = omega tests; view = refl; block = refl } } in
     let low = ap (λ (r : Replica). r .minView) (acts .own) in
-    safe-after m _ i _ _ acts safe (store-leaves m i number hold) mv
+    goes-on m _ i _ _ acts safe (store-leaves m i number hold) mv
     (record { positive = omega tests; low = omega arith; proposed = issued-after m _ mv _ proposed })
     (record {
       stored = inr (issued-after m _ mv _ proposed);
       covers =
           λ e v x ch.
-            ⊎-elim (λ old. let before = left-behind m safe old in omega tests) (λ new. let after = new .1 in omega arith)
-            (committed-before m _ mv x);
+          ⊎-elim (λ old. let before = left-behind m safe old in omega tests) (λ new. let after = new .1 in omega arith)
+          (committed-before m _ mv x);
       decided = decided-after m _ i _ _ acts mv r refl refl row;
     })
-    (λ k. absurd (omega arith))
+    (λ k. absurd (omega arith)) refl refl
 
-view-safe : (m : Memory) (i w : ℕ) → Holds (view m i w .needs) → Safe m → Safe (view m i w .after)
+pub view-safe : (m : Memory) (i w : ℕ) → Holds (view m i w .needs) → Safe m → GoesOn m (view m i w .after)
 unfolding view replicaFormed
 view-safe m i w hold safe =
     let h = issuing-needs m _ i _ _ hold .0 in
@@ -72,28 +121,30 @@ view-safe m i w hold safe =
     let row = safe .rows i (omega tests) in
     let acts = issuing-acts m _ i _ _ hold z (h .1 .0) refl in
     let mv =
-        moves m _ i _ _ acts
-        (record {
-          low = omega tests;
-          limit = omega arith;
-          flag = λ a e x. by-cond (λ (y : ℕ). y ≡ raised) (ltb (r .minView) w) (λ t. absurd (omega tests)) (λ t. x);
-        })
-        (λ k. absurd (omega arith)) in
-    let low = ap (λ (r : Replica). r .minView) (acts .own) in
-    safe-after m _ i _ _ acts safe (view-leaves m i w hold) mv
+    moves m _ i _ _ acts
     (record {
-      low = omega arith;
-      origin = origin-after m _ mv (row .stored);
-      covers =
-          λ v l x ch.
+      low = omega tests;
+      limit = omega arith;
+      flag = λ a e x. by-cond (λ (y : ℕ). y ≡ raised) (ltb (r .minView) w) (λ t. absurd (omega tests)) (λ t. x);
+    })
+    (λ k. absurd (omega arith)) in
+    let low = ap (λ (r : Replica). r .minView) (acts .own) in
+    goes-on m _ i _ _ acts safe (view-leaves m i w hold) mv (
+      record {
+        low = omega arith;
+        origin = origin-after m _ mv (row .stored);
+        covers =
+            λ v l x ch.
             row .covers (omega tests) v (committed-same m _ i _ _ acts (λ k. omega arith) x) (choosable-before m _ mv ch);
-    },
-    record { positive = omega tests; older = omega tests })
+      },
+      record { positive = omega tests; older = omega tests },
+    )
     (replica-kept m _ i _ _ acts mv (λ k. omega arith) r
     (record { storedView = refl; storedBlock = refl; decidedView = refl; decidedBlock = refl; status = λ e. e }) row)
-    (λ k. absurd (omega arith))
+    (λ k. absurd (omega arith)) refl refl
 
-accumulate-safe : (m : Memory) (i : ℕ) (list : List ℕ) → Holds (accumulate m i list .needs) → Safe m → Safe (accumulate m i list .after)
+pub accumulate-safe : (m : Memory) (i : ℕ) (list : List ℕ) → Holds (accumulate m i list .needs) → Safe m
+    → GoesOn m (accumulate m i list .after)
 unfolding accumulate isNewViewQuorum
 accumulate-safe m i list hold safe =
     let h = issuing-needs m _ i _ _ hold .0 in
@@ -105,40 +156,40 @@ accumulate-safe m i list hold safe =
     let tested = each _ (h .1 .1 .1 .1 .1 .0) in
     let Report : Certificate → Type 0 = λ c. (ReportSafe m c × (c .view ≡ w)) × NewViewSafe c in
     let reports =
-        each-tested m (CertificateSafe m) Report _ list issued (safe .log) (tested .0)
-        (λ c x t. let t = each _ t in let k = clause m c NEWVIEW (omega tests) x in ((k .0, omega tests), k .1)) in
+    each-tested m (CertificateSafe m) Report _ list issued (safe .log) (tested .0)
+    (λ c x t. let t = each _ t in let k = clause m c NEWVIEW (omega tests) x in ((k .0, omega tests), k .1)) in
     let first = first-named Report m list size reports in
     let best = greatest-named Report m list size reports in
     let acts = issuing-acts m _ i _ _ hold z (h .1 .0) refl in
     let mv =
-        moves m _ i _ _ acts (record { low = omega arith; limit = omega arith; flag = λ a e x. x }) (λ k. absurd (omega arith)) in
-    safe-after m _ i _ _ acts safe (accumulate-leaves m i list hold) mv
+    moves m _ i _ _ acts (record { low = omega arith; limit = omega arith; flag = λ a e x. x }) (λ k. absurd (omega arith)) in
+    goes-on m _ i _ _ acts safe (accumulate-leaves m i list hold) mv
     (record {
       positive = first .1 .positive;
       older = omega (arith, best .1 .older, best .0 .1);
       origin = origin-after m _ mv (best .0 .0 .origin);
       covers =
           λ v a b ch.
-            covers m cs w (quorum m list z size issued (tested .1 .0)) (all-map Report _ cs (λ c x. x .0) reports) v b
-            (choosable-before m _ mv ch);
+          covers m cs w (quorum m list z size issued (tested .1 .0)) (all-map Report _ cs (λ c x. x .0) reports) v b
+          (choosable-before m _ mv ch);
     })
     (replica-kept m _ i _ _ acts mv (λ k. omega arith) (replica m i)
     (record { storedView = refl; storedBlock = refl; decidedView = refl; decidedBlock = refl; status = λ e. e })
     (safe .rows i (omega tests)))
-    (λ k. absurd (omega arith))
+    (λ k. absurd (omega arith)) refl refl
 
-request-safe : (m : Memory) (i : ℕ) → Holds (request m i .needs) → Safe m → Safe (request m i .after)
+pub request-safe : (m : Memory) (i : ℕ) → Holds (request m i .needs) → Safe m → GoesOn m (request m i .after)
 unfolding request
 request-safe m i hold safe =
     let h = issuing-needs m _ i _ _ hold .0 in
     let acts = issuing-acts m _ i _ _ hold (safe .formed) (h .1 .0) refl in
     let mv =
-        moves m _ i _ _ acts (record { low = omega arith; limit = omega arith; flag = λ a e x. x }) (λ k. absurd (omega arith)) in
-    safe-after m _ i _ _ acts safe (request-leaves m i hold) mv tt
+    moves m _ i _ _ acts (record { low = omega arith; limit = omega arith; flag = λ a e x. x }) (λ k. absurd (omega arith)) in
+    goes-on m _ i _ _ acts safe (request-leaves m i hold) mv tt
     (replica-kept m _ i _ _ acts mv (λ k. omega arith) (replica m i)
     (record { storedView = refl; storedBlock = refl; decidedView = refl; decidedBlock = refl; status = λ e. e })
     (safe .rows i (omega tests)))
-    (λ k. absurd (omega arith))
+    (λ k. absurd (omega arith)) refl refl
 
 -- Assignments that keep what the replica stored and decided; its lowest view is then at least w.
 record Raises (r : Replica) (w : ℕ) (cs : List Assignment) : Type 0 where
@@ -147,7 +198,7 @@ record Raises (r : Replica) (w : ℕ) (cs : List Assignment) : Type 0 where
   keeps : Keeps r (changed cs r)
   low : w ≤ changed cs r .minView
 
-reply-safe : (m : Memory) (i number : ℕ) → Holds (reply m i number .needs) → Safe m → Safe (reply m i number .after)
+pub reply-safe : (m : Memory) (i number : ℕ) → Holds (reply m i number .needs) → Safe m → GoesOn m (reply m i number .after)
 unfolding reply
 reply-safe m i number hold safe =
     let h = issuing-needs m _ i _ _ hold .0 in
@@ -155,36 +206,36 @@ reply-safe m i number hold safe =
     let w = certificate m number .view in
     let row = safe .rows i (omega tests) in
     let raises =
-        by-cond (Raises r w) (ltb (r .minView) w)
-        {x = minViewAt becomes w ∷ flagAt becomes lowered ∷ []}
-        {y = []}
-        (λ e.
-          record {
-            within = refl;
-            advances = record { low = omega tests; limit = omega arith; flag = λ a s x. absurd (omega tests) };
-            keeps = record { storedView = refl; storedBlock = refl; decidedView = refl; decidedBlock = refl; status = λ e. e };
-            low = omega arith;
-          })
-        (λ e.
-          record {
-            within = refl;
-            advances = record { low = omega arith; limit = omega arith; flag = λ a e x. x };
-            keeps = record { storedView = refl; storedBlock = refl; decidedView = refl; decidedBlock = refl; status = λ e. e };
-            low = omega tests;
-          }) in
+    by-cond (Raises r w) (ltb (r .minView) w)
+    {x = minViewAt becomes w ∷ flagAt becomes lowered ∷ []}
+    {y = []}
+    (λ e.
+    record {
+      within = refl;
+      advances = record { low = omega tests; limit = omega arith; flag = λ a s x. absurd (omega tests) };
+      keeps = record { storedView = refl; storedBlock = refl; decidedView = refl; decidedBlock = refl; status = λ e. e };
+      low = omega arith;
+    })
+    (λ e.
+    record {
+      within = refl;
+      advances = record { low = omega arith; limit = omega arith; flag = λ a e x. x };
+      keeps = record { storedView = refl; storedBlock = refl; decidedView = refl; decidedBlock = refl; status = λ e. e };
+      low = omega tests;
+    }) in
     let acts = issuing-acts m _ i _ _ hold (safe .formed) (h .1 .0) (raises .within) in
     let mv = moves m _ i _ _ acts (raises .advances) (λ k. absurd (omega arith)) in
     let low = ap (λ (r : Replica). r .minView) (acts .own) in
-    safe-after m _ i _ _ acts safe (reply-leaves m i number hold) mv
+    goes-on m _ i _ _ acts safe (reply-leaves m i number hold) mv
     (record {
       low = omega (arith, low, raises .low);
       origin = origin-after m _ mv (row .stored);
       covers =
           λ v l x ch.
-            row .covers (omega tests) v (committed-same m _ i _ _ acts (λ k. omega arith) x) (choosable-before m _ mv ch);
+          row .covers (omega tests) v (committed-same m _ i _ _ acts (λ k. omega arith) x) (choosable-before m _ mv ch);
     })
     (replica-kept m _ i _ _ acts mv (λ k. omega arith) r (raises .keeps) row)
-    (λ k. absurd (omega arith))
+    (λ k. absurd (omega arith)) (raises .keeps .decidedView) (raises .keeps .decidedBlock)
 
 -- ---- the calls that issue nothing
 
@@ -192,46 +243,75 @@ reply-safe m i number hold safe =
 abbrev nothing : Certificate
 nothing = firstOf []
 
-update-safe : (m : Memory) (i : ℕ) (cs : List Assignment) → Safe m → isReplica m i ≡ true → Formed (update m i cs) → withinRow cs ≡ true → Advances (replica m i) (changed cs (replica m i)) → (Acts m (update m i cs) i (changed cs (replica m i)) nothing → Moves m (update m i cs) → ReplicaSafe (update m i cs) i (changed cs (replica m i))) → Safe (update m i cs)
-update-safe m i cs safe own formed within adv mine =
-    let acts = update-acts m i cs nothing (safe .formed) own within in
-    let mv = moves m (update m i cs) i (changed cs (replica m i)) nothing acts adv (λ k. absurd (omega arith)) in
-    safe-after m (update m i cs) i (changed cs (replica m i)) nothing acts safe formed mv tt (mine acts mv) (λ k. absurd (omega arith))
+pub record Updated (m : Memory) (i : ℕ) (cs : List Assignment) : Type 0 where
+  pub acts : Acts m (update m i cs) i (changed cs (replica m i)) nothing
+  pub moves : Moves m (update m i cs)
+  pub safe : Safe (update m i cs)
 
-reserve-safe : (m : Memory) (i : ℕ) → Holds (reserve m i .needs) → Safe m → Safe (reserve m i .after)
+module _ (m : Memory) (i : ℕ) (cs : List Assignment) where
+  -- What the replica's new words must meet.
+  abbrev Meets : Type 0
+  Meets = Acts m (update m i cs) i (changed cs (replica m i)) nothing → Moves m (update m i cs) → ReplicaSafe (update m i cs) i (changed cs (replica m i))
+
+  updated : Safe m → isReplica m i ≡ true → Formed (update m i cs) → withinRow cs ≡ true
+      → Advances (replica m i) (changed cs (replica m i)) → Meets → Updated m i cs
+  updated safe own formed within adv mine =
+      let acts = update-acts m i cs nothing (safe .formed) own within in
+      let mv = moves m (update m i cs) i (changed cs (replica m i)) nothing acts adv (λ k. absurd (omega arith)) in
+      record {
+        acts = acts;
+        moves = mv;
+        safe =
+            safe-after m (update m i cs) i (changed cs (replica m i)) nothing acts safe formed mv tt (mine acts mv)
+            (λ k. absurd (omega arith));
+      }
+
+  update-goes-on : Safe m → isReplica m i ≡ true → Formed (update m i cs) → withinRow cs ≡ true
+      → Advances (replica m i) (changed cs (replica m i)) → Meets
+      → changed cs (replica m i) .decidedView ≡ replica m i .decidedView
+      → changed cs (replica m i) .decidedBlock ≡ replica m i .decidedBlock → GoesOn m (update m i cs)
+  update-goes-on safe own formed within adv mine v b =
+      let u = updated safe own formed within adv mine in
+      record { safe = u .safe; moves = u .moves; quiet = quiet-after m _ i _ nothing (u .acts) v b }
+
+pub reserve-safe : (m : Memory) (i : ℕ) → Holds (reserve m i .needs) → Safe m → GoesOn m (reserve m i .after)
 unfolding reserve
 reserve-safe m i h safe =
-    update-safe m i _ safe (h .1 .0) (reserve-leaves m i h) refl
+    update-goes-on m i _ safe (h .1 .0) (reserve-leaves m i h) refl
     (record { low = omega arith; limit = omega arith; flag = λ a e x. x })
     (λ acts mv.
-      replica-kept m _ i _ nothing acts mv (λ k. omega arith) (replica m i)
-      (record { storedView = refl; storedBlock = refl; decidedView = refl; decidedBlock = refl; status = λ e. e })
-      (safe .rows i (omega tests)))
+    replica-kept m _ i _ nothing acts mv (λ k. omega arith) (replica m i)
+    (record { storedView = refl; storedBlock = refl; decidedView = refl; decidedBlock = refl; status = λ e. e })
+    (safe .rows i (omega tests)))
+    refl refl
 
-reboot-safe : (m : Memory) (i : ℕ) → Holds (reboot m i .needs) → Safe m → Safe (reboot m i .after)
+pub reboot-safe : (m : Memory) (i : ℕ) → Holds (reboot m i .needs) → Safe m → GoesOn m (reboot m i .after)
 unfolding reboot replicaFormed
 reboot-safe m i h safe =
     let r = replica m i in
     let f = each _ (safe .formed .rows i (omega tests)) in
     let row = safe .rows i (omega tests) in
-    by-cond (λ cs. Formed (update m i cs) → Safe (update m i cs)) (retires m i)
+    by-cond (λ cs. Formed (update m i cs) → GoesOn m (update m i cs)) (retires m i)
     (λ e left.
-      update-safe m i _ safe (h .1 .0) left refl (record { low = omega arith; limit = omega arith; flag = λ a s x. x })
-      (λ acts mv.
-        replica-kept m _ i _ nothing acts mv (λ k. omega arith) r
-        (record { storedView = refl; storedBlock = refl; decidedView = refl; decidedBlock = refl; status = λ s. absurd (omega arith) }) row))
+    update-goes-on m i _ safe (h .1 .0) left refl (record { low = omega arith; limit = omega arith; flag = λ a s x. x })
+    (λ acts mv.
+    replica-kept m _ i _ nothing acts mv (λ k. omega arith) r
+    (record { storedView = refl; storedBlock = refl; decidedView = refl; decidedBlock = refl; status = λ s. absurd (omega arith) }) row)
+    refl refl)
     (λ e left.
-      update-safe m i _ safe (h .1 .0) left refl
-      (record { low = omega tests; limit = omega arith; flag = λ a s x. absurd (omega arith) })
-      (λ acts mv.
-        record {
-          stored = inl (refl, refl);
-          covers = λ s. absurd (omega arith);
-          decided = decided-after m _ i _ nothing acts mv r refl refl row;
-        }))
+    update-goes-on m i _ safe (h .1 .0) left refl
+    (record { low = omega tests; limit = omega arith; flag = λ a s x. absurd (omega arith) })
+    (λ acts mv.
+    record {
+      stored = inl (refl, refl);
+      covers = λ s. absurd (omega arith);
+      decided = decided-after m _ i _ nothing acts mv r refl refl row;
+    })
+    refl refl)
     (reboot-leaves m i h)
 
-recover-safe : (m : Memory) (i : ℕ) (list : List ℕ) → Holds (recover m i list .needs) → Safe m → Safe (recover m i list .after)
+pub recover-safe : (m : Memory) (i : ℕ) (list : List ℕ) → Holds (recover m i list .needs) → Safe m
+    → GoesOn m (recover m i list .after)
 unfolding recover isReplyQuorum
 recover-safe m i list h safe =
     let r = replica m i in
@@ -243,24 +323,26 @@ recover-safe m i list h safe =
     let tested = each _ (h .1 .1 .1 .1 .1 .0) in
     let Report : Certificate → Type 0 = λ c. ReportSafe m c × (c .view ≡ w) in
     let reports =
-        each-tested m (CertificateSafe m) Report _ list issued (safe .log) (tested .0)
-        (λ c x t. let t = each _ t in (clause m c REPLY (omega tests) x, omega tests)) in
+    each-tested m (CertificateSafe m) Report _ list issued (safe .log) (tested .0)
+    (λ c x t. let t = each _ t in (clause m c REPLY (omega tests) x, omega tests)) in
     let best = greatest-named Report m list size reports in
-    update-safe m i _ safe (h .1 .0) (recover-leaves m i list h) refl
+    update-goes-on m i _ safe (h .1 .0) (recover-leaves m i list h) refl
     (record { low = omega arith; limit = omega arith; flag = λ a s x. x })
     (λ acts mv.
-      record {
-        stored = origin-after m _ mv (best .0 .origin);
-        covers =
-            λ s v x ch.
-              let old = committed-same m _ i _ nothing acts (λ k. omega arith) x in
-              covers m cs w (quorum m list (safe .formed) size issued (tested .1 .0)) reports v (left-behind m safe old)
-              (choosable-before m _ mv ch);
-        decided = decided-after m _ i _ nothing acts mv r refl refl row;
-      })
+    record {
+      stored = origin-after m _ mv (best .0 .origin);
+      covers =
+          λ s v x ch.
+          let old = committed-same m _ i _ nothing acts (λ k. omega arith) x in
+          covers m cs w (quorum m list (safe .formed) size issued (tested .1 .0)) reports v (left-behind m safe old)
+          (choosable-before m _ mv ch);
+      decided = decided-after m _ i _ nothing acts mv r refl refl row;
+    })
+    refl refl
 
 -- What a Decide accepts is chosen.
-pub chosen : (m : Memory) (i : ℕ) (list : List ℕ) → Holds (decide m i list .needs) → Safe m → Chosen m (decide m i list .second) (decide m i list .first)
+pub chosen : (m : Memory) (i : ℕ) (list : List ℕ) → Holds (decide m i list .needs) → Safe m
+    → Chosen m (decide m i list .second) (decide m i list .first)
 unfolding decide isCommitQuorum
 chosen m i list h safe =
     let cs = certificatesOf m list in
@@ -269,37 +351,38 @@ chosen m i list h safe =
     let issued = h .1 .1 .1 .0 in
     let tested = each _ (h .1 .1 .1 .1 .0) in
     let commits =
-        each-tested m (λ c. Issued m (λ x. x ≡ c)) (λ c. Issued m (λ x. CommitTo v b (c .signer) x)) _ list issued
-        (λ k l. record { number = k; issued = l; holds = refl }) (tested .0)
-        (λ c x t.
-          let t = each _ t in
-          record { number = x .number; issued = x .issued; holds = rw (x .holds) (record { commit = record { kind = omega tests; view = omega tests; signer = refl }; block = omega tests }) }) in
+    each-tested m (λ c. Issued m (λ x. x ≡ c)) (λ c. Issued m (λ x. CommitTo v b (c .signer) x)) _ list issued
+    (λ k l. record { number = k; issued = l; holds = refl }) (tested .0)
+    (λ c x t.
+    let t = each _ t in
+    record { number = x .number; issued = x .issued; holds = rw (x .holds) (record { commit = record { kind = omega tests; view = omega tests; signer = refl }; block = omega tests }) }) in
     record {
       members = signers cs;
       quorum = quorum m list (safe .formed) (h .1 .1 .0) issued (tested .1 .0);
       each = λ j w. let s = signed-by _ cs j commits w in rw (← (s .signer)) (s .holds);
     }
 
-decide-safe : (m : Memory) (i : ℕ) (list : List ℕ) → Holds (decide m i list .needs) → Safe m → Safe (decide m i list .after)
+pub decide-safe : (m : Memory) (i : ℕ) (list : List ℕ) → Holds (decide m i list .needs) → Safe m
+    → Updated m i (decisionWords m i (firstOf (certificatesOf m list)))
 unfolding decide
 decide-safe m i list h safe =
     let r = replica m i in
     let row = safe .rows i (omega tests) in
     let c = firstOf (certificatesOf m list) in
-    by-cond (λ cs. Formed (update m i cs) → Safe (update m i cs)) (ltb (r .decidedView) (c .view))
+    by-cond (λ cs. Formed (update m i cs) → Updated m i cs) (ltb (r .decidedView) (c .view))
     (λ e left.
-      update-safe m i _ safe (h .1 .0) left refl (record { low = omega arith; limit = omega arith; flag = λ a s x. x })
-      (λ acts mv.
-        record {
-          stored = stored-after m _ i _ nothing acts mv r refl refl row;
-          covers =
-              λ s v x ch.
-                row .covers s v (committed-same m _ i _ nothing acts (λ k. omega arith) x) (choosable-before m _ mv ch);
-          decided = inr (chosen-after m _ mv (chosen m i list h safe));
-        }))
+    updated m i _ safe (h .1 .0) left refl (record { low = omega arith; limit = omega arith; flag = λ a s x. x })
+    (λ acts mv.
+    record {
+      stored = stored-after m _ i _ nothing acts mv r refl refl row;
+      covers =
+          λ s v x ch.
+          row .covers s v (committed-same m _ i _ nothing acts (λ k. omega arith) x) (choosable-before m _ mv ch);
+      decided = inr (chosen-after m _ mv (chosen m i list h safe));
+    }))
     (λ e left.
-      update-safe m i _ safe (h .1 .0) left refl (record { low = omega arith; limit = omega arith; flag = λ a s x. x })
-      (λ acts mv.
-        replica-kept m _ i _ nothing acts mv (λ k. omega arith) r
-        (record { storedView = refl; storedBlock = refl; decidedView = refl; decidedBlock = refl; status = λ s. s }) row))
+    updated m i _ safe (h .1 .0) left refl (record { low = omega arith; limit = omega arith; flag = λ a s x. x })
+    (λ acts mv.
+    replica-kept m _ i _ nothing acts mv (λ k. omega arith) r
+    (record { storedView = refl; storedBlock = refl; decidedView = refl; decidedBlock = refl; status = λ s. s }) row))
     (decide-leaves m i list h)

@@ -1,17 +1,14 @@
 -- Parts of the invariant that several calls show: a replica that keeps what it stored, and the line of a proposal.
 use Prim.Native.Nat.{ℕ, _≤_, _<_}
-use mathlib.Core.Path.{_≡_, refl, sym}
+use mathlib.Core.Path.{_≡_}
 use mathlib.Core.Logic.{_≢_, _⊎_, inl, inr, ⊎-elim}
 use native.Mathlib.Omega.{arith}
 use lib.Dec.{eqb}
 use Rattle.protocol.proofs.Tests.{tests, by-test}
 use Rattle.protocol.specs.Memory.{Memory, Replica, Certificate, replica, certificate, parent, live}
-use Rattle.protocol.specs.Certificates.{PROP, COMMIT, NEWVIEW, ACC, REQ, REPLY}
+use Rattle.protocol.specs.Certificates.{PROP, COMMIT}
 use Rattle.protocol.proofs.Line.{Line, self, up}
-use Rattle.protocol.proofs.Safety.{
-  Issued, Proposal, Proposed, Committed, Origin, Choosable, Chosen, Ancestor, PropSafe, CommitSafe, ReportSafe, NewViewSafe, AccSafe,
-  CertificateSafe, clause, ReplicaSafe, Safe
-}
+use Rattle.protocol.proofs.Safety.{Proposed, Committed, Origin, Choosable, Chosen, Ancestor, clause, ReplicaSafe, Safe}
 use Rattle.protocol.proofs.Moves.{Moves, origin-after, chosen-after, choosable-before}
 use Rattle.protocol.proofs.Acts.{Acts, committed-same}
 
@@ -25,10 +22,12 @@ pub record Keeps (r r′ : Replica) : Type 0 where
   pub status : r′ .status ≡ live → r .status ≡ live
 
 module _ (m m′ : Memory) (i : ℕ) (r′ : Replica) (c : Certificate) (acts : Acts m m′ i r′ c) (mv : Moves m m′) where
-  pub stored-after : (r : Replica) → r′ .storedView ≡ r .storedView → r′ .storedBlock ≡ r .storedBlock → ReplicaSafe m i r → Origin m′ (r′ .storedView) (r′ .storedBlock)
+  pub stored-after : (r : Replica) → r′ .storedView ≡ r .storedView → r′ .storedBlock ≡ r .storedBlock → ReplicaSafe m i r
+      → Origin m′ (r′ .storedView) (r′ .storedBlock)
   stored-after r v b h = rw (v, b) (origin-after m m′ mv (h .stored))
 
-  pub decided-after : (r : Replica) → r′ .decidedView ≡ r .decidedView → r′ .decidedBlock ≡ r .decidedBlock → ReplicaSafe m i r → ((r′ .decidedView ≡ 0) × (r′ .decidedBlock ≡ 0)) ⊎ Chosen m′ (r′ .decidedView) (r′ .decidedBlock)
+  pub decided-after : (r : Replica) → r′ .decidedView ≡ r .decidedView → r′ .decidedBlock ≡ r .decidedBlock → ReplicaSafe m i r
+      → ((r′ .decidedView ≡ 0) × (r′ .decidedBlock ≡ 0)) ⊎ Chosen m′ (r′ .decidedView) (r′ .decidedBlock)
   decided-after r v b h = rw (v, b) (⊎-elim (λ z. inl z) (λ x. inr (chosen-after m m′ mv x)) (h .decided))
 
   pub replica-kept : (c .kind ≢ COMMIT) → (r : Replica) → Keeps r r′ → ReplicaSafe m i r → ReplicaSafe m′ i r′
@@ -37,9 +36,9 @@ module _ (m m′ : Memory) (i : ℕ) (r′ : Replica) (c : Certificate) (acts : 
         stored = stored-after r (keeps .storedView) (keeps .storedBlock) h;
         covers =
             λ e v x ch.
-              let most = h .covers (keeps .status e) v (committed-same m m′ i r′ c acts another x) (choosable-before m m′ mv ch) in
-              let same = keeps .storedView in
-              omega arith;
+            let most = h .covers (keeps .status e) v (committed-same m m′ i r′ c acts another x) (choosable-before m m′ mv ch) in
+            let same = keeps .storedView in
+            omega arith;
         decided = decided-after r (keeps .decidedView) (keeps .decidedBlock) h;
       }
 
@@ -51,15 +50,16 @@ left-behind m safe {v} {i} x =
 
 -- ---- a proposal's line: from a proposal of view g, of the parent of block b, to every view up to g
 
-pub extend : (m : Memory) → Safe m → (g p b v : ℕ) → Proposed m g p → (b ≡ 0 → ⊥) → parent m b ≡ p → 1 ≤ v → v ≤ g → Choosable m v → Ancestor m v b
+pub extend : (m : Memory) → Safe m → (g p b v : ℕ) → Proposed m g p → (b ≡ 0 → ⊥) → parent m b ≡ p → 1 ≤ v → v ≤ g → Choosable m v
+    → Ancestor m v b
 extend m safe g p b v x n e low le ch =
     by-test (eqb v g)
     (λ t. let q : v ≡ g = omega tests in record { block = p; proposed = rw q x; line = above self })
     (λ t.
-      let prop = clause m (certificate m (x .number)) PROP (x .holds .kind) (safe .log (x .number) (x .issued)) in
-      let view = x .holds .view in
-      let a = rw (x .holds .block) at (prop .chain v low (omega tests) ch) in
-      record { block = a .block; proposed = a .proposed; line = above (a .line) })
+    let prop = clause m (certificate m (x .number)) PROP (x .holds .kind) (safe .log (x .number) (x .issued)) in
+    let view = x .holds .view in
+    let a = rw (x .holds .block) at (prop .chain v low (omega tests) ch) in
+    record { block = a .block; proposed = a .proposed; line = above (a .line) })
   where
     above : {a : ℕ} → Line (parent m) a p → Line (parent m) a b
     above w = up n (rw e w)

@@ -1,32 +1,29 @@
 -- The invariant after a proposal: its justification puts every earlier view that may be decided into its line.
-use Prim.Native.Nat.{ℕ, _+_, _≤_, _<_}
-use mathlib.Core.Path.{_≡_, refl, sym, ap, _∙_}
-use mathlib.Core.Bool.{Bool, true, false, not, _&&_}
-use mathlib.Core.Logic.{_⊎_, inl, inr, ⊎-elim}
-use mathlib.Core.List.{List, [], _∷_}
+use Prim.Native.Nat.{ℕ, _≤_, _<_}
+use mathlib.Core.Path.{_≡_, refl, ap}
+use mathlib.Core.Bool.{true, not}
+use mathlib.Core.Logic.{⊎-elim}
+use mathlib.Core.List.{List}
 use native.Mathlib.Omega.{arith}
 use borrow.Author.Tests.{not-true}
 use lib.Dec.{eqb}
 use Rattle.protocol.specs.declared.Justification.{Justification}
 use Rattle.protocol.specs.declared.Justification.the-variants.{Acc, Commits}
-use Rattle.protocol.specs.Memory.{Memory, Replica, Certificate, faultBound, certificateCount, replica, certificate, parent}
+use Rattle.protocol.specs.Memory.{Memory, Replica, faultBound, replica, certificate}
 use Rattle.protocol.specs.Form.{replicaFormed}
 use Rattle.protocol.specs.Certificates.{PROP, COMMIT, ACC}
 use Rattle.protocol.specs.Leader.{leads}
-use Rattle.protocol.specs.Quorum.{every, isIssued, allIssued, certificatesOf, firstOf, isCommitQuorum}
+use Rattle.protocol.specs.Quorum.{every, isIssued, allIssued, certificatesOf, isCommitQuorum}
 use Rattle.protocol.specs.Calls.{numbersOf, isSized, proposalView, justifiedBlock, isJustified, prepare}
 use Rattle.protocol.proofs.Tests.{tests, and-true, each}
 use Rattle.protocol.proofs.Needs.{Holds}
 use Rattle.protocol.proofs.Keeps.{issuing-needs}
 use Rattle.protocol.proofs.LeavesForm.{prepare-leaves}
-use Rattle.protocol.proofs.Lists.{All, all-named, first-named}
+use Rattle.protocol.proofs.Lists.{first-named}
 use Rattle.protocol.proofs.Quorums.{each-tested}
-use Rattle.protocol.proofs.Safety.{
-  Proposed, Choosable, Ancestor, PropSafe, CommitSafe, AccSafe, CertificateSafe, clause, ReplicaSafe, Safe
-}
-use Rattle.protocol.proofs.Line.{Line}
-use Rattle.protocol.proofs.Moves.{Moves, choosable-before, ancestor-after}
-use Rattle.protocol.proofs.Acts.{Acts, issuing-acts, moves, safe-after}
+use Rattle.protocol.proofs.Safety.{Proposed, Choosable, CertificateSafe, clause, Safe}
+use Rattle.protocol.proofs.Moves.{choosable-before, ancestor-after}
+use Rattle.protocol.proofs.Acts.{GoesOn, issuing-acts, moves, goes-on}
 use Rattle.protocol.proofs.SafeParts.{replica-kept, extend}
 
 -- A view has one leader.
@@ -40,7 +37,10 @@ record Grounded (m : Memory) (p v : ℕ) : Type 0 where
   proposed : Proposed m view p
   covers : v ≤ view
 
-grounded : (m : Memory) (i : ℕ) (j : Justification) (list : List ℕ) → Safe m → isSized m j list ≡ true → allIssued m (numbersOf j list) ≡ true → isJustified i j (certificatesOf m (numbersOf j list)) ≡ true → (v : ℕ) → 1 ≤ v → v < proposalView j (certificatesOf m (numbersOf j list)) → Choosable m v → Grounded m (justifiedBlock j (certificatesOf m (numbersOf j list))) v
+grounded : (m : Memory) (i : ℕ) (j : Justification) (list : List ℕ) → Safe m → isSized m j list ≡ true
+    → allIssued m (numbersOf j list) ≡ true → isJustified i j (certificatesOf m (numbersOf j list)) ≡ true → (v : ℕ) → 1 ≤ v
+    → v < proposalView j (certificatesOf m (numbersOf j list)) → Choosable m v
+    → Grounded m (justifiedBlock j (certificatesOf m (numbersOf j list))) v
 unfolding every isCommitQuorum
 grounded m i (Acc number) list safe size issued justified v low below ch =
     let known = and-true (isIssued m number) true issued in
@@ -52,15 +52,16 @@ grounded m i (Acc number) list safe size issued justified v low below ch =
 grounded m i (Commits u b) list safe size issued justified v low below ch =
     let tested = each _ justified in
     let commits =
-        each-tested m (CertificateSafe m) (λ c. Proposed m u b) _ list issued (safe .log) (tested .0)
-        (λ c x t.
-          let t = each _ t in
-          let e : c .view ≡ u = omega tests in
-          let e′ : c .block ≡ b = omega tests in
-          rw (e, e′) at (clause m c COMMIT (omega tests) x .proposed)) in
+    each-tested m (CertificateSafe m) (λ c. Proposed m u b) _ list issued (safe .log) (tested .0)
+    (λ c x t.
+    let t = each _ t in
+    let e : c .view ≡ u = omega tests in
+    let e′ : c .block ≡ b = omega tests in
+    rw (e, e′) at (clause m c COMMIT (omega tests) x .proposed)) in
     record { view = u; proposed = first-named (λ c. Proposed m u b) m list size commits; covers = omega arith }
 
-pub prepare-safe : (m : Memory) (i b : ℕ) (j : Justification) (list : List ℕ) → Holds (prepare m i b j list .needs) → Safe m → Safe (prepare m i b j list .after)
+pub prepare-safe : (m : Memory) (i b : ℕ) (j : Justification) (list : List ℕ) → Holds (prepare m i b j list .needs) → Safe m
+    → GoesOn m (prepare m i b j list .after)
 unfolding prepare replicaFormed
 prepare-safe m i b j list hold safe =
     let h = issuing-needs m _ i _ _ hold .0 in
@@ -75,10 +76,10 @@ prepare-safe m i b j list hold safe =
     let turn = block .1 .1 in
     let acts = issuing-acts m _ i _ _ hold (safe .formed) (h .1 .0) refl in
     let mv =
-        moves m _ i _ _ acts (record { low = omega arith; limit = omega arith; flag = λ a e x. refl }) (λ k. absurd (omega arith)) in
+    moves m _ i _ _ acts (record { low = omega arith; limit = omega arith; flag = λ a e x. refl }) (λ k. absurd (omega arith)) in
     let low = ap (λ (r : Replica). r .minView) (acts .own) in
     let limit = ap (λ (r : Replica). r .viewLimit) (acts .own) in
-    safe-after m _ i _ _ acts safe (prepare-leaves m i b j list hold) mv
+    goes-on m _ i _ _ acts safe (prepare-leaves m i b j list hold) mv
     (record {
       leader = rw (acts .faults) leader;
       positive = omega tests;
@@ -87,16 +88,17 @@ prepare-safe m i b j list hold safe =
       flag = λ e. ap (λ (r : Replica). r .flag) (acts .own);
       chain =
           λ v a l ch.
-            let before = choosable-before m _ mv ch in
-            let g = grounded m i j list safe (h .1 .1 .0) (ranged .1 .0) (justified .0) v a l before in
-            ancestor-after m _ mv (safe .formed) (omega tests)
-            (extend m safe (g .view) (justifiedBlock j cs) b v (g .proposed) (omega (tests, not-true (eqb b 0) (block .0))) (omega tests) a (g .covers) before);
+          let before = choosable-before m _ mv ch in
+          let g = grounded m i j list safe (h .1 .1 .0) (ranged .1 .0) (justified .0) v a l before in
+          ancestor-after m _ mv (safe .formed) (omega tests)
+          (extend m safe (g .view) (justifiedBlock j cs) b v (g .proposed) (omega (tests, not-true (eqb b 0) (block .0))) (omega tests) a (g .covers) before);
     })
     (replica-kept m _ i _ _ acts mv (λ k. omega arith) r
     (record { storedView = refl; storedBlock = refl; decidedView = refl; decidedBlock = refl; status = λ e. e })
     (safe .rows i (omega tests)))
     (λ k d l kind other view.
-      let p = clause m (certificate m d) PROP kind (safe .log d l) in
-      let same = one-leader (faultBound m) w (certificate m d .signer) i (rw view at (p .leader)) leader in
-      let flagged = rw same at (p .flag (rw same (omega tests))) in
-      absurd (omega tests))
+    let p = clause m (certificate m d) PROP kind (safe .log d l) in
+    let same = one-leader (faultBound m) w (certificate m d .signer) i (rw view at (p .leader)) leader in
+    let flagged = rw same at (p .flag (rw same (omega tests))) in
+    absurd (omega tests))
+    refl refl

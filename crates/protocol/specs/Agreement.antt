@@ -5,13 +5,12 @@ use mathlib.Core.Path.{_≡_}
 use mathlib.Core.Bool.{true}
 use mathlib.Core.Logic.{_⊎_}
 use mathlib.Core.List.{List, [], _∷_, List·Memᴰ}
-use lib.ListN.{length}
 use Rattle.protocol.specs.declared.Call.the-variants.{Open, Decide}
 use Rattle.protocol.specs.Memory.{Memory, replicaCount, certificateCount, certificate, blockCount, replica, parent}
 use Rattle.protocol.specs.Ancestry.{isAncestorBy}
 use Rattle.protocol.specs.Runs.{Invocation, step, run}
 use Rattle.protocol.specs.Theorems.{Accepted}
-use Rattle.protocol.specs.History.{Event, reopened, decided, history, givenParent, Shown, shown, shownBlock, shownView, panel}
+use Rattle.protocol.specs.History.{Event, reopened, decided, history, givenParent, shown, shownBlock, shownView, panel}
 
 -- One of two blocks is in the other's line, by the parents given.
 abbrev pub OneLine : List Event → ℕ → ℕ → Type 0
@@ -76,4 +75,4 @@ WouldAgree =
     (m : Memory) (f : ℕ) (list : List ℕ) (calls : List Invocation) → Life m f list calls → (i j : ℕ) (l₁ l₂ : List ℕ)
     → Accepted (step (endOf m f list calls) (Decide i) l₁) → Accepted (step (endOf m f list calls) (Decide j) l₂)
     → OneLine (eventsOf m f list calls) (step (endOf m f list calls) (Decide i) l₁ .answer .first)
-      (step (endOf m f list calls) (Decide j) l₂ .answer .first)
+    (step (endOf m f list calls) (Decide j) l₂ .answer .first)

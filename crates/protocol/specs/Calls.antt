@@ -263,6 +263,11 @@ accumulate m i list =
     ∷ [])
     i [] (accOf i (firstOf cs .view) (greatest cs .block) (greatest cs .ofView))
 
+-- "If the view is above the shown view, both shown words are set."
+abbrev pub decisionWords : Memory → ℕ → Certificate → List Assignment
+decisionWords m i c =
+    cond (ltb (replica m i .decidedView) (c .view)) (decidedViewAt becomes c .view ∷ decidedBlockAt becomes c .block ∷ []) []
+
 -- "Decide(box, list): any status; matching commits. Values block, view. If the view is above the shown view, both shown words are set."
 unfoldable pub decide : Memory → ℕ → List ℕ → Rule
 decide m i list =
@@ -277,9 +282,7 @@ decide m i list =
           ∷ [];
       first = c .block;
       second = c .view;
-      after =
-          update m i
-          (cond (ltb (replica m i .decidedView) (c .view)) (decidedViewAt becomes c .view ∷ decidedBlockAt becomes c .block ∷ []) []);
+      after = update m i (decisionWords m i c);
     }
 
 -- "If boot or bound would pass 1,000,000, or the box is spent": a reboot then retires the replica.

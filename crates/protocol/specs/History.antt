@@ -7,7 +7,18 @@ use lib.Dec.{ltb, eqb}
 use Rattle.protocol.specs.declared.Answer.{Answer}
 use Rattle.protocol.specs.declared.Call.{Call}
 use Rattle.protocol.specs.declared.Call.the-variants.{
-  Open, Block, Prepare, Store, View, Accumulate, Decide, Reboot, Reserve, Request, Reply, Recover
+  Open,
+  Block,
+  Prepare,
+  Store,
+  View,
+  Accumulate,
+  Decide,
+  Reboot,
+  Reserve,
+  Request,
+  Reply,
+  Recover,
 }
 use Rattle.protocol.specs.Memory.{Memory}
 use Rattle.protocol.specs.Ancestry.{heightBy}
@@ -59,7 +70,6 @@ pub data Shown : Type 0 where
   _inView_ : ℕ → ℕ → Shown
 
 infix 68 _inView_
-
 unfoldable pub later : Shown → ℕ → ℕ → Shown
 later none b v = b inView v
 later (c inView w) b v = cond (ltb w v) (b inView v) (c inView w)

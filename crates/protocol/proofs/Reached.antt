@@ -1,0 +1,273 @@
+-- What every list of calls after an opening keeps: the invariant, and that the words are what the calls and answers told.
+use Prim.Native.Nat.{ℕ, zero, _≤_, _<_}
+use mathlib.Core.Path.{_≡_, refl, ap, _∙_}
+use mathlib.Core.Bool.{true, false, cond}
+use mathlib.Core.Logic.{inl, inr, ⊎-elim}
+use mathlib.Core.List.{List, [], _∷_, List·Memᴰ, List·Memᴰ·cases-cons}
+use native.Mathlib.Omega.{arith}
+use lib.ListN.{getD}
+use lib.Dec.{ltb, leb, eqb}
+use Rattle.protocol.specs.Memory.{
+  Memory,
+  Replica,
+  _becomes_,
+  decidedViewAt,
+  decidedBlockAt,
+  replicaCount,
+  faultBound,
+  blockCount,
+  replica,
+  parent,
+  appendBlock,
+}
+use Rattle.protocol.specs.Ancestry.{stepsToRoot, heightBy, isAncestorBy}
+use Rattle.protocol.specs.Form.{replicaFormed, certificateFormed}
+use Rattle.protocol.specs.Quorum.{certificatesOf, firstOf}
+use Rattle.protocol.specs.Calls.{block, decide}
+use Rattle.protocol.specs.History.{
+  Event,
+  added,
+  decided,
+  other,
+  givenParent,
+  Shown,
+  none,
+  _inView_,
+  later,
+  shown,
+  shownBlock,
+  shownView,
+  panel,
+}
+use Rattle.protocol.specs.Agreement.{OneLine, PanelsRise, Told, Extends}
+use Rattle.protocol.proofs.Tests.{tests, by-test, by-cond, each}
+use Rattle.protocol.proofs.Needs.{Holds}
+use Rattle.protocol.proofs.Changes.{changed, block-new, block-old, block-count}
+use Rattle.protocol.proofs.Formed.{sizes}
+use Rattle.protocol.proofs.Keeps.{block-keeps}
+use Rattle.protocol.proofs.Line.{Line, Falls, line-same, is-ancestor, height-same, height-line}
+use Rattle.protocol.proofs.Safety.{Chosen, Safe}
+use Rattle.protocol.proofs.Moves.{falls, chosen-after}
+use Rattle.protocol.proofs.Acts.{GoesOn}
+use Rattle.protocol.proofs.SafeCalls.{chosen, decide-safe}
+use Rattle.protocol.proofs.SafeEnds.{adds-moves, adds-safe, block-adds, chosen-proposal, chosen-line}
+
+pub record Reached (f : ℕ) (past : List Event) (m : Memory) : Type 0 where
+  pub safe : Safe m
+  pub faults : faultBound m ≡ f
+  pub told : Told f past m
+  -- a number that is no replica's has decided nothing
+  pub strangers : (i : ℕ) → replicaCount f ≤ i → shown past i ≡ none
+  pub decisions : (i b v : ℕ) → List·Memᴰ (decided i b v) past → Chosen m v b
+  pub panels : PanelsRise past
+
+-- What a next event leaves: all of that again, with nothing lost from the log and the blocks.
+pub record Follows (f : ℕ) (past : List Event) (m m′ : Memory) : Type 0 where
+  pub reached : Reached f past m′
+  pub extends : Extends m m′
+
+-- An event that is not the newest is an older one.
+older : {x e : Event} {past : List Event} → (x ≡ e → ⊥) → List·Memᴰ x (e ∷ past) → List·Memᴰ x past
+older differs w = ⊎-elim (λ e. absurd (differs e)) (λ w. w) (List·Memᴰ·cases-cons w)
+
+-- The decided words of a replica are what its history shows.
+record Shows (r : Replica) (s : Shown) : Type 0 where
+  view : r .decidedView ≡ shownView s
+  block : r .decidedBlock ≡ shownBlock s
+
+words-told : (r : Replica) (b v : ℕ) (s : Shown) → 1 ≤ v → Shows r s
+    → Shows (changed (cond (ltb (r .decidedView) v) (decidedViewAt becomes v ∷ decidedBlockAt becomes b ∷ []) []) r) (later s b v)
+unfolding later
+words-told r b v none low h =
+    let z = h .view in
+    by-cond (λ cs. Shows (changed cs r) (b inView v)) (ltb (r .decidedView) v) (λ e. record { view = refl; block = refl })
+    (λ e. absurd (omega tests))
+words-told r b v (c inView w) low h =
+    let z = h .view in
+    by-cond (λ cs. Shows (changed cs r) (later (c inView w) b v)) (ltb (r .decidedView) v)
+    (λ e. let q : ltb w v ≡ true = omega tests in rw q (record { view = refl; block = refl }))
+    (λ e. let q : ltb w v ≡ false = omega tests in rw q h)
+
+-- ---- lines and heights by the parents given
+
+module _ (f : ℕ) (past : List Event) (m : Memory) (h : Reached f past m) where
+  given-falls : Falls (givenParent past) (blockCount m)
+  given-falls b l n =
+      let e = h .told .parents b l in
+      let lower = falls m (h .safe .formed) b l n in
+      omega arith
+
+  -- The block that a panel shows is an added one.
+  shown-known : (i : ℕ) → shownBlock (shown past i) < blockCount m
+  unfolding replicaFormed
+  shown-known i =
+      let z = sizes m (h .safe .formed) in
+      let same = h .faults in
+      by-test (ltb i (replicaCount f))
+      (λ e.
+      let row = each _ (h .safe .formed .rows i (omega tests)) in
+      let word = h .told .blocks i (omega tests) in
+      omega tests)
+      (λ e. rw (h .strangers i (omega tests)) (omega arith))
+
+  pub one-line : {v b w c : ℕ} → b < blockCount m → c < blockCount m → Chosen m v b → Chosen m w c → OneLine past b c
+  one-line {v} {b} {w} {c} known-b known-c hb hc =
+      by-test (leb v w) (λ e. inl (line known-c (chosen-line m (h .safe) hb hc (omega tests))))
+      (λ e. inr (line known-b (chosen-line m (h .safe) hc hb (omega tests))))
+    where
+      line : {a b : ℕ} → b < blockCount m → Line (parent m) a b → isAncestorBy (givenParent past) a b ≡ true
+      line l w =
+          is-ancestor (givenParent past) (blockCount m) given-falls l
+          (line-same (parent m) (givenParent past) (blockCount m) (falls m (h .safe .formed)) (h .told .parents) l w)
+
+  -- ---- an event that the history does not see
+
+  pub quiet : {m′ : Memory} → GoesOn m m′ → Follows f (other ∷ past) m m′
+  unfolding givenParent shown panel
+  quiet g =
+      let q = g .quiet in
+      let count = q .blocks in
+      record {
+        reached =
+            record {
+              safe = g .safe;
+              faults = g .moves .faults ∙ h .faults;
+              told =
+                  record {
+                    parents = λ b l. q .parents b ∙ h .told .parents b (omega arith);
+                    views = λ i l. q .decidedView i ∙ h .told .views i l;
+                    blocks = λ i l. q .decidedBlock i ∙ h .told .blocks i l;
+                  };
+              strangers = h .strangers;
+              decisions = λ i b v w. chosen-after m _ (g .moves) (h .decisions i b v (older (λ e. let z : _≡_ {A = ℕ} 0 1 = cc in omega arith) w));
+              panels = (λ i. omega arith, h .panels);
+            };
+        extends = g .moves .extends;
+      }
+
+  -- ---- a block is added
+
+  pub added-block : (p : ℕ) → Holds (block m p .needs) → Follows f (added (blockCount m) p ∷ past) m (appendBlock m p)
+  unfolding block givenParent shown panel
+  added-block p needs =
+      let z = sizes m (h .safe .formed) in
+      let adds = block-adds m p (h .safe .formed) in
+      let mv = adds-moves m (appendBlock m p) adds in
+      let more = block-count m p (omega arith) in
+      record {
+        reached =
+            record {
+              safe = adds-safe m (appendBlock m p) adds (block-keeps m p (h .safe .formed) (omega tests) (omega tests)) (h .safe);
+              faults = adds .faults ∙ h .faults;
+              told =
+                  record {
+                    parents =
+                        λ b l.
+                        by-test (eqb b (blockCount m))
+                        (λ e. let q : b ≡ blockCount m = omega tests in rw e (rw q (block-new m p (omega tests))))
+                        (λ e. rw e (block-old m p b (omega tests) ∙ h .told .parents b (omega tests)));
+                    views = λ i l. ap (λ (r : Replica). r .decidedView) (adds .replica i) ∙ h .told .views i l;
+                    blocks = λ i l. ap (λ (r : Replica). r .decidedBlock) (adds .replica i) ∙ h .told .blocks i l;
+                  };
+              strangers = h .strangers;
+              decisions = λ i b v w. chosen-after m _ mv (h .decisions i b v (older (λ e. let z : _≡_ {A = ℕ} 0 1 = cc in omega arith) w));
+              panels = (
+                λ i.
+                    let same =
+                    height-same (givenParent past) (λ x. cond (eqb x (blockCount m)) p (givenParent past x)) (blockCount m) given-falls
+                    (λ x l. let e : eqb x (blockCount m) ≡ false = omega tests in rw e refl) (shownBlock (shown past i)) (shown-known i) in
+                    omega arith,
+                h .panels,
+              );
+            };
+        extends = mv .extends;
+      }
+
+  -- ---- a decision
+
+  pub chosen-known : {v b : ℕ} → Chosen m v b → b < blockCount m
+  unfolding certificateFormed
+  chosen-known x =
+      let p = chosen-proposal m (h .safe) x .proposed in
+      let t = each _ (h .safe .formed .log (p .number) (p .issued)) in
+      let e = p .holds .block in
+      omega tests
+
+  -- The panel of a replica that decides does not fall.
+  panel-rises : (i b v : ℕ) (s : Shown) → i < replicaCount f → shown past i ≡ s → Chosen m v b
+      → heightBy (givenParent past) (shownBlock s) ≤ heightBy (givenParent past) (shownBlock (later s b v))
+  unfolding later stepsToRoot
+  panel-rises i b v none own e x = omega arith
+  panel-rises i b v (c inView w) own e x =
+      let given = givenParent past in
+      by-cond (λ (z : Shown). heightBy given c ≤ heightBy given (shownBlock z)) (ltb w v)
+      (λ t.
+      let faults = h .faults in
+      let view : replica m i .decidedView ≡ w = h .told .views i own ∙ ap shownView e in
+      let blk : replica m i .decidedBlock ≡ c = h .told .blocks i own ∙ ap shownBlock e in
+      ⊎-elim (λ z. let zero = z .1 in let q : c ≡ 0 = omega arith in rw q (omega arith))
+      (λ y.
+      height-line given (blockCount m) given-falls (chosen-known x)
+      (line-same (parent m) given (blockCount m) (falls m (h .safe .formed)) (h .told .parents) (chosen-known x)
+      (chosen-line m (h .safe) (rw (view, blk) at y) x (omega tests))))
+      (h .safe .rows i (omega arith) .decided))
+      (λ t. omega arith)
+
+  pub decides : (i : ℕ) (list : List ℕ) → Holds (decide m i list .needs)
+      → Follows f (decided i (decide m i list .first) (decide m i list .second) ∷ past) m (decide m i list .after)
+  unfolding decide givenParent shown panel
+  decides i list needs =
+      let faults = h .faults in
+      let own : i < replicaCount f = omega tests in
+      let u = decide-safe m i list needs (h .safe) in
+      let count = u .acts .blocks in
+      let c = firstOf (certificatesOf m list) in
+      let x = chosen m i list needs (h .safe) in
+      let low = chosen-proposal m (h .safe) x .positive in
+      let mine =
+      words-told (replica m i) (c .block) (c .view) (shown past i) low
+      (record { view = h .told .views i own; block = h .told .blocks i own }) in
+      record {
+        reached =
+            record {
+              safe = u .safe;
+              faults = u .moves .faults ∙ faults;
+              told =
+                  record {
+                    parents =
+                        λ y l. ap (λ (bs : List ℕ). getD bs y 0) (u .acts .parents) ∙ h .told .parents y (omega arith);
+                    views =
+                        λ j l.
+                        by-test (eqb j i)
+                        (λ e.
+                        let q : j ≡ i = omega tests in
+                        rw e (rw q (ap (λ (r : Replica). r .decidedView) (u .acts .own) ∙ mine .view)))
+                        (λ e. rw e (ap (λ (r : Replica). r .decidedView) (u .acts .others j (omega tests)) ∙ h .told .views j l));
+                    blocks =
+                        λ j l.
+                        by-test (eqb j i)
+                        (λ e.
+                        let q : j ≡ i = omega tests in
+                        rw e (rw q (ap (λ (r : Replica). r .decidedBlock) (u .acts .own) ∙ mine .block)))
+                        (λ e. rw e (ap (λ (r : Replica). r .decidedBlock) (u .acts .others j (omega tests)) ∙ h .told .blocks j l));
+                  };
+              strangers = λ j l. let e : eqb j i ≡ false = omega tests in rw e (h .strangers j l);
+              decisions =
+                  λ j y w at.
+                  ⊎-elim
+                  (λ e.
+                  let q : y ≡ c .block = cc in
+                  let q′ : w ≡ c .view = cc in
+                  rw (q, q′) (chosen-after m _ (u .moves) x))
+                  (λ past. chosen-after m _ (u .moves) (h .decisions j y w past))
+                  (List·Memᴰ·cases-cons at);
+              panels = (
+                λ j.
+                    by-test (eqb j i)
+                    (λ e. let q : j ≡ i = omega tests in rw e (rw q (panel-rises i (c .block) (c .view) (shown past i) own refl x)))
+                    (λ e. rw e (omega arith)),
+                h .panels,
+              );
+            };
+        extends = u .moves .extends;
+      }

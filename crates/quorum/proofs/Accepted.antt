@@ -2,15 +2,15 @@
 use Prim.Native.Nat.{ℕ, zero, suc, _≤_, _<_}
 use mathlib.Core.Path.{_≡_, refl, sym, ap, _∙_}
 use mathlib.Core.Logic.{_≢_}
-use mathlib.Core.Bool.{Bool, true, false, cond, not, _&&_, _||_}
-use mathlib.Core.List.{List, [], _∷_, map}
+use mathlib.Core.Bool.{Bool, true, false, cond, not}
+use mathlib.Core.List.{List, [], _∷_}
 use native.Mathlib.Omega.{arith}
 use native.Mathlib.Nat.{le-trans}
 use lib.ListN.{length, getD, length-map, List·getD-map}
 use lib.Dec.{ltb, eqb}
 use borrow.Author.Tests.{not-true}
 use Rattle.protocol.specs.Memory.{Memory, Certificate, certificateCount, certificate}
-use Rattle.protocol.specs.Form.{lengthsFit, countsFit, certificateFormed}
+use Rattle.protocol.specs.Form.{lengthsFit, certificateFormed}
 use Rattle.protocol.specs.Certificates.{COMMIT, NEWVIEW, REPLY}
 use Rattle.protocol.specs.Quorum.{
   every,
@@ -30,7 +30,7 @@ use Rattle.protocol.specs.Quorum.{
 }
 use Rattle.protocol.proofs.Tests.{tests, by-test, by-cond, and-true, or-false, each}
 use Rattle.protocol.proofs.Formed.{Formed, sizes}
-use Rattle.quorum.specs.Lists.{certificatesIn, Listed, isQuorum, wants, Greatest}
+use Rattle.quorum.specs.Lists.{certificatesIn, Listed, isQuorum, Greatest}
 
 -- Certificates are those of the log, whatever the table and the blocks are.
 pub by-log : (m : Memory) (list : List ℕ) → certificatesOf m list ≡ certificatesIn (m .log) list
@@ -198,5 +198,6 @@ greatest-most m list i h =
     at (from-most (firstOf (certificatesOf m list)) (certificatesOf m list) (certificate m 0) i (simp length-map h))
 
 -- What `greatest` returns is issued, where the list is.
-pub greatest-issued : (m : Memory) (list : List ℕ) (r : ℕ) → allIssued m list ≡ true → Greatest (m .log) list r → r < certificateCount m
+pub greatest-issued : (m : Memory) (list : List ℕ) (r : ℕ) → allIssued m list ≡ true → Greatest (m .log) list r
+    → r < certificateCount m
 greatest-issued m list r e g = let q = every-contained (isIssued m) list r e (g .listed) in omega tests

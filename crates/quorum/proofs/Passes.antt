@@ -11,7 +11,7 @@ use lib.Seq.{drop-cons}
 use lib.Dec.{ltb, eqb}
 use Rattle.protocol.specs.Memory.{Certificate}
 use Rattle.protocol.specs.Form.{allHold}
-use Rattle.protocol.specs.Quorum.{every, contains, distinct, signers, firstOf, greatestFrom, greatest}
+use Rattle.protocol.specs.Quorum.{every, contains, distinct, signers, greatestFrom, greatest}
 use Rattle.protocol.proofs.Tests.{tests, by-test}
 use Rattle.quorum.specs.Signers.{holds}
 use Rattle.quorum.specs.Lists.{certificateIn, certificatesIn, isQuorum, Greatest}
@@ -22,7 +22,7 @@ use Rattle.quorum.proofs.Bits.{holds-none, holds-with}
 pub every-step : (test : ℕ → Bool) (list : List ℕ) (i : ℕ) (ok : Bool) → i < length list
     → ((ok && test (getD list i 0)) && every test (drop (i + 1) list)) ≡ (ok && every test (drop i list))
 unfolding every
-every-step test list i ok h = rw (add-one i, drop-cons list i 0) (and-assoc ok (test (getD list i 0)) (every test (drop (suc i) list)))
+every-step test list i ok h = rw (add-one i, drop-cons list i 0) (and-assoc ok _ _)
 
 pub every-end : (test : ℕ → Bool) (list : List ℕ) (i : ℕ) (ok : Bool) → length list ≤ i → (ok && every test (drop i list)) ≡ ok
 unfolding every
@@ -126,8 +126,8 @@ module _ (log list : List ℕ) where
 
   module _ (i best view : ℕ) (b : Best log list i best view) where
     step : i < length list → (t : Bool) → ltb (certificateIn log best .ofView) (certificateIn log (getD list i 0) .ofView) ≡ t
-        → greatestFrom (cond t (certificateIn log (getD list i 0)) (certificateIn log best)) (certificatesIn log (drop (i + 1) list))
-        ≡ greatest (certificatesIn log list)
+        → let next : Certificate = cond t (certificateIn log (getD list i 0)) (certificateIn log best) in
+        greatestFrom next (certificatesIn log (drop (i + 1) list)) ≡ greatest (certificatesIn log list)
     unfolding greatestFrom
     step h t e = rw (← e, add-one i) (rw (drop-cons list i 0) at (b .rest))
 

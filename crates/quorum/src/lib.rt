@@ -1,10 +1,10 @@
 // Quorums: what the calls with a list of certificate numbers ask of it, each in one pass over the list (document 01, "Calls").
-ghost use Prim.Native.Nat.{ℕ, _*_, _+_, _^_, _≤_, _<_};
+ghost use Prim.Native.Nat.{_^_, _<_};
 ghost use mathlib.Core.Path.{_≡_};
 ghost use lib.Bits.{bitOr};
 ghost use lib.Dec.{ltb};
 ghost use lib.ListN.{length};
-ghost use Rattle.protocol.specs.Memory.{certificateWords, ofViewAt};
+ghost use Rattle.protocol.specs.Memory.{certificateWords};
 ghost use Rattle.protocol.specs.Quorum.{every, isCommitQuorum, isNewViewQuorum, isReplyQuorum};
 ghost use Rattle.quorum.specs.Lists.{
   certificateIn,

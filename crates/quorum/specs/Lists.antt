@@ -1,0 +1,66 @@
+-- What the contracts say of a list of certificate numbers, beside the definitions of protocol's Quorum.
+use Prim.Native.Nat.{ℕ, _+_, _≤_, _<_}
+use mathlib.Core.Path.{_≡_}
+use mathlib.Core.Bool.{Bool, true, not}
+use mathlib.Core.List.{List, [], _∷_}
+use lib.ListN.{length, getD}
+use lib.Dec.{eqb}
+use Rattle.protocol.specs.Memory.{
+  Certificate,
+  memory,
+  certificateWords,
+  certificateAt,
+  certificateWord,
+  certificate,
+  maxCertificates,
+}
+use Rattle.protocol.specs.Form.{allHold}
+use Rattle.protocol.specs.Certificates.{isKind, COMMIT, NEWVIEW, REPLY}
+use Rattle.protocol.specs.Quorum.{every, certificatesOf, contains, distinct, signers, greatest}
+use Rattle.quorum.specs.declared.Wanted.{Wanted}
+use Rattle.quorum.specs.declared.Wanted.the-variants.{Commit, NewView, Reply}
+
+-- Certificates are read from the log alone: in any memory with this log they are the same.
+abbrev pub wordIn : List ℕ → ℕ → ℕ → ℕ
+wordIn log number place = certificateWord (memory [] log []) number place
+
+abbrev pub certificateIn : List ℕ → ℕ → Certificate
+certificateIn log number = certificate (memory [] log []) number
+
+abbrev pub certificatesIn : List ℕ → List ℕ → List Certificate
+certificatesIn log list = certificatesOf (memory [] log []) list
+
+-- The bits of the word that holds the signers seen.
+abbrev pub maxSigners : ℕ
+maxSigners = 64
+
+-- The record of a certificate lies within a log of lawful length.
+pub record InLog (log : List ℕ) (number : ℕ) : Type 0 where
+  pub short : length log ≤ certificateAt maxCertificates
+  pub within : certificateAt number + certificateWords ≤ length log
+
+-- So does that of each certificate of a list, and its signer has a bit.
+pub record Listed (log list : List ℕ) : Type 0 where
+  pub inLog : (i : ℕ) → i < length list → InLog log (getD list i 0)
+  pub signed : (i : ℕ) → i < length list → certificateIn log (getD list i 0) .signer < maxSigners
+
+-- A test of one certificate, for each of the three quorums; then what all three ask.
+abbrev pub wants : Wanted → Certificate → Bool
+wants (Commit view block) c = allHold (isKind COMMIT c ∷ eqb (c .view) view ∷ eqb (c .block) block ∷ [])
+wants (NewView view) c = allHold (isKind NEWVIEW c ∷ eqb (c .view) view ∷ [])
+wants (Reply subject boot view) c =
+    allHold
+    (isKind REPLY c
+    ∷ eqb (c .subject) subject
+    ∷ eqb (c .boot) boot
+    ∷ eqb (c .view) view
+    ∷ not (eqb (c .signer) subject)
+    ∷ [])
+
+unfoldable pub isQuorum : (Certificate → Bool) → List Certificate → Bool
+isQuorum test cs = allHold (every test cs ∷ distinct (signers cs) ∷ [])
+
+-- A number of the list, whose certificate is its greatest.
+pub record Greatest (log list : List ℕ) (r : ℕ) : Type 0 where
+  pub listed : contains r list ≡ true
+  pub is : certificateIn log r ≡ greatest (certificatesIn log list)

@@ -7,21 +7,8 @@ use mathlib.Core.List.{List}
 use native.Mathlib.Omega.{arith}
 use lib.ListN.{getD}
 use lib.Dec.{ltb, eqb}
-use Rattle.protocol.specs.Memory.{
-  Memory,
-  Replica,
-  Certificate,
-  Assignment,
-  faultBound,
-  certificateCount,
-  blockCount,
-  replica,
-  certificate,
-  words,
-  parent,
-  raised,
-  update,
-}
+use Rattle.protocol.specs.Memory.{Memory, Replica, Certificate, Assignment, faultBound, certificateCount, blockCount}
+use Rattle.protocol.specs.Memory.{replica, certificate, words, parent, raised, update}
 use Rattle.protocol.specs.Form.{certificateFormed}
 use Rattle.protocol.specs.Certificates.{PROP, COMMIT, file}
 use Rattle.protocol.specs.Outcome.{Need}
@@ -30,7 +17,8 @@ use Rattle.protocol.specs.Agreement.{Extends}
 use Rattle.protocol.proofs.Tests.{tests, by-test, each}
 use Rattle.protocol.proofs.Needs.{Holds}
 use Rattle.protocol.proofs.Words.{withinRow}
-use Rattle.protocol.proofs.Changes.{changed, update-header, update-other, update-own, append-count, append-old, append-new}
+use Rattle.protocol.proofs.Changes.{changed, update-header, update-other, update-own, append-count, append-old}
+use Rattle.protocol.proofs.Changes.{append-new}
 use Rattle.protocol.proofs.Formed.{Formed, sizes}
 use Rattle.protocol.proofs.Filing.{file-cases, file-blocks, file-table, file-replica, file-lengths, must-have-room}
 use Rattle.protocol.proofs.Keeps.{issuing-needs}

@@ -6,20 +6,8 @@ use mathlib.Core.List.{List, [], _∷_, List·Memᴰ, List·Memᴰ·head, List·
 use native.Mathlib.Omega.{arith}
 use lib.Dec.{eqb, eqb·suc-zero}
 use Rattle.protocol.specs.declared.Call.{Call}
-use Rattle.protocol.specs.declared.Call.the-variants.{
-  Open,
-  Block,
-  Prepare,
-  Store,
-  View,
-  Accumulate,
-  Decide,
-  Reboot,
-  Reserve,
-  Request,
-  Reply,
-  Recover,
-}
+use Rattle.protocol.specs.declared.Call.the-variants.{Open, Block, Prepare, Store, View, Accumulate, Decide, Reboot}
+use Rattle.protocol.specs.declared.Call.the-variants.{Reserve, Request, Reply, Recover}
 use Rattle.protocol.specs.Memory.{Memory, Replica, parent}
 use Rattle.protocol.specs.Counter.{counterStep}
 use Rattle.protocol.specs.Outcome.{firstRefusal, answered, follow}
@@ -27,23 +15,15 @@ use Rattle.protocol.specs.Calls.{opening, block, decide}
 use Rattle.protocol.specs.Runs.{Invocation, ruleOf, step, run}
 use Rattle.protocol.specs.Theorems.{Accepted}
 use Rattle.protocol.specs.History.{Event, reopened, other, acceptedEvent, eventOf, history, givenParent, shown}
-use Rattle.protocol.specs.Agreement.{Life, eventsOf, endOf, Agreement, WordsMatchHistory, Extends, OnlyAppended, WouldAgree}
+use Rattle.protocol.specs.Agreement.{Life, eventsOf, endOf, Agreement, WordsMatchHistory, Extends, OnlyAppended}
+use Rattle.protocol.specs.Agreement.{WouldAgree}
 use Rattle.protocol.proofs.Needs.{Holds, no-refusal, accepted-after, accepted-first}
 use Rattle.protocol.proofs.Rules.{needs-hold}
 use Rattle.protocol.proofs.Opened.{opened}
 use Rattle.protocol.proofs.Safety.{Chosen, Safe}
 use Rattle.protocol.proofs.Acts.{GoesOn}
-use Rattle.protocol.proofs.SafeCalls.{
-  store-safe,
-  view-safe,
-  accumulate-safe,
-  reboot-safe,
-  reserve-safe,
-  request-safe,
-  reply-safe,
-  recover-safe,
-  chosen,
-}
+use Rattle.protocol.proofs.SafeCalls.{store-safe, view-safe, accumulate-safe, reboot-safe, reserve-safe, request-safe}
+use Rattle.protocol.proofs.SafeCalls.{reply-safe, recover-safe, chosen}
 use Rattle.protocol.proofs.SafePrepare.{prepare-safe}
 use Rattle.protocol.proofs.SafeEnds.{opened-safe}
 use Rattle.protocol.proofs.Reached.{Reached, Follows, one-line, chosen-known, quiet, added-block, decides}

@@ -7,26 +7,9 @@ use native.Mathlib.Omega.{arith}
 use lib.ListN.{length, getD, length-set}
 use lib.Seq.{length-sets}
 use lib.Dec.{ltb, eqb}
-use Rattle.protocol.specs.Memory.{
-  Memory,
-  Assignment,
-  replicaCount,
-  faultBound,
-  certificateCount,
-  blockCount,
-  rowAt,
-  certificateWords,
-  certificateAt,
-  certificateWord,
-  certificate,
-  words,
-  blockAt,
-  parent,
-  assign,
-  update,
-  appendCertificate,
-  appendBlock,
-}
+use Rattle.protocol.specs.Memory.{Memory, Assignment, replicaCount, faultBound, certificateCount, blockCount, rowAt}
+use Rattle.protocol.specs.Memory.{certificateWords, certificateAt, certificateWord, certificate, words, blockAt, parent}
+use Rattle.protocol.specs.Memory.{assign, update, appendCertificate, appendBlock}
 use Rattle.protocol.specs.Form.{countsFit, blockFormed, certificateFormed, wellFormed}
 use Rattle.protocol.specs.Certificates.{firstBelow, hasWords, numberFor, isFiled, canFile, file}
 use Rattle.protocol.specs.Quorum.{every, isIssued, allIssued, certificatesOf}
@@ -34,7 +17,8 @@ use Rattle.protocol.specs.Calls.{isBlock}
 use Rattle.protocol.specs.Theorems.{SameLengths, Alike}
 use Rattle.protocol.proofs.Tests.{tests, by-test, and-true, same-below}
 use Rattle.protocol.proofs.Words.{withinRow, set-alike, sets-alike}
-use Rattle.protocol.proofs.Changes.{certificate-same, update-header, append-table, append-count, block-table, block-count}
+use Rattle.protocol.proofs.Changes.{certificate-same, update-header, append-table, append-count, block-table}
+use Rattle.protocol.proofs.Changes.{block-count}
 use Rattle.protocol.proofs.Formed.{Formed, sizes}
 use Rattle.protocol.proofs.Keeps.{lengths-same}
 

@@ -7,42 +7,13 @@ use mathlib.Core.List.{List}
 use native.Mathlib.Omega.{arith}
 use lib.ListN.{length, getD, length-set}
 use lib.Seq.{getD-set-same, getD-set-other, length-sets}
-use Rattle.protocol.specs.Memory.{
-  Memory,
-  Replica,
-  Certificate,
-  Assignment,
-  certificateCountAt,
-  blockCountAt,
-  certificateCount,
-  blockCount,
-  rowStart,
-  rowAt,
-  replicaWords,
-  replicaWord,
-  replica,
-  certificateWords,
-  certificateAt,
-  certificateWord,
-  certificate,
-  words,
-  blockAt,
-  parent,
-  update,
-  appendCertificate,
-  appendBlock,
-}
+use Rattle.protocol.specs.Memory.{Memory, Replica, Certificate, Assignment, certificateCountAt, blockCountAt}
+use Rattle.protocol.specs.Memory.{certificateCount, blockCount, rowStart, rowAt, replicaWords, replicaWord, replica}
+use Rattle.protocol.specs.Memory.{certificateWords, certificateAt, certificateWord, certificate, words, blockAt, parent}
+use Rattle.protocol.specs.Memory.{update, appendCertificate, appendBlock}
 use Rattle.protocol.specs.Theorems.{SameLengths}
-use Rattle.protocol.proofs.Words.{
-  assigned,
-  withinRow,
-  avoids-row,
-  length-assign,
-  assign-elsewhere,
-  assign-at,
-  sets-elsewhere,
-  sets-at,
-}
+use Rattle.protocol.proofs.Words.{assigned, withinRow, avoids-row, length-assign, assign-elsewhere, assign-at}
+use Rattle.protocol.proofs.Words.{sets-elsewhere, sets-at}
 
 -- A replica or a certificate is as before where its words are.
 pub replica-same : (m m′ : Memory) (i : ℕ) → ((k : ℕ) → k < replicaWords → replicaWord m i k ≡ replicaWord m′ i k)

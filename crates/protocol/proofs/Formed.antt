@@ -3,30 +3,10 @@ use Prim.Native.Nat.{ℕ, _≤_, _<_, _%_}
 use mathlib.Core.Path.{_≡_}
 use mathlib.Core.Bool.{true}
 use lib.ListN.{length}
-use Rattle.protocol.specs.Memory.{
-  Memory,
-  replicaCount,
-  faultBound,
-  certificateCount,
-  blockCount,
-  tableLength,
-  replica,
-  certificateWords,
-  certificateAt,
-  certificate,
-  words,
-  blockAt,
-  parent,
-}
-use Rattle.protocol.specs.Form.{
-  isFaultBound,
-  lengthsFit,
-  countsFit,
-  blockFormed,
-  replicaFormed,
-  certificateFormed,
-  wellFormed,
-}
+use Rattle.protocol.specs.Memory.{Memory, replicaCount, faultBound, certificateCount, blockCount, tableLength, replica}
+use Rattle.protocol.specs.Memory.{certificateWords, certificateAt, certificate, words, blockAt, parent}
+use Rattle.protocol.specs.Form.{isFaultBound, lengthsFit, countsFit, blockFormed, replicaFormed, certificateFormed}
+use Rattle.protocol.specs.Form.{wellFormed}
 use Rattle.protocol.proofs.Tests.{tests, each, all-hold, at-below, all-below}
 
 pub record Formed (m : Memory) : Type 0 where

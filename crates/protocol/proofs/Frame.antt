@@ -8,73 +8,19 @@ use lib.ListN.{length, getD, List·getD-eq-default}
 use lib.Seq.{getD-set-other}
 use lib.Dec.{ltb}
 use Rattle.protocol.specs.declared.Call.{Call}
-use Rattle.protocol.specs.declared.Call.the-variants.{
-  Open,
-  Block,
-  Prepare,
-  Store,
-  View,
-  Accumulate,
-  Decide,
-  Reboot,
-  Reserve,
-  Request,
-  Reply,
-  Recover,
-}
-use Rattle.protocol.specs.Memory.{
-  Memory,
-  Certificate,
-  Assignment,
-  _becomes_,
-  replicaCount,
-  certificateCount,
-  rowAt,
-  certificateWords,
-  certificateAt,
-  certificate,
-  words,
-  replica,
-  update,
-  appendCertificate,
-  appendBlock,
-}
+use Rattle.protocol.specs.declared.Call.the-variants.{Open, Block, Prepare, Store, View, Accumulate, Decide, Reboot}
+use Rattle.protocol.specs.declared.Call.the-variants.{Reserve, Request, Reply, Recover}
+use Rattle.protocol.specs.Memory.{Memory, Certificate, Assignment, _becomes_, replicaCount, certificateCount, rowAt}
+use Rattle.protocol.specs.Memory.{certificateWords, certificateAt, certificate, words, replica, update, appendCertificate}
+use Rattle.protocol.specs.Memory.{appendBlock}
 use Rattle.protocol.specs.Certificates.{file}
 use Rattle.protocol.specs.Quorum.{certificatesOf, firstOf}
 use Rattle.protocol.specs.Outcome.{Need}
-use Rattle.protocol.specs.Calls.{
-  issuing,
-  freshReplicas,
-  freshHeader,
-  retires,
-  opening,
-  block,
-  prepare,
-  store,
-  view,
-  accumulate,
-  decide,
-  reboot,
-  reserve,
-  request,
-  reply,
-  recover,
-}
+use Rattle.protocol.specs.Calls.{issuing, freshReplicas, freshHeader, retires, opening, block, prepare, store, view}
+use Rattle.protocol.specs.Calls.{accumulate, decide, reboot, reserve, request, reply, recover}
 use Rattle.protocol.specs.Runs.{ruleOf, step}
-use Rattle.protocol.specs.Theorems.{
-  Place,
-  tableWord,
-  logWord,
-  blockWord,
-  wordAt,
-  below,
-  certificatePlaces,
-  blockPlaces,
-  named,
-  SameLengths,
-  OnlyNamedChange,
-  LengthsStay,
-}
+use Rattle.protocol.specs.Theorems.{Place, tableWord, logWord, blockWord, wordAt, below, certificatePlaces, blockPlaces}
+use Rattle.protocol.specs.Theorems.{named, SameLengths, OnlyNamedChange, LengthsStay}
 use Rattle.protocol.proofs.Tests.{by-cond}
 use Rattle.protocol.proofs.Needs.{left-memory}
 use Rattle.protocol.proofs.Words.{Avoids, assign-elsewhere, sets-elsewhere}

@@ -6,26 +6,9 @@ use mathlib.Core.List.{List, [], _∷_}
 use native.Mathlib.Omega.{arith}
 use lib.ListN.{length}
 use lib.Dec.{eqb}
-use Rattle.protocol.specs.Memory.{
-  Memory,
-  Replica,
-  Certificate,
-  Assignment,
-  replicaCount,
-  faultBound,
-  certificateCount,
-  blockCount,
-  replica,
-  certificateWords,
-  certificateAt,
-  certificate,
-  words,
-  blockAt,
-  parent,
-  update,
-  appendCertificate,
-  appendBlock,
-}
+use Rattle.protocol.specs.Memory.{Memory, Replica, Certificate, Assignment, replicaCount, faultBound, certificateCount}
+use Rattle.protocol.specs.Memory.{blockCount, replica, certificateWords, certificateAt, certificate, words, blockAt}
+use Rattle.protocol.specs.Memory.{parent, update, appendCertificate, appendBlock}
 use Rattle.protocol.specs.Form.{lengthsFit, countsFit, blockFormed, replicaFormed, certificateFormed}
 use Rattle.protocol.specs.Certificates.{canFile, file, logHasRoom}
 use Rattle.protocol.specs.Outcome.{Need, _else_, noRoom}
@@ -36,26 +19,9 @@ use Rattle.protocol.proofs.Needs.{Holds, holds-both}
 use Rattle.protocol.proofs.Words.{withinRow}
 use Rattle.protocol.proofs.Formed.{Formed, sizes}
 use Rattle.protocol.proofs.Filing.{file-cases, must-have-room, file-table, file-replica}
-use Rattle.protocol.proofs.Changes.{
-  changed,
-  certificateFrom,
-  update-lengths,
-  update-header,
-  update-other,
-  update-own,
-  append-lengths,
-  append-table,
-  append-count,
-  append-replica,
-  append-old,
-  append-new,
-  block-lengths,
-  block-table,
-  block-count,
-  block-replica,
-  block-old,
-  block-new,
-}
+use Rattle.protocol.proofs.Changes.{changed, certificateFrom, update-lengths, update-header, update-other, update-own}
+use Rattle.protocol.proofs.Changes.{append-lengths, append-table, append-count, append-replica, append-old, append-new}
+use Rattle.protocol.proofs.Changes.{block-lengths, block-table, block-count, block-replica, block-old, block-new}
 
 -- ---- the parts
 

@@ -1,56 +1,20 @@
 -- An accepted call leaves well-formed memory.
 use Prim.Native.Nat.{ℕ, _+_, _≤_}
 use mathlib.Core.Path.{_≡_, refl}
-use mathlib.Core.Bool.{Bool, true, false, cond, _||_}
+use mathlib.Core.Bool.{true, false, _||_}
 use mathlib.Core.List.{List}
-use native.Mathlib.Omega.{arith}
-use lib.Dec.{ltb, eqb}
+use lib.Dec.{ltb, leb, eqb}
 use Rattle.protocol.specs.declared.Call.{Call}
-use Rattle.protocol.specs.declared.Call.the-variants.{
-  Open,
-  Block,
-  Prepare,
-  Store,
-  View,
-  Accumulate,
-  Decide,
-  Reboot,
-  Reserve,
-  Request,
-  Reply,
-  Recover,
-}
+use Rattle.protocol.specs.declared.Call.the-variants.{Open, Block, Prepare, Store, View, Accumulate, Decide, Reboot}
+use Rattle.protocol.specs.declared.Call.the-variants.{Reserve, Request, Reply, Recover}
 use Rattle.protocol.specs.declared.Justification.{Justification}
-use Rattle.protocol.specs.Memory.{
-  Memory,
-  Certificate,
-  replicaCount,
-  ceiling,
-  faultBound,
-  blockCount,
-  retired,
-  replica,
-  certificate,
-  update,
-}
+use Rattle.protocol.specs.Memory.{Memory, Certificate, replicaCount, ceiling, faultBound, blockCount, retired, raised}
+use Rattle.protocol.specs.Memory.{replica, certificate, update}
 use Rattle.protocol.specs.Form.{replicaFormed, certificateFormed}
 use Rattle.protocol.specs.Counter.{counterStep}
 use Rattle.protocol.specs.Quorum.{certificatesOf, firstOf}
-use Rattle.protocol.specs.Calls.{
-  retires,
-  opening,
-  block,
-  prepare,
-  store,
-  view,
-  accumulate,
-  decide,
-  reboot,
-  reserve,
-  request,
-  reply,
-  recover,
-}
+use Rattle.protocol.specs.Calls.{isAhead, retires, opening, block, prepare, store, view, accumulate, decide, reboot}
+use Rattle.protocol.specs.Calls.{reserve, request, reply, recover}
 use Rattle.protocol.specs.Runs.{ruleOf, step}
 use Rattle.protocol.specs.Theorems.{AcceptedLeavesForm}
 use Rattle.protocol.proofs.Tests.{tests, by-cond, or-false, each, all-hold}
@@ -58,7 +22,7 @@ use Rattle.protocol.proofs.Needs.{Holds, no-refusal, accepted-after}
 use Rattle.protocol.proofs.Rules.{needs-hold}
 use Rattle.protocol.proofs.Formed.{Formed, formed, form}
 use Rattle.protocol.proofs.Keeps.{Suits, update-keeps, block-keeps, issuing-needs, issuing-keeps}
-use Rattle.protocol.proofs.Lists.{all-named, first-named, greatest-named}
+use Rattle.protocol.proofs.Lists.{all-named, first-named, picked}
 use Rattle.protocol.proofs.Opened.{opened, opened-formed}
 
 -- A certificate in its ranges.
@@ -97,12 +61,11 @@ view-leaves m i w hold =
     let h = issuing-needs m _ i _ _ hold .0 in
     let z = formed m (h .0) in
     let r = each _ (z .rows i (omega tests)) in
-    let flag : cond (ltb (replica m i .minView) w) 0 (replica m i .flag) ≤ 1 = small (ltb (replica m i .minView) w) (omega tests) in
-    issuing-keeps m _ i _ _ hold z (h .1 .0) (all-hold _ (omega tests)) (record { within = refl; row = all-hold _ (omega tests) })
-  where
-    small : (t : Bool) {x : ℕ} → x ≤ 1 → cond t 0 x ≤ 1
-    small true l = omega arith
-    small false l = l
+    issuing-keeps m _ i _ _ hold z (h .1 .0) (all-hold _ (omega tests))
+    (record {
+      within = refl;
+      row = all-hold _ (omega tests, (by-cond (λ (x : ℕ). leb x raised ≡ true) (isAhead (replica m i) w) (λ e. omega tests) (λ e. omega tests), omega tests));
+    })
 
 pub accumulate-leaves : (m : Memory) (i : ℕ) (list : List ℕ) → Holds (accumulate m i list .needs)
     → Formed (accumulate m i list .after)
@@ -112,8 +75,9 @@ accumulate-leaves m i list hold =
     let z = formed m (h .0) in
     let r = each _ (z .rows i (omega tests)) in
     let cs = all-named (InRange m) m list (h .1 .1 .1 .0) (z .log) in
-    let c = each _ (first-named (InRange m) m list (h .1 .1 .0) cs) in
-    let g = each _ (greatest-named (InRange m) m list (h .1 .1 .0) cs) in
+    let two = picked (InRange m) m list (h .1 .1 .0) cs in
+    let c = each _ (two .0) in
+    let g = each _ (two .1) in
     issuing-keeps m _ i _ _ hold z (h .1 .0) (all-hold _ (omega tests)) (record { within = refl; row = all-hold _ (omega tests) })
 
 pub decide-leaves : (m : Memory) (i : ℕ) (list : List ℕ) → Holds (decide m i list .needs) → Formed (decide m i list .after)
@@ -179,7 +143,9 @@ recover-leaves m i list h =
     let z = formed m (h .0) in
     let r = each _ (z .rows i (omega tests)) in
     let cs = all-named (InRange m) m list (h .1 .1 .1 .0) (z .log) in
-    let g = each _ (greatest-named (InRange m) m list (h .1 .1 .0) cs) in
+    let two = picked (InRange m) m list (h .1 .1 .0) cs in
+    let c = each _ (two .0) in
+    let g = each _ (two .1) in
     update-keeps m i _ z (h .1 .0) (record { within = refl; row = all-hold _ (omega tests) })
 
 leaves : (m : Memory) (call : Call) (list : List ℕ) → Holds (ruleOf m call list .needs) → Formed (ruleOf m call list .after)

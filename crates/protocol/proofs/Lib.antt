@@ -1,5 +1,4 @@
 -- What follows from the definitions: laws of their parts, then the theorems that specs/Theorems.antt states, and the table of cases.
-pub mod Cases
 pub mod Tests
 pub mod Needs
 pub mod Rules
@@ -26,3 +25,4 @@ pub mod SafePrepare
 pub mod SafeEnds
 pub mod Reached
 pub mod Agreement
+pub mod Cases

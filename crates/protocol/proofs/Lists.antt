@@ -1,12 +1,12 @@
 -- Lists of certificates: what holds of every issued certificate holds of each one that an issued list names, of its first and of its greatest.
 use Prim.Native.Nat.{ℕ, _<_}
 use mathlib.Core.Path.{_≡_}
-use mathlib.Core.Bool.{Bool, true, false, cond}
+use mathlib.Core.Bool.{true}
 use mathlib.Core.List.{List, [], _∷_}
-use lib.Dec.{ltb}
 use Rattle.protocol.specs.Memory.{Memory, Certificate, certificateCount, certificate}
-use Rattle.protocol.specs.Quorum.{every, isQuorumSize, isIssued, allIssued, certificatesOf, firstOf, greatestFrom, greatest}
-use Rattle.protocol.proofs.Tests.{tests, and-true}
+use Rattle.protocol.specs.Quorum.{every, isQuorumSize, isIssued, allIssued, certificatesOf, firstOf, isGreater, greater}
+use Rattle.protocol.specs.Quorum.{greatestFrom, greatest}
+use Rattle.protocol.proofs.Tests.{tests, by-cond, and-true}
 
 abbrev pub All : (Certificate → Type 0) → List Certificate → Type 0
 All P [] = Unit {0}
@@ -29,15 +29,11 @@ module _ (P : Certificate → Type 0) where
   greatest-from : (best : Certificate) (cs : List Certificate) → P best → All P cs → P (greatestFrom best cs)
   unfolding greatestFrom
   greatest-from best [] p h = p
-  greatest-from best (c ∷ cs) p h = greatest-from (cond t c best) cs (pick t) (h .1)
-    where
-      t : Bool
-      t = ltb (best .ofView) (c .ofView)
+  greatest-from best (c ∷ cs) p h = greatest-from (greater best c) cs (by-cond P (isGreater c best) (λ e. h .0) (λ e. p)) (h .1)
 
-      pick : (t : Bool) → P (cond t c best)
-      pick true = h .0
-      pick false = p
-
-  pub greatest-named : (m : Memory) (list : List ℕ) → isQuorumSize m list ≡ true → All P (certificatesOf m list)
-      → P (greatest (certificatesOf m list))
-  greatest-named m list e h = greatest-from (firstOf (certificatesOf m list)) (certificatesOf m list) (first-named m list e h) h
+  -- The two that the calls pick from a list.
+  pub picked : (m : Memory) (list : List ℕ) → isQuorumSize m list ≡ true → All P (certificatesOf m list)
+      → P (firstOf (certificatesOf m list)) × P (greatest (certificatesOf m list))
+  picked m list e h =
+      let first = first-named m list e h in
+      (first, greatest-from (firstOf (certificatesOf m list)) (certificatesOf m list) first h)

@@ -7,39 +7,16 @@ use mathlib.Core.List.{List, [], _∷_}
 use lib.ListN.{getD}
 use native.Mathlib.Omega.{arith}
 use lib.Dec.{ltb, eqb}
-use Rattle.protocol.specs.Memory.{
-  Memory,
-  Replica,
-  Certificate,
-  faultBound,
-  certificateCount,
-  blockCount,
-  replica,
-  certificate,
-  parent,
-  raised,
-}
+use Rattle.protocol.specs.Memory.{Memory, Replica, Certificate, faultBound, certificateCount, blockCount, replica}
+use Rattle.protocol.specs.Memory.{certificate, parent, raised}
 use Rattle.protocol.specs.Form.{blockFormed}
 use Rattle.protocol.specs.Certificates.{COMMIT}
 use Rattle.protocol.specs.Agreement.{Extends}
 use Rattle.protocol.proofs.Tests.{tests, by-test, each}
 use Rattle.protocol.proofs.Formed.{Formed}
 use Rattle.protocol.proofs.Line.{Falls, line-same}
-use Rattle.protocol.proofs.Safety.{
-  Issued,
-  Commit,
-  Committed,
-  Origin,
-  CanCommit,
-  Choosable,
-  Chosen,
-  Ancestor,
-  PropSafe,
-  ReportSafe,
-  clauses,
-  CertificateSafe,
-  ReplicaSafe,
-}
+use Rattle.protocol.proofs.Safety.{Issued, Commit, Committed, Origin, CanCommit, Choosable, Chosen, Ancestor, PropSafe}
+use Rattle.protocol.proofs.Safety.{ReportSafe, clauses, CertificateSafe, ReplicaSafe}
 
 -- The log and the blocks only grow, no lowest view and no limit falls, a flag falls only with its lowest view's rise or its limit's reach,
 -- and a new COMMIT stands in a view that its signer could still commit in and now has left.

@@ -6,21 +6,8 @@ use native.Mathlib.Omega.{arith}
 use lib.ListN.{length, getD, set, length-set}
 use lib.Seq.{getD-set-same, getD-set-other}
 use lib.Dec.{eqb}
-use Rattle.protocol.specs.Memory.{
-  Memory,
-  Replica,
-  replicaCount,
-  faultBound,
-  certificateCount,
-  blockCount,
-  rowStart,
-  rowAt,
-  replica,
-  parent,
-  live,
-  lowered,
-  update,
-}
+use Rattle.protocol.specs.Memory.{Memory, Replica, replicaCount, faultBound, certificateCount, blockCount, rowStart}
+use Rattle.protocol.specs.Memory.{rowAt, replica, parent, live, lowered, update}
 use Rattle.protocol.specs.Form.{isFaultBound, lengthsFit, blockFormed, replicaFormed}
 use Rattle.protocol.specs.Counter.{counterStep}
 use Rattle.protocol.specs.Calls.{freshReplica, freshReplicas, freshHeader}

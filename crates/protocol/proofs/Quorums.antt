@@ -2,26 +2,16 @@
 -- of-view than its greatest.
 use Prim.Native.Nat.{ℕ, _≤_, _<_}
 use mathlib.Core.Path.{_≡_, _∙_}
-use mathlib.Core.Bool.{Bool, true, cond}
+use mathlib.Core.Bool.{Bool, true}
 use mathlib.Core.Logic.{⊎-elim}
 use mathlib.Core.List.{List, [], _∷_}
 use native.Mathlib.Omega.{arith}
 use lib.ListN.{length-map}
-use lib.Dec.{ltb, eqb}
+use lib.Dec.{eqb}
 use Rattle.protocol.specs.Memory.{Memory, Certificate, replicaCount, faultBound, certificateCount, certificate}
 use Rattle.protocol.specs.Form.{certificateFormed}
-use Rattle.protocol.specs.Quorum.{
-  every,
-  isQuorumSize,
-  allIssued,
-  certificatesOf,
-  firstOf,
-  contains,
-  distinct,
-  signers,
-  greatestFrom,
-  greatest,
-}
+use Rattle.protocol.specs.Quorum.{isGreater, greater, every, isQuorumSize, allIssued, certificatesOf, firstOf, contains}
+use Rattle.protocol.specs.Quorum.{distinct, signers, greatestFrom, greatest}
 use Rattle.protocol.proofs.Tests.{tests, by-test, by-cond, and-true, each}
 use Rattle.protocol.proofs.Formed.{Formed}
 use Rattle.protocol.proofs.Lists.{All, all-named}
@@ -68,16 +58,18 @@ signed-by P (c ∷ cs) j h e =
     by-test (eqb j (c .signer)) (λ t. record { certificate = c; holds = h .0; signer = omega tests })
     (λ t. signed-by P cs j (h .1) (rw t at e))
 
+greater-over : (best c : Certificate) → (best .ofView ≤ greater best c .ofView) × (c .ofView ≤ greater best c .ofView)
+greater-over best c =
+    let both : Certificate → Type 0 = λ x. (best .ofView ≤ x .ofView) × (c .ofView ≤ x .ofView) in
+    by-cond both (isGreater c best) {x = c} {y = best} (λ e. omega tests) (λ e. omega tests)
+
 greatest-from : (best : Certificate) (cs : List Certificate)
     → (best .ofView ≤ greatestFrom best cs .ofView) × All (λ c. c .ofView ≤ greatestFrom best cs .ofView) cs
 unfolding greatestFrom
 greatest-from best [] = (omega arith, tt)
 greatest-from best (c ∷ cs) =
-    let next = cond (ltb (best .ofView) (c .ofView)) c best in
-    let rest = greatest-from next cs in
-    let over =
-    by-cond (λ (x : Certificate). (best .ofView ≤ x .ofView) × (c .ofView ≤ x .ofView)) (ltb (best .ofView) (c .ofView)) {x = c}
-    {y = best} (λ e. omega tests) (λ e. omega tests) in
+    let over = greater-over best c in
+    let rest = greatest-from (greater best c) cs in
     (omega (arith, over .0, rest .0), (omega (arith, over .1, rest .0), rest .1))
 
 pub greatest-over : (cs : List Certificate) → All (λ c. c .ofView ≤ greatest cs .ofView) cs

@@ -7,38 +7,14 @@ use mathlib.Core.List.{List, [], _∷_, List·Memᴰ, List·Memᴰ·cases-cons}
 use native.Mathlib.Omega.{arith}
 use lib.ListN.{getD}
 use lib.Dec.{ltb, leb, eqb}
-use Rattle.protocol.specs.Memory.{
-  Memory,
-  Replica,
-  _becomes_,
-  decidedViewAt,
-  decidedBlockAt,
-  replicaCount,
-  faultBound,
-  blockCount,
-  replica,
-  parent,
-  appendBlock,
-}
+use Rattle.protocol.specs.Memory.{Memory, Replica, _becomes_, decidedViewAt, decidedBlockAt, replicaCount, faultBound}
+use Rattle.protocol.specs.Memory.{blockCount, replica, parent, appendBlock}
 use Rattle.protocol.specs.Ancestry.{stepsToRoot, heightBy, isAncestorBy}
 use Rattle.protocol.specs.Form.{replicaFormed, certificateFormed}
 use Rattle.protocol.specs.Quorum.{certificatesOf, firstOf}
 use Rattle.protocol.specs.Calls.{block, decide}
-use Rattle.protocol.specs.History.{
-  Event,
-  added,
-  decided,
-  other,
-  givenParent,
-  Shown,
-  none,
-  _inView_,
-  later,
-  shown,
-  shownBlock,
-  shownView,
-  panel,
-}
+use Rattle.protocol.specs.History.{Event, added, decided, other, givenParent, Shown, none, _inView_, later, shown}
+use Rattle.protocol.specs.History.{shownBlock, shownView, panel}
 use Rattle.protocol.specs.Agreement.{OneLine, PanelsRise, Told, Extends}
 use Rattle.protocol.proofs.Tests.{tests, by-test, by-cond, each}
 use Rattle.protocol.proofs.Needs.{Holds}

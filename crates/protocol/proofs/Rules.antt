@@ -5,37 +5,12 @@ use mathlib.Core.Bool.{true, false}
 use mathlib.Core.List.{List}
 use native.Mathlib.Omega.{arith}
 use Rattle.protocol.specs.declared.Call.{Call}
-use Rattle.protocol.specs.declared.Call.the-variants.{
-  Open,
-  Block,
-  Prepare,
-  Store,
-  View,
-  Accumulate,
-  Decide,
-  Reboot,
-  Reserve,
-  Request,
-  Reply,
-  Recover,
-}
+use Rattle.protocol.specs.declared.Call.the-variants.{Open, Block, Prepare, Store, View, Accumulate, Decide, Reboot}
+use Rattle.protocol.specs.declared.Call.the-variants.{Reserve, Request, Reply, Recover}
 use Rattle.protocol.specs.Memory.{Memory}
 use Rattle.protocol.specs.Outcome.{firstRefusal, answered, follow}
-use Rattle.protocol.specs.Calls.{
-  issuing,
-  opening,
-  block,
-  prepare,
-  store,
-  view,
-  accumulate,
-  decide,
-  reboot,
-  reserve,
-  request,
-  reply,
-  recover,
-}
+use Rattle.protocol.specs.Calls.{issuing, opening, block, prepare, store, view, accumulate, decide, reboot, reserve}
+use Rattle.protocol.specs.Calls.{request, reply, recover}
 use Rattle.protocol.specs.Runs.{ruleOf, step}
 use Rattle.protocol.specs.Theorems.{isOpening, RefusedChangesNothing, LowestWins, OpeningTestsFaultsFirst}
 use Rattle.protocol.proofs.Needs.{Holds, positive, risingFrom, all-needs, refused, lowest}

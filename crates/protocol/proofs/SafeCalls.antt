@@ -6,81 +6,28 @@ use mathlib.Core.Logic.{inl, inr, ⊎-elim}
 use mathlib.Core.List.{List, [], _∷_}
 use native.Mathlib.Omega.{arith}
 use lib.Dec.{ltb}
-use Rattle.protocol.specs.Memory.{
-  Memory,
-  Replica,
-  Certificate,
-  Assignment,
-  _becomes_,
-  minViewAt,
-  flagAt,
-  lowered,
-  replica,
-  certificate,
-  raised,
-  update,
-}
+use Rattle.protocol.specs.Memory.{Memory, Replica, Certificate, Assignment, _becomes_, minViewAt, flagAt, lowered}
+use Rattle.protocol.specs.Memory.{replica, certificate, raised, update}
 use Rattle.protocol.specs.Form.{replicaFormed}
 use Rattle.protocol.specs.Certificates.{NEWVIEW, REPLY}
 use Rattle.protocol.specs.Quorum.{certificatesOf, signers, firstOf, isCommitQuorum, isNewViewQuorum, isReplyQuorum}
-use Rattle.protocol.specs.Calls.{
-  isReplica,
-  retires,
-  decisionWords,
-  store,
-  view,
-  accumulate,
-  decide,
-  reboot,
-  reserve,
-  request,
-  reply,
-  recover,
-}
+use Rattle.protocol.specs.Calls.{isReplica, isAhead, retires, decisionWords, store, view, accumulate, decide, reboot}
+use Rattle.protocol.specs.Calls.{reserve, request, reply, recover}
 use Rattle.protocol.proofs.Tests.{tests, by-cond, each}
 use Rattle.protocol.proofs.Needs.{Holds}
 use Rattle.protocol.proofs.Words.{withinRow}
 use Rattle.protocol.proofs.Changes.{changed}
 use Rattle.protocol.proofs.Formed.{Formed, formed}
 use Rattle.protocol.proofs.Keeps.{issuing-needs}
-use Rattle.protocol.proofs.Lists.{first-named, greatest-named}
+use Rattle.protocol.proofs.Lists.{picked}
 use Rattle.protocol.proofs.Quorums.{signed-by, all-map, each-tested, quorum, covers}
-use Rattle.protocol.proofs.LeavesForm.{
-  store-leaves,
-  view-leaves,
-  accumulate-leaves,
-  decide-leaves,
-  reboot-leaves,
-  reserve-leaves,
-  request-leaves,
-  reply-leaves,
-  recover-leaves,
-}
-use Rattle.protocol.proofs.Safety.{
-  Issued,
-  CommitTo,
-  Proposed,
-  Chosen,
-  ReportSafe,
-  NewViewSafe,
-  CertificateSafe,
-  clause,
-  ReplicaSafe,
-  Safe,
-}
+use Rattle.protocol.proofs.LeavesForm.{store-leaves, view-leaves, accumulate-leaves, decide-leaves, reboot-leaves}
+use Rattle.protocol.proofs.LeavesForm.{reserve-leaves, request-leaves, reply-leaves, recover-leaves}
+use Rattle.protocol.proofs.Safety.{Issued, CommitTo, Proposed, Chosen, ReportSafe, NewViewSafe, CertificateSafe, clause}
+use Rattle.protocol.proofs.Safety.{ReplicaSafe, Safe}
 use Rattle.protocol.proofs.Moves.{Moves, issued-after, origin-after, chosen-after, choosable-before, committed-before}
-use Rattle.protocol.proofs.Acts.{
-  Acts,
-  Advances,
-  GoesOn,
-  update-acts,
-  issuing-acts,
-  moves,
-  committed-same,
-  safe-after,
-  quiet-after,
-  goes-on,
-}
+use Rattle.protocol.proofs.Acts.{Acts, Advances, GoesOn, update-acts, issuing-acts, moves, committed-same, safe-after}
+use Rattle.protocol.proofs.Acts.{quiet-after, goes-on}
 use Rattle.protocol.proofs.SafeParts.{Keeps, stored-after, decided-after, replica-kept, left-behind}
 
 pub store-safe : (m : Memory) (i number : ℕ) → Holds (store m i number .needs) → Safe m → GoesOn m (store m i number .after)
@@ -125,7 +72,7 @@ view-safe m i w hold safe =
     (record {
       low = omega tests;
       limit = omega arith;
-      flag = λ a e x. by-cond (λ (y : ℕ). y ≡ raised) (ltb (r .minView) w) (λ t. absurd (omega tests)) (λ t. x);
+      flag = λ a e x. by-cond (λ (y : ℕ). y ≡ raised) (isAhead r w) (λ t. absurd (omega tests)) (λ t. x);
     })
     (λ k. absurd (omega arith)) in
     let low = ap (λ (r : Replica). r .minView) (acts .own) in
@@ -158,8 +105,9 @@ accumulate-safe m i list hold safe =
     let reports =
     each-tested m (CertificateSafe m) Report _ list issued (safe .log) (tested .0)
     (λ c x t. let t = each _ t in let k = clause m c NEWVIEW (omega tests) x in ((k .0, omega tests), k .1)) in
-    let first = first-named Report m list size reports in
-    let best = greatest-named Report m list size reports in
+    let two = picked Report m list size reports in
+    let first = two .0 in
+    let best = two .1 in
     let acts = issuing-acts m _ i _ _ hold z (h .1 .0) refl in
     let mv =
     moves m _ i _ _ acts (record { low = omega arith; limit = omega arith; flag = λ a e x. x }) (λ k. absurd (omega arith)) in
@@ -325,7 +273,7 @@ recover-safe m i list h safe =
     let reports =
     each-tested m (CertificateSafe m) Report _ list issued (safe .log) (tested .0)
     (λ c x t. let t = each _ t in (clause m c REPLY (omega tests) x, omega tests)) in
-    let best = greatest-named Report m list size reports in
+    let best = picked Report m list size reports .1 in
     update-goes-on m i _ safe (h .1 .0) (recover-leaves m i list h) refl
     (record { low = omega arith; limit = omega arith; flag = λ a s x. x })
     (λ acts mv.

@@ -6,17 +6,8 @@ use mathlib.Core.Logic.{inl}
 use mathlib.Core.List.{List, [], _∷_}
 use native.Mathlib.Omega.{arith}
 use lib.Dec.{eqb}
-use Rattle.protocol.specs.Memory.{
-  Memory,
-  Replica,
-  faultBound,
-  certificateCount,
-  blockCount,
-  replica,
-  certificate,
-  parent,
-  appendBlock,
-}
+use Rattle.protocol.specs.Memory.{Memory, Replica, faultBound, certificateCount, blockCount, replica, certificate, parent}
+use Rattle.protocol.specs.Memory.{appendBlock}
 use Rattle.protocol.specs.Form.{isFaultBound, lengthsFit, certificateFormed}
 use Rattle.protocol.specs.Certificates.{PROP, COMMIT}
 use Rattle.protocol.specs.Counter.{counterStep}

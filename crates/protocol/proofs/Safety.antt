@@ -5,19 +5,8 @@ use mathlib.Core.Bool.{true}
 use mathlib.Core.Logic.{_⊎_}
 use mathlib.Core.List.{List, [], _∷_}
 use lib.ListN.{getD}
-use Rattle.protocol.specs.Memory.{
-  Memory,
-  Replica,
-  Certificate,
-  replicaCount,
-  faultBound,
-  certificateCount,
-  replica,
-  certificate,
-  parent,
-  live,
-  raised,
-}
+use Rattle.protocol.specs.Memory.{Memory, Replica, Certificate, replicaCount, faultBound, certificateCount, replica}
+use Rattle.protocol.specs.Memory.{certificate, parent, live, raised}
 use Rattle.protocol.specs.Certificates.{PROP, COMMIT}
 use Rattle.protocol.specs.Leader.{leads}
 use Rattle.protocol.specs.Quorum.{contains}

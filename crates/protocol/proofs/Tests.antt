@@ -6,20 +6,8 @@ use mathlib.Core.List.{List, [], _∷_}
 use native.Mathlib.Omega.{arith}
 use native.Mathlib.Nat.{eq-or-lt-of-le, le-of-suc-le-suc, not-suc-le-zero}
 use mathlib.Core.Logic.{⊎-elim}
-use borrow.Author.Tests.{
-  ltb-true,
-  ltb-false,
-  leb-true,
-  leb-false,
-  eqb-true,
-  eqb-false,
-  lt-ltb,
-  le-ltb,
-  le-leb,
-  lt-leb,
-  eq-eqb,
-  ne-eqb,
-}
+use borrow.Author.Tests.{ltb-true, ltb-false, leb-true, leb-false, eqb-true, eqb-false, lt-ltb, le-ltb, le-leb, lt-leb, eq-eqb}
+use borrow.Author.Tests.{ne-eqb}
 use Rattle.protocol.specs.Form.{allHold, allBelow}
 
 -- For `omega`: tests of numbers, as hypotheses and as goals.

@@ -7,20 +7,8 @@ use native.Mathlib.Omega.{arith}
 use lib.ListN.{length-set}
 use lib.Dec.{ltb}
 use Rattle.protocol.specs.declared.Call.{Call}
-use Rattle.protocol.specs.declared.Call.the-variants.{
-  Open,
-  Block,
-  Prepare,
-  Store,
-  View,
-  Accumulate,
-  Decide,
-  Reboot,
-  Reserve,
-  Request,
-  Reply,
-  Recover,
-}
+use Rattle.protocol.specs.declared.Call.the-variants.{Open, Block, Prepare, Store, View, Accumulate, Decide, Reboot}
+use Rattle.protocol.specs.declared.Call.the-variants.{Reserve, Request, Reply, Recover}
 use Rattle.protocol.specs.Memory.{Memory, Certificate, Assignment, replicaCount, certificate, replica, words, update}
 use Rattle.protocol.specs.declared.Justification.{Justification}
 use Rattle.protocol.specs.declared.Justification.the-variants.{Acc, Commits}
@@ -29,27 +17,9 @@ use Rattle.protocol.specs.Form.{wellFormed, lengthsFit}
 use Rattle.protocol.specs.Certificates.{file}
 use Rattle.protocol.specs.Quorum.{certificatesOf, firstOf}
 use Rattle.protocol.specs.Outcome.{Need, _else_, Rule, firstRefusal, answered, follow}
-use Rattle.protocol.specs.Calls.{
-  issuing,
-  isSized,
-  numbersOf,
-  retires,
-  freshReplica,
-  freshReplicas,
-  freshHeader,
-  opening,
-  block,
-  prepare,
-  store,
-  view,
-  accumulate,
-  decide,
-  reboot,
-  reserve,
-  request,
-  reply,
-  recover,
-}
+use Rattle.protocol.specs.Calls.{issuing, isSized, numbersOf, retires, freshReplica, freshReplicas, freshHeader, opening}
+use Rattle.protocol.specs.Calls.{block, prepare, store, view, accumulate, decide, reboot, reserve, request, reply}
+use Rattle.protocol.specs.Calls.{recover}
 use Rattle.protocol.specs.Runs.{ruleOf, step}
 use Rattle.protocol.specs.Theorems.{Alike, SameAnswer, PastCountsUnread}
 use Rattle.protocol.proofs.Tests.{by-test, by-cond}
@@ -59,19 +29,8 @@ use Rattle.protocol.proofs.Words.{withinRow, set-alike}
 use Rattle.protocol.proofs.Formed.{formed}
 use Rattle.protocol.proofs.Keeps.{lengths-same, issuing-needs}
 use Rattle.protocol.proofs.Opened.{header}
-use Rattle.protocol.proofs.Alike.{
-  twin,
-  lengths-alike,
-  word-same,
-  parent-same,
-  named-same,
-  form-same,
-  number-same,
-  can-same,
-  file-alike,
-  block-alike,
-  update-alike,
-}
+use Rattle.protocol.proofs.Alike.{twin, lengths-alike, word-same, parent-same, named-same, form-same, number-same}
+use Rattle.protocol.proofs.Alike.{can-same, file-alike, block-alike, update-alike}
 
 -- Two lists of needs that agree as far as the first one that fails.
 data Agree : List Need → List Need → Type 0 where

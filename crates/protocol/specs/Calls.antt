@@ -7,83 +7,20 @@ use lib.ListN.{length, set}
 use lib.Dec.{ltb, leb, eqb}
 use Rattle.protocol.specs.declared.Justification.{Justification}
 use Rattle.protocol.specs.declared.Justification.the-variants.{Acc, Commits}
-use Rattle.protocol.specs.Memory.{
-  Memory,
-  Certificate,
-  Assignment,
-  _becomes_,
-  replicaCount,
-  ceiling,
-  faultBoundAt,
-  certificateCountAt,
-  blockCountAt,
-  faultBound,
-  blockCount,
-  statusAt,
-  bootAt,
-  minViewAt,
-  viewLimitAt,
-  flagAt,
-  storedViewAt,
-  storedBlockAt,
-  decidedViewAt,
-  decidedBlockAt,
-  live,
-  recovering,
-  retired,
-  lowered,
-  raised,
-  replica,
-  certificate,
-  words,
-  blockAt,
-  parent,
-  update,
-  appendBlock,
-}
+use Rattle.protocol.specs.Memory.{Memory, Replica, Certificate, Assignment, _becomes_, replicaCount, ceiling}
+use Rattle.protocol.specs.Memory.{faultBoundAt, certificateCountAt, blockCountAt, faultBound, blockCount, statusAt}
+use Rattle.protocol.specs.Memory.{bootAt, minViewAt, viewLimitAt, flagAt, storedViewAt, storedBlockAt, decidedViewAt}
+use Rattle.protocol.specs.Memory.{decidedBlockAt, live, recovering, retired, lowered, raised, replica, certificate, words}
+use Rattle.protocol.specs.Memory.{blockAt, parent, update, appendBlock}
 use Rattle.protocol.specs.Form.{allHold, isFaultBound, lengthsFit, wellFormed}
-use Rattle.protocol.specs.Certificates.{
-  PROP,
-  ACC,
-  REQ,
-  isKind,
-  propOf,
-  commitOf,
-  newViewOf,
-  accOf,
-  reqOf,
-  replyOf,
-  numberFor,
-  canFile,
-  file,
-}
+use Rattle.protocol.specs.Certificates.{PROP, ACC, REQ, isKind, propOf, commitOf, newViewOf, accOf, reqOf, replyOf}
+use Rattle.protocol.specs.Certificates.{numberFor, canFile, file}
 use Rattle.protocol.specs.Leader.{leads}
 use Rattle.protocol.specs.Counter.{counterStep}
-use Rattle.protocol.specs.Quorum.{
-  isQuorumSize,
-  isIssued,
-  allIssued,
-  certificatesOf,
-  firstOf,
-  isCommitQuorum,
-  isNewViewQuorum,
-  isReplyQuorum,
-  greatest,
-}
-use Rattle.protocol.specs.Outcome.{
-  Need,
-  _else_,
-  Rule,
-  wrongForm,
-  outOfRange,
-  unknownNumber,
-  wrongStatus,
-  wrongCertificate,
-  wrongBlock,
-  wrongView,
-  counterLimit,
-  noRoom,
-}
+use Rattle.protocol.specs.Quorum.{isQuorumSize, isIssued, allIssued, certificatesOf, firstOf, isCommitQuorum}
+use Rattle.protocol.specs.Quorum.{isNewViewQuorum, isReplyQuorum, greatest}
+use Rattle.protocol.specs.Outcome.{Need, _else_, Rule, wrongForm, outOfRange, unknownNumber, wrongStatus}
+use Rattle.protocol.specs.Outcome.{wrongCertificate, wrongBlock, wrongView, counterLimit, noRoom}
 
 -- A replica number is below n.
 abbrev pub isReplica : Memory → ℕ → Bool
@@ -231,6 +168,10 @@ store m i number =
     ∷ [])
     (commitOf i (p .view) (p .block))
 
+-- "w > low"
+abbrev pub isAhead : Replica → ℕ → Bool
+isAhead r w = ltb (r .minView) w
+
 -- "View(box, w): live; 1 ≤ w ≤ 1,000,000, w ≥ low, w < bound. Flag 0 if w > low; then low is w. Issues NEWVIEW(w, stored block, of-view =
 -- stored view)."
 unfoldable pub view : Memory → ℕ → ℕ → Rule
@@ -245,7 +186,7 @@ view m i w =
     ∷ leb (r .minView) w else wrongView
     ∷ ltb w (r .viewLimit) else counterLimit
     ∷ [])
-    i (flagAt becomes cond (ltb (r .minView) w) lowered (r .flag) ∷ minViewAt becomes w ∷ [])
+    i (flagAt becomes cond (isAhead r w) lowered (r .flag) ∷ minViewAt becomes w ∷ [])
     (newViewOf i w (r .storedBlock) (r .storedView))
 
 -- "Accumulate(box, list): live; NEWVIEWs of one view, different signers. Issues ACC with that view and the block and of-view of the

@@ -5,32 +5,12 @@ use mathlib.Core.Path.{_≡_}
 use lib.ListN.{replicate}
 use Rattle.protocol.specs.declared.Answer.{Answer}
 use Rattle.protocol.specs.declared.Call.{Call}
-use Rattle.protocol.specs.declared.Call.the-variants.{
-  Open,
-  Block,
-  Prepare,
-  Store,
-  View,
-  Accumulate,
-  Decide,
-  Reboot,
-  Reserve,
-  Request,
-  Reply,
-  Recover,
-}
+use Rattle.protocol.specs.declared.Call.the-variants.{Open, Block, Prepare, Store, View, Accumulate, Decide, Reboot}
+use Rattle.protocol.specs.declared.Call.the-variants.{Reserve, Request, Reply, Recover}
 use Rattle.protocol.specs.declared.Justification.the-variants.{Acc, Commits}
-use Rattle.protocol.specs.Memory.{Memory, tableLength, certificateAt, blockAt, viewLimitAt, _becomes_, update}
-use Rattle.protocol.specs.Outcome.{
-  wrongForm,
-  outOfRange,
-  wrongStatus,
-  wrongCertificate,
-  wrongBlock,
-  wrongView,
-  counterLimit,
-  noRoom,
-}
+use Rattle.protocol.specs.Memory.{Memory, tableLength, certificateAt, blockAt, bootAt, viewLimitAt, _becomes_, update}
+use Rattle.protocol.specs.Outcome.{wrongForm, outOfRange, wrongStatus, wrongCertificate, wrongBlock, wrongView}
+use Rattle.protocol.specs.Outcome.{counterLimit, noRoom}
 use Rattle.protocol.specs.Runs.{Invocation, run, answers}
 
 pub record Case : Type 0 where
@@ -131,6 +111,13 @@ cases =
           ∷ accepted 128 0
           ∷ accepted 9 0
           ∷ [];
+    }
+    -- "Mistakes to rule out: [..] replies taken from an earlier boot". The same replies, to a replica of the next boot that waits at the
+    -- same view: no list of calls leads there, so its boot is set by hand.
+    ∷ record {
+      start = update (run (from script) (plain (Request 1) ∷ plain (Reply 0 6) ∷ plain (Reply 2 6) ∷ [])) 1 (bootAt becomes 2 ∷ []);
+      calls = Recover 1 on (7 ∷ 8 ∷ []) ∷ [];
+      expected = refused wrongCertificate ∷ [];
     }
     -- "P: f 0 and 31 return 2, 1 and 30 pass."
     ∷ record { start = blank 0; calls = plain (Open 0) ∷ []; expected = refused outOfRange ∷ [] }

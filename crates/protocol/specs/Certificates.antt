@@ -4,15 +4,8 @@ use mathlib.Core.Bool.{Bool, cond, _||_}
 use mathlib.Core.List.{List}
 use lib.ListN.{length, getD}
 use lib.Dec.{ltb, eqb}
-use Rattle.protocol.specs.Memory.{
-  Memory,
-  Certificate,
-  certificateWords,
-  certificateAt,
-  certificateWord,
-  certificateCount,
-  appendCertificate,
-}
+use Rattle.protocol.specs.Memory.{Memory, Certificate, certificateWords, certificateAt, certificateWord, certificateCount}
+use Rattle.protocol.specs.Memory.{appendCertificate}
 use Rattle.protocol.specs.Form.{allBelow}
 
 -- "Kinds: 1 PROP, 2 COMMIT, 3 NEWVIEW, 4 ACC, 5 REQ, 6 REPLY."

@@ -4,28 +4,9 @@ use mathlib.Core.Bool.{Bool, true, cond, _&&_}
 use mathlib.Core.List.{List, [], _∷_}
 use lib.ListN.{length}
 use lib.Dec.{ltb, leb, eqb}
-use Rattle.protocol.specs.Memory.{
-  Memory,
-  Replica,
-  Certificate,
-  maxFaultBound,
-  replicaCount,
-  ceiling,
-  faultBound,
-  certificateCount,
-  blockCount,
-  tableLength,
-  retired,
-  raised,
-  replica,
-  certificateWords,
-  certificateAt,
-  certificate,
-  maxCertificates,
-  maxBlocks,
-  blockAt,
-  parent,
-}
+use Rattle.protocol.specs.Memory.{Memory, Replica, Certificate, maxFaultBound, replicaCount, ceiling, faultBound}
+use Rattle.protocol.specs.Memory.{certificateCount, blockCount, tableLength, retired, raised, replica, certificateWords}
+use Rattle.protocol.specs.Memory.{certificateAt, certificate, maxCertificates, maxBlocks, blockAt, parent}
 
 -- All tests of a list hold.
 unfoldable pub allHold : List Bool → Bool

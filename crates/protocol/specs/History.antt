@@ -6,20 +6,8 @@ use mathlib.Core.List.{List, [], _∷_}
 use lib.Dec.{ltb, eqb}
 use Rattle.protocol.specs.declared.Answer.{Answer}
 use Rattle.protocol.specs.declared.Call.{Call}
-use Rattle.protocol.specs.declared.Call.the-variants.{
-  Open,
-  Block,
-  Prepare,
-  Store,
-  View,
-  Accumulate,
-  Decide,
-  Reboot,
-  Reserve,
-  Request,
-  Reply,
-  Recover,
-}
+use Rattle.protocol.specs.declared.Call.the-variants.{Open, Block, Prepare, Store, View, Accumulate, Decide, Reboot}
+use Rattle.protocol.specs.declared.Call.the-variants.{Reserve, Request, Reply, Recover}
 use Rattle.protocol.specs.Memory.{Memory}
 use Rattle.protocol.specs.Ancestry.{heightBy}
 use Rattle.protocol.specs.Runs.{Invocation, step}

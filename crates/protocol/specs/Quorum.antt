@@ -67,10 +67,17 @@ isReplyQuorum replica boot view cs =
     ∷ distinct (signers cs)
     ∷ [])
 
+-- Of two, the one with the greater of-view; the first if they are equal.
+abbrev pub isGreater : Certificate → Certificate → Bool
+isGreater c best = ltb (best .ofView) (c .ofView)
+
+abbrev pub greater : Certificate → Certificate → Certificate
+greater best c = cond (isGreater c best) c best
+
 -- "the greatest of-view, the first in the list if several": the one so far, against the rest of the list.
 unfoldable pub greatestFrom : Certificate → List Certificate → Certificate
 greatestFrom best [] = best
-greatestFrom best (c ∷ cs) = greatestFrom (cond (ltb (best .ofView) (c .ofView)) c best) cs
+greatestFrom best (c ∷ cs) = greatestFrom (greater best c) cs
 
 abbrev pub greatest : List Certificate → Certificate
 greatest cs = greatestFrom (firstOf cs) cs

@@ -7,40 +7,11 @@ use mathlib.Core.Bool.{Bool, true, false}
 use mathlib.Core.List.{List, [], _∷_, _++_, map, List·Memᴰ}
 use lib.ListN.{length, getD}
 use Rattle.protocol.specs.declared.Call.{Call}
-use Rattle.protocol.specs.declared.Call.the-variants.{
-  Open,
-  Block,
-  Prepare,
-  Store,
-  View,
-  Accumulate,
-  Decide,
-  Reboot,
-  Reserve,
-  Request,
-  Reply,
-  Recover,
-}
-use Rattle.protocol.specs.Memory.{
-  Memory,
-  certificateCountAt,
-  blockCountAt,
-  certificateCount,
-  blockCount,
-  rowAt,
-  statusAt,
-  bootAt,
-  minViewAt,
-  viewLimitAt,
-  flagAt,
-  storedViewAt,
-  storedBlockAt,
-  decidedViewAt,
-  decidedBlockAt,
-  certificateWords,
-  certificateAt,
-  blockAt,
-}
+use Rattle.protocol.specs.declared.Call.the-variants.{Open, Block, Prepare, Store, View, Accumulate, Decide, Reboot}
+use Rattle.protocol.specs.declared.Call.the-variants.{Reserve, Request, Reply, Recover}
+use Rattle.protocol.specs.Memory.{Memory, certificateCountAt, blockCountAt, certificateCount, blockCount, rowAt, statusAt}
+use Rattle.protocol.specs.Memory.{bootAt, minViewAt, viewLimitAt, flagAt, storedViewAt, storedBlockAt, decidedViewAt}
+use Rattle.protocol.specs.Memory.{decidedBlockAt, certificateWords, certificateAt, blockAt}
 use Rattle.protocol.specs.Form.{isFaultBound, wellFormed}
 use Rattle.protocol.specs.Outcome.{Outcome, _else_, Rule, outOfRange}
 use Rattle.protocol.specs.Runs.{ruleOf, step}

@@ -1,0 +1,4 @@
+-- Laws
+pub mod Search
+pub mod Equal
+pub mod Places

@@ -32,7 +32,8 @@ module _ (p : ℕ → ℕ) (a : ℕ) where
       let l : p b < b = f b (omega tests) (omega arith) in
       rw (e, more-steps s t (p b) (up-to f (p b) (omega arith)) (omega arith) (omega arith)))
 
-  -- "A block is in another's line if it is that block or is in the line of that block's parent; block 0 has only itself in its line."
+  -- "A block is in another's line if it is that block or is in the line of that block's parent; block 0 has only itself in its
+  -- line."
   pub line-of : (b : ℕ) → Falls p b → isAncestorBy p a b ≡ (eqb a b || (not (eqb b 0) && isAncestorBy p a (p b)))
   unfolding inLine
   line-of zero f = sym (or-false (eqb a zero))

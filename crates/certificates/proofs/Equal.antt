@@ -1,6 +1,6 @@
 -- Comparing a certificate with the words of the log, by its view first.
 use Prim.Native.Nat.{ℕ, _+_, _<_}
-use mathlib.Core.Path.{_≡_, refl, sym}
+use mathlib.Core.Path.{_≡_, sym}
 use mathlib.Core.Bool.{Bool, true, false, _&&_, and-true}
 use mathlib.Core.List.{List}
 use native.Mathlib.Omega.{arith}
@@ -40,4 +40,6 @@ module _ (log : List ℕ) (start : ℕ) (c : Certificate) where
       && same subjectBootAt (c .boot))
       ≡ equalFrom log start (words (certificateOf c))
   unfolding equalFrom allBelow
-  same-view e = let t : same viewAt (c .view) ≡ true = omega tests in rw t (rw (and-true (same kindAt (c .kind) && same signerAt (c .signer))))
+  same-view e =
+      let t : same viewAt (c .view) ≡ true = omega tests in
+      rw t (rw (and-true (same kindAt (c .kind) && same signerAt (c .signer))))

@@ -6,20 +6,13 @@ use native.Mathlib.Omega.{arith}
 use native.Mathlib.Numerals.{add-one}
 use lib.Dec.{ltb, eqb}
 use Rattle.protocol.specs.Certificates.{firstBelow}
-use Rattle.protocol.proofs.Tests.{tests, by-test, by-cond}
+use Rattle.protocol.proofs.Tests.{tests, by-test}
 
 module _ (test : ℕ → Bool) where
   -- No number below i passes, and i does not either.
   pub none-yet : (i : ℕ) → firstBelow i test ≡ i → test i ≡ false → firstBelow (i + 1) test ≡ i + 1
   unfolding firstBelow
   none-yet i e miss = let l : ltb i i ≡ false = omega tests in rw (add-one i, e, l, miss) (omega arith)
-
-  pub at-most : (n : ℕ) → firstBelow n test ≤ n
-  unfolding firstBelow
-  at-most zero = omega arith
-  at-most (suc n) =
-      by-cond (λ x. x ≤ suc n) (ltb (firstBelow n test) n) (λ e. omega tests)
-      (λ e. by-cond (λ x. x ≤ suc n) (test n) (λ h. omega arith) (λ h. omega arith))
 
   -- One that is found stays the first, however many follow.
   stays : (i n : ℕ) → firstBelow i test < i → i ≤ n → firstBelow n test ≡ firstBelow i test

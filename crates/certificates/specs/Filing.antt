@@ -21,17 +21,22 @@ use Rattle.certificates.specs.declared.Certificate.{Certificate}
 use Rattle.certificates.specs.declared.Filed.{Filed}
 use Rattle.certificates.specs.declared.Filed.the-variants.{At, Refused}
 
--- The facts of the form that filing rests on: the table has a count, the log whole certificates, at most 4,096 and no fewer than the count.
+-- The number of certificates issued, in the table's words.
+abbrev pub countIn : List ℕ → ℕ
+countIn table = getD table certificateCountAt 0
+
+-- The facts of the form that filing rests on: the table has the count; the log has whole places, at most 4,096, and no fewer than
+-- the count.
 pub record LogFits (table log : List ℕ) : Type 0 where
   pub counted : certificateCountAt < length table
   pub whole : length log % certificateWords ≡ 0
   pub small : length log ≤ certificateAt maxCertificates
-  pub issued : certificateAt (getD table certificateCountAt 0) ≤ length log
+  pub issued : certificateAt (countIn table) ≤ length log
 
 -- The same, with a place free.
 pub record LogHasRoom (table log : List ℕ) : Type 0 where
   pub fits : LogFits table log
-  pub room : certificateAt (getD table certificateCountAt 0) < length log
+  pub room : certificateAt (countIn table) < length log
 
 -- A certificate of the code, as the rules have it.
 abbrev pub certificateOf : Certificate → Memory.Certificate

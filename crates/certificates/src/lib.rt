@@ -1,19 +1,19 @@
 // Filing a certificate in the log: an equal one is found, or a new one appended, or there is no room for it.
 ghost use mathlib.Core.Path.{_≡_};
 ghost use mathlib.Core.List.{List};
-ghost use Prim.Native.Nat.{ℕ, _+_, _≤_, _<_};
+ghost use Prim.Native.Nat.{ℕ, _+_, _≤_};
 ghost use lib.ListN.{length};
 ghost use Rattle.protocol.specs.Memory.{memory, certificateAt, certificateWords, words, appendCertificate};
 ghost use Rattle.protocol.specs.Certificates.{firstBelow};
 ghost use Rattle.certificates.specs.Filing.{
-    LogFits,
-    LogHasRoom,
-    certificateOf,
-    equalFrom,
-    isEqual,
-    placeFor,
-    leaves,
-    filing,
+  LogFits,
+  LogHasRoom,
+  certificateOf,
+  equalFrom,
+  isEqual,
+  placeFor,
+  leaves,
+  filing,
 };
 
 // Where the table has the number of certificates issued.
@@ -21,12 +21,19 @@ const CERTIFICATE_COUNT: usize = 1;
 
 // How many words a certificate has in the log, and their order.
 const CERTIFICATE_WORDS: usize = 7;
+
 const KIND: usize = 0;
+
 const SIGNER: usize = 1;
+
 const VIEW: usize = 2;
+
 const BLOCK: usize = 3;
+
 const OF_VIEW: usize = 4;
+
 const SUBJECT: usize = 5;
+
 const BOOT: usize = 6;
 
 // The refusal where no place of the log is free.
@@ -66,13 +73,13 @@ fn is_equal(log: &[u32], start: usize, c: Certificate) -> bool
 }
 
 // The first of so many certificates that equals this one, or their count.
-fn find(log: &[u32], count: usize, c: Certificate) -> usize
+fn find(log: &[u32], count: u32, c: Certificate) -> u32
     requires { ⌜ certificateAt count ≤ length (now log) ⌝ }
     ensures { λ r. ⌜ r ≡ firstBelow count (isEqual (now (log .entry)) (words (certificateOf c))) ⌝ }
 {
-    let mut number: usize = 0;
+    let mut number = 0;
     while number < count {
-        if is_equal(log, CERTIFICATE_WORDS * number, c) {
+        if is_equal(log, CERTIFICATE_WORDS * (number as usize), c) {
             return number;
         }
         number += 1;
@@ -85,13 +92,13 @@ fn place_for(table: &[u32], log: &[u32], c: Certificate) -> Filed
     requires { ⌜ LogFits (now table) (now log) ⌝ }
     ensures { λ r. ⌜ ((b : List ℕ) → r ≡ placeFor (memory (now (table .entry)) (now (log .entry)) b) (words (certificateOf c))) ⌝ }
 {
-    let count = table[CERTIFICATE_COUNT] as usize;
+    let count = table[CERTIFICATE_COUNT];
     let number = find(log, count, c);
     if number < count {
-        return Filed::At(number as u32);
+        return Filed::At(number);
     }
-    if CERTIFICATE_WORDS * count < log.len() {
-        return Filed::At(number as u32);
+    if CERTIFICATE_WORDS * (count as usize) < log.len() {
+        return Filed::At(number);
     }
     Filed::Refused(NO_ROOM)
 }
@@ -100,7 +107,7 @@ fn place_for(table: &[u32], log: &[u32], c: Certificate) -> Filed
 fn append(table: &mut [u32], log: &mut [u32], c: Certificate)
     requires { ⌜ LogHasRoom (now table) (now log) ⌝ }
     ensures { λ _. ⌜ ((b : List ℕ) → memory (now (table .exit)) (now (log .exit)) b
-                ≡ appendCertificate (memory (now (table .entry)) (now (log .entry)) b) (words (certificateOf c))) ⌝ }
+        ≡ appendCertificate (memory (now (table .entry)) (now (log .entry)) b) (words (certificateOf c))) ⌝ }
 {
     let count = table[CERTIFICATE_COUNT];
     let start = CERTIFICATE_WORDS * (count as usize);
@@ -118,7 +125,7 @@ fn append(table: &mut [u32], log: &mut [u32], c: Certificate)
 pub fn file(table: &mut [u32], log: &mut [u32], c: Certificate) -> Filed
     requires { ⌜ LogFits (now table) (now log) ⌝ }
     ensures { λ r. ⌜ ((b : List ℕ) → leaves r (now (table .exit)) (now (log .exit)) b
-                ≡ filing (memory (now (table .entry)) (now (log .entry)) b) (words (certificateOf c))) ⌝ }
+        ≡ filing (memory (now (table .entry)) (now (log .entry)) b) (words (certificateOf c))) ⌝ }
 {
     let place = place_for(table, log, c);
     let Filed::At(number) = place else {

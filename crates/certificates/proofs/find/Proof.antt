@@ -22,10 +22,15 @@ unfolding firstBelow
 loop-holds c = (omega arith, refl)
 
 returns : tie.Need-returns Inv-loop μ-loop
-returns c = sym (found _ _ _ (c .before .before .before .loop .inv .1) (sym (c .before .is-equal .ensures) ∙ c .if1 .taken) (c .before .before .loop-test .taken))
+returns c =
+    let turn = c .before .before in
+    let inv = turn .before .loop .inv in
+    sym (found _ _ _ (inv .1) (sym (c .before .is-equal .ensures) ∙ c .if1 .taken) (turn .loop-test .taken))
 
 loop-again : tie.Need-loop-again Inv-loop μ-loop
-loop-again c = (omega arith, none-yet _ _ (c .before .before .before .loop .inv .1) (sym (c .before .is-equal .ensures) ∙ c .if1 .left))
+loop-again c =
+    let inv = c .before .before .before .loop .inv in
+    (omega arith, none-yet _ _ (inv .1) (sym (c .before .is-equal .ensures) ∙ c .if1 .left))
 
 returns-2 : tie.Need-returns-2 Inv-loop μ-loop
 returns-2 c = sym (none _ _ _ (c .before .loop .inv .1) (c .before .loop .inv .0) (c .loop-test .left))
@@ -33,14 +38,5 @@ returns-2 c = sym (none _ _ _ (c .before .loop .inv .1) (c .before .loop .inv .0
 pub find-spec : {M : Type 1} → statement M
 find-spec =
     tie.close
-    (tie.spec
-    Inv-loop
-    μ-loop
-    loop-holds
-    (λ c. search needs)
-    (λ c κs. search needs)
-    returns
-    (λ c. search needs)
-    (λ c. search needs)
-    loop-again
-    returns-2)
+    (tie.spec Inv-loop μ-loop loop-holds (λ c. search needs) (λ c. search needs) (λ c κs. search needs) returns
+    (λ c. search needs) (λ c. search needs) loop-again returns-2)

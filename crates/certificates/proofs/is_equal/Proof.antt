@@ -8,7 +8,9 @@ returns : tie.Need-returns
 returns c = other-view _ _ (c .before .before .args .c) (c .if1 .taken)
 
 returns-2 : tie.Need-returns-2
-returns-2 c = same-view _ _ (c .before .before .before .before .before .before .before .before .before .before .before .before .before .before .args .c) (c .before .before .before .before .before .before .before .before .before .before .before .before .if1 .left)
+returns-2 c =
+    let tested = c .before .before .before .before .before .before .before .before .before .before .before .before in
+    same-view _ _ (tested .before .before .args .c) (tested .if1 .left)
 
 pub is-equal-spec : {M : Type 1} → statement M
 is-equal-spec =

@@ -1,0 +1,75 @@
+-- What filing a certificate asks of the table and the log, and what it gives.
+use Prim.Native.Nat.{ℕ, _+_, _≤_, _<_, _%_}
+use mathlib.Core.Path.{_≡_}
+use mathlib.Core.Bool.{Bool, cond}
+use mathlib.Core.List.{List}
+use lib.ListN.{length, getD}
+use lib.Dec.{eqb}
+use Rattle.protocol.specs.Memory.{
+  Memory,
+  memory,
+  certificateCountAt,
+  certificateWords,
+  certificateAt,
+  maxCertificates,
+}
+use Rattle.protocol.specs.Memory as Memory
+use Rattle.protocol.specs.Form.{allBelow}
+use Rattle.protocol.specs.Certificates.{numberFor, canFile, file}
+use Rattle.protocol.specs.Outcome.{noRoom}
+use Rattle.certificates.specs.declared.Certificate.{Certificate}
+use Rattle.certificates.specs.declared.Filed.{Filed}
+use Rattle.certificates.specs.declared.Filed.the-variants.{At, Refused}
+
+-- The number of certificates issued, in the table's words.
+abbrev pub countIn : List ℕ → ℕ
+countIn table = getD table certificateCountAt 0
+
+-- The facts of the form that filing rests on: the table has the count; the log has whole places, at most 4,096, and no fewer than
+-- the count.
+pub record LogFits (table log : List ℕ) : Type 0 where
+  pub counted : certificateCountAt < length table
+  pub whole : length log % certificateWords ≡ 0
+  pub small : length log ≤ certificateAt maxCertificates
+  pub issued : certificateAt (countIn table) ≤ length log
+
+-- The same, with a place free.
+pub record LogHasRoom (table log : List ℕ) : Type 0 where
+  pub fits : LogFits table log
+  pub room : certificateAt (countIn table) < length log
+
+-- A certificate of the code, as the rules have it.
+abbrev pub certificateOf : Certificate → Memory.Certificate
+certificateOf c =
+    record {
+      kind = c .kind;
+      signer = c .signer;
+      view = c .view;
+      block = c .block;
+      ofView = c .«of_view»;
+      subject = c .subject;
+      boot = c .boot;
+    }
+
+-- The words of the log from an index on are these seven.
+unfoldable pub equalFrom : List ℕ → ℕ → List ℕ → Bool
+equalFrom log start ws = allBelow certificateWords (λ k. eqb (getD log (start + k) 0) (getD ws k 0))
+
+abbrev pub isEqual : List ℕ → List ℕ → ℕ → Bool
+isEqual log ws number = equalFrom log (certificateAt number) ws
+
+-- "A certificate equal in all seven words to an issued one isn't added again: the first such number is returned."
+-- The number that a certificate of these words has or gets; the refusal, where none is equal and no place is free.
+unfoldable pub placeFor : Memory → List ℕ → Filed
+placeFor m ws = cond (canFile m ws) (At (numberFor m ws)) (Refused noRoom)
+
+-- What filing gives: that, and the memory with the certificate filed, or as before.
+pub record Result : Type 0 where
+  pub outcome : Filed
+  pub memory : Memory
+
+abbrev pub leaves : Filed → List ℕ → List ℕ → List ℕ → Result
+leaves r t l b = record { outcome = r; memory = memory t l b }
+
+unfoldable pub filing : Memory → List ℕ → Result
+filing m ws = record { outcome = placeFor m ws; memory = cond (canFile m ws) (file m ws) m }

@@ -1,0 +1,2 @@
+-- What filing a certificate asks and gives.
+pub mod Filing

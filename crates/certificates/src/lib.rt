@@ -1,0 +1,139 @@
+// Filing a certificate in the log: an equal one is found, or a new one appended, or there is no room for it.
+ghost use mathlib.Core.Path.{_≡_};
+ghost use mathlib.Core.List.{List};
+ghost use Prim.Native.Nat.{ℕ, _+_, _≤_};
+ghost use lib.ListN.{length};
+ghost use Rattle.protocol.specs.Memory.{memory, certificateAt, certificateWords, words, appendCertificate};
+ghost use Rattle.protocol.specs.Certificates.{firstBelow};
+ghost use Rattle.certificates.specs.Filing.{
+  LogFits,
+  LogHasRoom,
+  certificateOf,
+  equalFrom,
+  isEqual,
+  placeFor,
+  leaves,
+  filing,
+};
+
+// Where the table has the number of certificates issued.
+const CERTIFICATE_COUNT: usize = 1;
+
+// How many words a certificate has in the log, and their order.
+const CERTIFICATE_WORDS: usize = 7;
+
+const KIND: usize = 0;
+
+const SIGNER: usize = 1;
+
+const VIEW: usize = 2;
+
+const BLOCK: usize = 3;
+
+const OF_VIEW: usize = 4;
+
+const SUBJECT: usize = 5;
+
+const BOOT: usize = 6;
+
+// The refusal where no place of the log is free.
+const NO_ROOM: u32 = 9;
+
+pub struct Certificate {
+    pub kind: u32,
+    pub signer: u32,
+    pub view: u32,
+    pub block: u32,
+    pub of_view: u32,
+    pub subject: u32,
+    pub boot: u32,
+}
+
+// The number that a certificate has in the log, or the refusal.
+pub enum Filed {
+    At(u32),
+    Refused(u32),
+}
+
+// Whether the certificate whose words start at an index equals this one. Few have its view, so that is tested first.
+fn is_equal(log: &[u32], start: usize, c: Certificate) -> bool
+    requires { ⌜ start + certificateWords ≤ length (now log) ⌝ }
+    ensures { λ r. ⌜ r ≡ equalFrom (now (log .entry)) start (words (certificateOf c)) ⌝ }
+{
+    let view = c.view;
+    if log[start + VIEW] != view {
+        return false;
+    }
+    (log[start + KIND] == c.kind)
+        & (log[start + SIGNER] == c.signer)
+        & (log[start + BLOCK] == c.block)
+        & (log[start + OF_VIEW] == c.of_view)
+        & (log[start + SUBJECT] == c.subject)
+        & (log[start + BOOT] == c.boot)
+}
+
+// The first of so many certificates that equals this one, or their count.
+fn find(log: &[u32], count: u32, c: Certificate) -> u32
+    requires { ⌜ certificateAt count ≤ length (now log) ⌝ }
+    ensures { λ r. ⌜ r ≡ firstBelow count (isEqual (now (log .entry)) (words (certificateOf c))) ⌝ }
+{
+    let mut number = 0;
+    while number < count {
+        if is_equal(log, CERTIFICATE_WORDS * (number as usize), c) {
+            return number;
+        }
+        number += 1;
+    }
+    count
+}
+
+// The number that a certificate has in the log or would get, or the refusal.
+fn place_for(table: &[u32], log: &[u32], c: Certificate) -> Filed
+    requires { ⌜ LogFits (now table) (now log) ⌝ }
+    ensures { λ r. ⌜ ((b : List ℕ) → r ≡ placeFor (memory (now (table .entry)) (now (log .entry)) b) (words (certificateOf c))) ⌝ }
+{
+    let count = table[CERTIFICATE_COUNT];
+    let number = find(log, count, c);
+    if number < count {
+        return Filed::At(number);
+    }
+    if CERTIFICATE_WORDS * (count as usize) < log.len() {
+        return Filed::At(number);
+    }
+    Filed::Refused(NO_ROOM)
+}
+
+// Writes a certificate at the log's next place, and counts it.
+fn append(table: &mut [u32], log: &mut [u32], c: Certificate)
+    requires { ⌜ LogHasRoom (now table) (now log) ⌝ }
+    ensures { λ _. ⌜ ((b : List ℕ) → memory (now (table .exit)) (now (log .exit)) b
+        ≡ appendCertificate (memory (now (table .entry)) (now (log .entry)) b) (words (certificateOf c))) ⌝ }
+{
+    let count = table[CERTIFICATE_COUNT];
+    let start = CERTIFICATE_WORDS * (count as usize);
+    log[start + KIND] = c.kind;
+    log[start + SIGNER] = c.signer;
+    log[start + VIEW] = c.view;
+    log[start + BLOCK] = c.block;
+    log[start + OF_VIEW] = c.of_view;
+    log[start + SUBJECT] = c.subject;
+    log[start + BOOT] = c.boot;
+    table[CERTIFICATE_COUNT] = count + 1;
+}
+
+// Files a certificate: the number of the first equal one, or of a new one; where there is no room, the refusal and no change.
+pub fn file(table: &mut [u32], log: &mut [u32], c: Certificate) -> Filed
+    requires { ⌜ LogFits (now table) (now log) ⌝ }
+    ensures { λ r. ⌜ ((b : List ℕ) → leaves r (now (table .exit)) (now (log .exit)) b
+        ≡ filing (memory (now (table .entry)) (now (log .entry)) b) (words (certificateOf c))) ⌝ }
+{
+    let place = place_for(table, log, c);
+    let Filed::At(number) = place else {
+        return place;
+    };
+    if number < table[CERTIFICATE_COUNT] {
+        return place;
+    }
+    append(table, log, c);
+    place
+}

@@ -1,0 +1,5 @@
+-- Laws that belong to no one function.
+pub mod Joined
+pub mod Below
+pub mod Order
+pub mod Whole

@@ -1,0 +1,184 @@
+// The form that every call but opening tests (document 01, "Memory", the paragraph "Form"). It is most of a call's time.
+use crate::BLOCK_COUNT_AT;
+use crate::BOOT_AT;
+use crate::CEILING;
+use crate::CERTIFICATE_COUNT_AT;
+use crate::CERTIFICATE_WORDS;
+use crate::DECIDED_BLOCK_AT;
+use crate::DECIDED_VIEW_AT;
+use crate::FAULT_BOUND_AT;
+use crate::FLAG_AT;
+use crate::KIND_AT;
+use crate::LAST_KIND;
+use crate::MAX_BLOCKS;
+use crate::MAX_CERTIFICATES;
+use crate::MAX_FAULT_BOUND;
+use crate::MIN_VIEW_AT;
+use crate::OF_VIEW_AT;
+use crate::PROPOSED_BLOCK_AT;
+use crate::RAISED;
+use crate::RETIRED;
+use crate::ROW_START;
+use crate::SIGNER_AT;
+use crate::STATUS_AT;
+use crate::STORED_BLOCK_AT;
+use crate::STORED_VIEW_AT;
+use crate::SUBJECT_AT;
+use crate::SUBJECT_BOOT_AT;
+use crate::VIEW_AT;
+use crate::VIEW_LIMIT_AT;
+use crate::block_at;
+use crate::certificate_at;
+use crate::replica_count;
+use crate::row_at;
+ghost use mathlib.Core.Path.{_≡_};
+ghost use Prim.Native.Nat.{_+_, _≤_, _<_};
+ghost use lib.ListN.{length};
+ghost use Rattle.protocol.specs.Memory.{
+  memory,
+  maxFaultBound,
+  rowStart,
+  replicaWords,
+  rowAt,
+  certificateWords,
+  certificateAt,
+  blockAt,
+};
+ghost use Rattle.protocol.specs.Form.{allBelow, isFaultBound, lengthsFit, countsFit, wellFormed};
+ghost use Rattle.protocol.proofs.Formed.{Sizes};
+ghost use Rattle.layout.specs.Parts.{blockOk, replicaOk, certificateOk, wordsOk};
+
+// f is 1 to 30.
+pub fn is_fault_bound(f: u32) -> bool
+    ensures { λ r. ⌜ r ≡ isFaultBound f ⌝ }
+{
+    (1 <= f) & (f <= MAX_FAULT_BOUND)
+}
+
+// The three lengths are those of a ledger for f.
+pub fn lengths_fit(table: &[u32], log: &[u32], blocks: &[u32], f: u32) -> bool
+    requires { ⌜ f ≤ maxFaultBound ⌝ }
+    ensures { λ r. ⌜ r ≡ lengthsFit (memory (now (table .entry)) (now (log .entry)) (now (blocks .entry))) f ⌝ }
+{
+    (table.len() == row_at(replica_count(f)))
+        & (log.len() % CERTIFICATE_WORDS == 0)
+        & (log.len() <= certificate_at(MAX_CERTIFICATES))
+        & (block_at(0) < blocks.len())
+        & (blocks.len() <= block_at(MAX_BLOCKS))
+}
+
+// The counts are within the places, and there is a block.
+fn counts_fit(table: &[u32], log: &[u32], blocks: &[u32]) -> bool
+    requires { ⌜ rowStart ≤ length (now table) ⌝ }
+    ensures { λ r. ⌜ r ≡ countsFit (memory (now (table .entry)) (now (log .entry)) (now (blocks .entry))) ⌝ }
+{
+    (certificate_at(table[CERTIFICATE_COUNT_AT]) <= log.len())
+        & (block_at(table[BLOCK_COUNT_AT]) <= blocks.len())
+        & (1 <= table[BLOCK_COUNT_AT])
+}
+
+// Each parent is below its block, but for block 0's.
+fn parents_formed(blocks: &[u32], added: u32) -> bool
+    requires { ⌜ (1 ≤ added) × (added ≤ length (now blocks)) ⌝ }
+    ensures { λ r. ⌜ r ≡ allBelow added (blockOk (now (blocks .entry))) ⌝ }
+{
+    let mut formed = blocks[0] == 0;
+    let mut block: u32 = 1;
+    let mut at: usize = 1;
+    while block < added {
+        formed = formed & (blocks[at] < block);
+        block += 1;
+        at += 1;
+    }
+    formed
+}
+
+fn replica_formed(table: &[u32], replica: u32, added: u32) -> bool
+    requires { ⌜ rowAt replica + replicaWords ≤ length (now table) ⌝ }
+    ensures { λ r. ⌜ r ≡ replicaOk (now (table .entry)) added replica ⌝ }
+{
+    let row = row_at(replica);
+    (table[row + STATUS_AT] <= RETIRED)
+        & (table[row + BOOT_AT] <= CEILING)
+        & (1 <= table[row + MIN_VIEW_AT])
+        & (table[row + MIN_VIEW_AT] <= table[row + VIEW_LIMIT_AT])
+        & (table[row + VIEW_LIMIT_AT] <= CEILING)
+        & (table[row + FLAG_AT] <= RAISED)
+        & (table[row + STORED_VIEW_AT] < table[row + MIN_VIEW_AT])
+        & (table[row + STORED_BLOCK_AT] < added)
+        & (table[row + DECIDED_VIEW_AT] <= CEILING)
+        & (table[row + DECIDED_BLOCK_AT] < added)
+}
+
+fn replicas_formed(table: &[u32], replicas: u32, added: u32) -> bool
+    requires { ⌜ rowAt replicas ≤ length (now table) ⌝ }
+    ensures { λ r. ⌜ r ≡ allBelow replicas (replicaOk (now (table .entry)) added) ⌝ }
+{
+    let mut formed = true;
+    let mut replica: u32 = 0;
+    while replica < replicas {
+        formed = formed & replica_formed(table, replica, added);
+        replica += 1;
+    }
+    formed
+}
+
+fn certificate_formed(log: &[u32], number: usize, replicas: u32, added: u32) -> bool
+    requires { ⌜ certificateAt number + certificateWords ≤ length (now log) ⌝ }
+    ensures { λ r. ⌜ r ≡ certificateOk (now (log .entry)) replicas added number ⌝ }
+{
+    let at = CERTIFICATE_WORDS * number;
+    (1 <= log[at + KIND_AT])
+        & (log[at + KIND_AT] <= LAST_KIND)
+        & (log[at + SIGNER_AT] < replicas)
+        & (log[at + VIEW_AT] <= CEILING)
+        & (log[at + PROPOSED_BLOCK_AT] < added)
+        & (log[at + OF_VIEW_AT] <= CEILING)
+        & (log[at + SUBJECT_AT] < replicas)
+        & (log[at + SUBJECT_BOOT_AT] <= CEILING)
+}
+
+fn certificates_formed(log: &[u32], count: u32, replicas: u32, added: u32) -> bool
+    requires { ⌜ certificateAt count ≤ length (now log) ⌝ }
+    ensures { λ r. ⌜ r ≡ allBelow count (certificateOk (now (log .entry)) replicas added) ⌝ }
+{
+    let end = count as usize;
+    let mut number: usize = 0;
+    while number < end {
+        if !certificate_formed(log, number, replicas, added) {
+            return false;
+        }
+        number += 1;
+    }
+    true
+}
+
+// The words are formed, where the lengths and counts are.
+fn words_formed(table: &[u32], log: &[u32], blocks: &[u32]) -> bool
+    requires { ⌜ Sizes (memory (now table) (now log) (now blocks)) ⌝ }
+    ensures { λ r. ⌜ r ≡ wordsOk (memory (now (table .entry)) (now (log .entry)) (now (blocks .entry))) ⌝ }
+{
+    let replicas = replica_count(table[FAULT_BOUND_AT]);
+    let added = table[BLOCK_COUNT_AT];
+    parents_formed(blocks, added)
+        & replicas_formed(table, replicas, added)
+        & certificates_formed(log, table[CERTIFICATE_COUNT_AT], replicas, added)
+}
+
+// The form, whole.
+pub fn is_well_formed(table: &[u32], log: &[u32], blocks: &[u32]) -> bool
+    ensures { λ r. ⌜ r ≡ wellFormed (memory (now (table .entry)) (now (log .entry)) (now (blocks .entry))) ⌝ }
+{
+    if table.len() < ROW_START {
+        return false;
+    }
+    let f = table[FAULT_BOUND_AT];
+    if !is_fault_bound(f) {
+        return false;
+    }
+    if lengths_fit(table, log, blocks, f) & counts_fit(table, log, blocks) {
+        words_formed(table, log, blocks)
+    } else {
+        false
+    }
+}

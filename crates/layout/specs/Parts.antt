@@ -1,5 +1,5 @@
 -- The parts of the form that go over words, each over the one slice that it reads.
-use Prim.Native.Nat.{ℕ}
+use Prim.Native.Nat.{ℕ, _+_}
 use mathlib.Core.Bool.{Bool}
 use mathlib.Core.List.{List, [], _∷_}
 use Rattle.protocol.specs.Memory.{
@@ -26,6 +26,10 @@ replicaOk table added i = replicaFormed added (replica (memory table [] []) i)
 -- The test of one certificate, of so many replicas and blocks.
 abbrev pub certificateOk : List ℕ → ℕ → ℕ → ℕ → Bool
 certificateOk log replicas added c = certificateFormed replicas added (certificate (memory [] log []) c)
+
+-- A test of four numbers one after the other.
+abbrev pub fourOk : (ℕ → Bool) → ℕ → Bool
+fourOk test k = allHold (test k ∷ test (k + 1) ∷ test (k + 2) ∷ test (k + 3) ∷ [])
 
 -- All of them, as in the form whole.
 abbrev pub wordsOk : Memory → Bool

@@ -1,36 +1,5 @@
 // The form that every call but opening tests (document 01, "Memory", the paragraph "Form"). It is most of a call's time.
-use crate::BLOCK_COUNT_AT;
-use crate::BOOT_AT;
-use crate::CEILING;
-use crate::CERTIFICATE_COUNT_AT;
-use crate::CERTIFICATE_WORDS;
-use crate::DECIDED_BLOCK_AT;
-use crate::DECIDED_VIEW_AT;
-use crate::FAULT_BOUND_AT;
-use crate::FLAG_AT;
-use crate::KIND_AT;
-use crate::LAST_KIND;
-use crate::MAX_BLOCKS;
-use crate::MAX_CERTIFICATES;
-use crate::MAX_FAULT_BOUND;
-use crate::MIN_VIEW_AT;
-use crate::OF_VIEW_AT;
-use crate::PROPOSED_BLOCK_AT;
-use crate::RAISED;
-use crate::RETIRED;
-use crate::ROW_START;
-use crate::SIGNER_AT;
-use crate::STATUS_AT;
-use crate::STORED_BLOCK_AT;
-use crate::STORED_VIEW_AT;
-use crate::SUBJECT_AT;
-use crate::SUBJECT_BOOT_AT;
-use crate::VIEW_AT;
-use crate::VIEW_LIMIT_AT;
-use crate::block_at;
-use crate::certificate_at;
-use crate::replica_count;
-use crate::row_at;
+use crate::*;
 ghost use mathlib.Core.Path.{_≡_};
 ghost use Prim.Native.Nat.{_+_, _≤_, _<_};
 ghost use lib.ListN.{length};
@@ -46,7 +15,7 @@ ghost use Rattle.protocol.specs.Memory.{
 };
 ghost use Rattle.protocol.specs.Form.{allBelow, isFaultBound, lengthsFit, countsFit, wellFormed};
 ghost use Rattle.protocol.proofs.Formed.{Sizes};
-ghost use Rattle.layout.specs.Parts.{blockOk, replicaOk, certificateOk, wordsOk};
+ghost use Rattle.layout.specs.Parts.{blockOk, replicaOk, certificateOk, fourOk, wordsOk};
 
 // f is 1 to 30.
 pub fn is_fault_bound(f: u32) -> bool
@@ -138,12 +107,29 @@ fn certificate_formed(log: &[u32], number: usize, replicas: u32, added: u32) -> 
         & (log[at + SUBJECT_BOOT_AT] <= CEILING)
 }
 
+// Four certificates one after the other. It has one caller, so that it is inlined there and its comparisons are made by vectors.
+fn four_formed(log: &[u32], number: usize, replicas: u32, added: u32) -> bool
+    requires { ⌜ certificateAt (number + 4) ≤ length (now log) ⌝ }
+    ensures { λ r. ⌜ r ≡ fourOk (certificateOk (now (log .entry)) replicas added) number ⌝ }
+{
+    certificate_formed(log, number, replicas, added)
+        & certificate_formed(log, number + 1, replicas, added)
+        & certificate_formed(log, number + 2, replicas, added)
+        & certificate_formed(log, number + 3, replicas, added)
+}
+
 fn certificates_formed(log: &[u32], count: u32, replicas: u32, added: u32) -> bool
     requires { ⌜ certificateAt count ≤ length (now log) ⌝ }
     ensures { λ r. ⌜ r ≡ allBelow count (certificateOk (now (log .entry)) replicas added) ⌝ }
 {
     let end = count as usize;
     let mut number: usize = 0;
+    while number + 4 <= end {
+        if !four_formed(log, number, replicas, added) {
+            return false;
+        }
+        number += 4;
+    }
     while number < end {
         if !certificate_formed(log, number, replicas, added) {
             return false;

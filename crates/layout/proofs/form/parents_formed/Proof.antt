@@ -18,7 +18,7 @@ use Rattle.layout.proofs.form.parents_formed.Lts as lts
 next : (blocks : List ℕ) (block : ℕ) → 1 ≤ block
     → allBelow block (blockOk blocks) && ltb (getD blocks block 0) block ≡ allBelow (block + 1) (blockOk blocks)
 unfolding blockFormed
-next blocks block h = let n : eqb block 0 ≡ false = omega tests in rw n at (one-more block (blockOk blocks))
+next blocks block h = let n : eqb block 0 ≡ false = omega tests in rw n at (one-more (blockOk blocks) block)
 
 abbrev Inv-loop : tie.InvT-loop
 Inv-loop blocks added formed₀ block₀ at₀ formed block at =

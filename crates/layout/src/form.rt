@@ -1,7 +1,7 @@
 // The form that every call but opening tests (document 01, "Memory", the paragraph "Form"). It is most of a call's time.
 use crate::*;
 ghost use mathlib.Core.Path.{_≡_};
-ghost use Prim.Native.Nat.{_+_, _≤_, _<_};
+ghost use Prim.Native.Nat.{_+_, _-_, _/_, _≤_, _<_};
 ghost use lib.ListN.{length};
 ghost use Rattle.protocol.specs.Memory.{
   memory,
@@ -9,6 +9,7 @@ ghost use Rattle.protocol.specs.Memory.{
   rowStart,
   replicaWords,
   rowAt,
+  tableLength,
   certificateWords,
   certificateAt,
   blockAt,
@@ -139,12 +140,21 @@ fn certificates_formed(log: &[u32], count: u32, replicas: u32, added: u32) -> bo
     true
 }
 
+// The number of rows that the table has: that of the replicas, where the length fits. The compiler would put `2 * f` for a bound
+// `2 * f + 1`, another comparison than the rest have, and make none of them by vectors.
+fn row_count(table: &[u32]) -> u32
+    requires { ⌜ (rowStart ≤ length (now table)) × (length (now table) ≤ tableLength maxFaultBound) ⌝ }
+    ensures { λ r. ⌜ r ≡ (length (now (table .entry)) - rowStart) / replicaWords ⌝ }
+{
+    ((table.len() - ROW_START) / REPLICA_WORDS) as u32
+}
+
 // The words are formed, where the lengths and counts are.
 fn words_formed(table: &[u32], log: &[u32], blocks: &[u32]) -> bool
     requires { ⌜ Sizes (memory (now table) (now log) (now blocks)) ⌝ }
     ensures { λ r. ⌜ r ≡ wordsOk (memory (now (table .entry)) (now (log .entry)) (now (blocks .entry))) ⌝ }
 {
-    let replicas = replica_count(table[FAULT_BOUND_AT]);
+    let replicas = row_count(table);
     let added = table[BLOCK_COUNT_AT];
     parents_formed(blocks, added)
         & replicas_formed(table, replicas, added)

@@ -27,6 +27,10 @@ module _ (test : ℕ → Bool) where
       plus : (j : ℕ) → k + j + 1 ≡ k + (j + 1)
       plus j = omega arith
 
+  -- The loop has reached the count.
+  pub at-end : {i k : ℕ} {b : Bool} → i ≤ k → k ≤ i → b ≡ allBelow i test → b ≡ allBelow k test
+  at-end {i} {k} l h all = let e : i ≡ k = omega arith in rw (← e) all
+
   -- A test that all those below a count would show, and that fails.
   pub refuted : (k : ℕ) (t : Bool) → (((i : ℕ) → i < k → test i ≡ true) → t ≡ true) → t ≡ false → false ≡ allBelow k test
   refuted k t shown e = by-test (allBelow k test) (λ all. cc (shown (at-below k test all))) sym

@@ -1,7 +1,8 @@
 -- Tests joined by `&`, as the code has them, and lists of tests, as the definitions have them.
-use mathlib.Core.Path.{_≡_, refl, _∙_}
-use mathlib.Core.Bool.{Bool, true, false, _&&_}
+use mathlib.Core.Path.{_≡_, refl, sym, _∙_}
+use mathlib.Core.Bool.{Bool, true, false, not, _&&_}
 use mathlib.Core.List.{List, [], _∷_}
+use borrow.Author.Tests.{not-true, not-false}
 use Rattle.protocol.specs.Form.{allHold}
 use Rattle.protocol.proofs.Tests.{Each, each, all-hold}
 
@@ -16,6 +17,13 @@ joined-all true [] = refl
 joined-all false [] = refl
 joined-all true (u ∷ us) = joined-all u us
 joined-all false (u ∷ us) = joined-all false us
+
+-- What `if !f(..)` tells, where f's result is a test.
+pub denied : {r t : Bool} → r ≡ t → not r ≡ true → t ≡ false
+denied {r} e n = sym e ∙ not-true r n
+
+pub granted : {r t : Bool} → r ≡ t → not r ≡ false → t ≡ true
+granted {r} e n = sym e ∙ not-false r n
 
 -- Two tests that show each other are equal.
 pub same-test : (a b : Bool) → (a ≡ true → b ≡ true) → (b ≡ true → a ≡ true) → a ≡ b

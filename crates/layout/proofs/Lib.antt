@@ -3,3 +3,4 @@ pub mod Joined
 pub mod Below
 pub mod Order
 pub mod Whole
+pub mod Within

@@ -1,5 +1,5 @@
-// The words of a ledger's memory: where each stands, how it is read and written, and the test of their form (document 01, "Memory").
-// The constants have the names of protocol/specs/Memory.antt in upper case.
+// The words of a ledger's memory (document 01, "Memory"): where each stands, how it is read and written, and the test of their form.
+// The constants have the names of protocol/specs/Memory.antt, in upper case.
 ghost use mathlib.Core.Path.{_≡_};
 ghost use Prim.Native.Nat.{_+_, _≤_, _<_};
 ghost use lib.ListN.{length, getD, set};

@@ -1,9 +1,6 @@
 use borrow.Author.Needs.{needs}
 use Rattle.layout.proofs.certificate_word.Statement.{statement}
 use Rattle.layout.proofs.certificate_word.Tie as tie
-use Rattle.layout.proofs.certificate_word.Reads as reads
-use Rattle.layout.proofs.certificate_word.Lts as lts
-use Rattle.layout.proofs.certificate_at.Reads as certificate-at-reads
 
 returns : tie.Need-returns
 returns c = rw (c .before .certificate-at .ensures)

@@ -1,9 +1,6 @@
 use borrow.Author.Needs.{needs}
 use Rattle.layout.proofs.parent.Statement.{statement}
 use Rattle.layout.proofs.parent.Tie as tie
-use Rattle.layout.proofs.parent.Reads as reads
-use Rattle.layout.proofs.parent.Lts as lts
-use Rattle.layout.proofs.block_at.Reads as block-at-reads
 
 returns : tie.Need-returns
 returns c = rw (c .before .block-at .ensures)

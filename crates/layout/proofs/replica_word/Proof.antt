@@ -1,9 +1,6 @@
 use borrow.Author.Needs.{needs}
 use Rattle.layout.proofs.replica_word.Statement.{statement}
 use Rattle.layout.proofs.replica_word.Tie as tie
-use Rattle.layout.proofs.replica_word.Reads as reads
-use Rattle.layout.proofs.replica_word.Lts as lts
-use Rattle.layout.proofs.row_at.Reads as row-at-reads
 
 returns : tie.Need-returns
 returns c = rw (c .before .row-at .ensures)

@@ -1,9 +1,6 @@
 use borrow.Author.Needs.{needs}
 use Rattle.layout.proofs.set_replica_word.Statement.{statement}
 use Rattle.layout.proofs.set_replica_word.Tie as tie
-use Rattle.layout.proofs.set_replica_word.Reads as reads
-use Rattle.layout.proofs.set_replica_word.Lts as lts
-use Rattle.layout.proofs.row_at.Reads as row-at-reads
 
 returns : tie.Need-returns
 returns c = rw (c .row-at .ensures)
@@ -11,5 +8,5 @@ returns c = rw (c .row-at .ensures)
 pub set-replica-word-spec : {M : Type 1} → statement M
 set-replica-word-spec =
     tie.close
-    (tie.spec (λ c κs. search needs) (λ c. search needs) (λ c. search needs) (λ c. search needs)
-    (λ c. search needs) returns)
+    (tie.spec (λ c κs. search needs) (λ c. search needs) (λ c. search needs) (λ c. search needs) (λ c. search
+    needs) returns)

@@ -3,8 +3,6 @@ use Rattle.layout.proofs.Order.{certificate-order}
 use borrow.Author.Needs.{needs}
 use Rattle.layout.proofs.form.certificate_formed.Statement.{statement}
 use Rattle.layout.proofs.form.certificate_formed.Tie as tie
-use Rattle.layout.proofs.form.certificate_formed.Reads as reads
-use Rattle.layout.proofs.form.certificate_formed.Lts as lts
 
 returns : tie.Need-returns
 unfolding certificateFormed
@@ -13,9 +11,8 @@ returns c = certificate-order _ _ _ _ _ _ _ _
 pub certificate-formed-spec : {M : Type 1} → statement M
 certificate-formed-spec =
     tie.close
-    (tie.spec (λ c. search needs) (λ c. search needs) (λ c. search needs) (λ c. search needs)
-    (λ c. search needs) (λ c. search needs) (λ c. search needs) (λ c. search needs) (λ c. search needs)
-    (λ c. search needs) (λ c. search needs) (λ c. search needs) (λ c. search needs) (λ c. search needs)
-    (λ c. search needs) (λ c. search needs) (λ c. search needs) (λ c. search needs) (λ c. search needs)
-    (λ c. search needs) (λ c. search needs) (λ c. search needs) (λ c. search needs) (λ c. search needs)
-    (λ c. search needs) returns)
+    (tie.spec (λ c. search needs) (λ c. search needs) (λ c. search needs) (λ c. search needs) (λ c. search
+    needs) (λ c. search needs) (λ c. search needs) (λ c. search needs) (λ c. search needs) (λ c. search needs)
+    (λ c. search needs) (λ c. search needs) (λ c. search needs) (λ c. search needs) (λ c. search needs) (λ c.
+    search needs) (λ c. search needs) (λ c. search needs) (λ c. search needs) (λ c. search needs) (λ c. search
+    needs) (λ c. search needs) (λ c. search needs) (λ c. search needs) (λ c. search needs) returns)

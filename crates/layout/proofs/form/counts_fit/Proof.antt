@@ -4,10 +4,6 @@ use Rattle.layout.proofs.Joined.{joined-all}
 use borrow.Author.Needs.{needs}
 use Rattle.layout.proofs.form.counts_fit.Statement.{statement}
 use Rattle.layout.proofs.form.counts_fit.Tie as tie
-use Rattle.layout.proofs.form.counts_fit.Reads as reads
-use Rattle.layout.proofs.form.counts_fit.Lts as lts
-use Rattle.layout.proofs.block_at.Reads as block-at-reads
-use Rattle.layout.proofs.certificate_at.Reads as certificate-at-reads
 
 returns : tie.Need-returns
 unfolding countsFit
@@ -16,5 +12,5 @@ returns c = rw (c .before .before .before .certificate-at .ensures, c .before .b
 pub counts-fit-spec : {M : Type 1} → statement M
 counts-fit-spec =
     tie.close
-    (tie.spec (λ c. search needs) (λ c κs. search needs) (λ c. search needs) (λ c κs. search needs)
-    (λ c. search needs) returns)
+    (tie.spec (λ c. search needs) (λ c κs. search needs) (λ c. search needs) (λ c κs. search needs) (λ c.
+    search needs) returns)

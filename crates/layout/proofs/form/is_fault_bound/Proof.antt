@@ -2,8 +2,6 @@ use mathlib.Core.List.{[], _∷_}
 use Rattle.layout.proofs.Joined.{joined-all}
 use Rattle.layout.proofs.form.is_fault_bound.Statement.{statement}
 use Rattle.layout.proofs.form.is_fault_bound.Tie as tie
-use Rattle.layout.proofs.form.is_fault_bound.Reads as reads
-use Rattle.layout.proofs.form.is_fault_bound.Lts as lts
 
 returns : tie.Need-returns
 returns c = joined-all _ (_ ∷ [])

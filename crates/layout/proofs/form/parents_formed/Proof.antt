@@ -9,11 +9,9 @@ use native.Mathlib.Omega.{arith}
 use Rattle.protocol.specs.Form.{allBelow, blockFormed}
 use Rattle.protocol.proofs.Tests.{tests}
 use Rattle.layout.specs.Parts.{blockOk}
-use Rattle.layout.proofs.Below.{one-more}
+use Rattle.layout.proofs.Below.{one-more, at-end}
 use Rattle.layout.proofs.form.parents_formed.Statement.{statement}
 use Rattle.layout.proofs.form.parents_formed.Tie as tie
-use Rattle.layout.proofs.form.parents_formed.Reads as reads
-use Rattle.layout.proofs.form.parents_formed.Lts as lts
 
 next : (blocks : List ℕ) (block : ℕ) → 1 ≤ block
     → allBelow block (blockOk blocks) && ltb (getD blocks block 0) block ≡ allBelow (block + 1) (blockOk blocks)
@@ -34,13 +32,14 @@ loop-holds c = search needs
 loop-again : tie.Need-loop-again Inv-loop μ-loop
 loop-again c =
     let h = c .before .before .loop .inv in
-    (search needs, (search needs, (search needs, rw (h .1 .1 .0, h .1 .1 .1) (next (c .before .before .before .before .args .blocks .now) _ (h .0)))))
+    let blocks = c .before .before .before .before .args .blocks .now in
+    (search needs, (search needs, (search needs, rw (h .1 .1 .0, h .1 .1 .1) (next blocks _ (h .0)))))
 
 returns : tie.Need-returns Inv-loop μ-loop
-returns c = let e : c .before .loop .block ≡ c .before .before .before .args .added = omega arith in rw (← e) (c .before .loop .inv .1 .1 .1)
+returns c = at-end _ (omega arith) (omega arith) (c .before .loop .inv .1 .1 .1)
 
 pub parents-formed-spec : {M : Type 1} → statement M
 parents-formed-spec =
     tie.close
-    (tie.spec Inv-loop μ-loop (λ c. search needs) loop-holds (λ c. search needs) (λ c. search needs)
-    (λ c. search needs) (λ c. search needs) (λ c. search needs) loop-again returns)
+    (tie.spec Inv-loop μ-loop (λ c. search needs) loop-holds (λ c. search needs) (λ c. search needs) (λ c.
+    search needs) (λ c. search needs) (λ c. search needs) loop-again returns)

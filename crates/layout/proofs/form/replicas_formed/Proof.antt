@@ -4,12 +4,9 @@ use borrow.Author.Needs.{needs}
 use native.Mathlib.Omega.{arith}
 use Rattle.protocol.specs.Form.{allBelow}
 use Rattle.layout.specs.Parts.{replicaOk}
-use Rattle.layout.proofs.Below.{one-more}
+use Rattle.layout.proofs.Below.{one-more, at-end}
 use Rattle.layout.proofs.form.replicas_formed.Statement.{statement}
 use Rattle.layout.proofs.form.replicas_formed.Tie as tie
-use Rattle.layout.proofs.form.replicas_formed.Reads as reads
-use Rattle.layout.proofs.form.replicas_formed.Lts as lts
-use Rattle.layout.proofs.form.replica_formed.Reads as replica-formed-reads
 
 abbrev Inv-loop : tie.InvT-loop
 Inv-loop table replicas added formed₀ replica₀ formed replica =
@@ -26,7 +23,7 @@ loop-again : tie.Need-loop-again Inv-loop μ-loop
 loop-again c = (search needs, rw (c .before .before .loop .inv .1, c .replica-formed .ensures) (one-more _ _))
 
 returns : tie.Need-returns Inv-loop μ-loop
-returns c = let e : c .before .loop .replica ≡ c .before .before .before .args .replicas = omega arith in rw (← e) (c .before .loop .inv .1)
+returns c = at-end _ (omega arith) (omega arith) (c .before .loop .inv .1)
 
 pub replicas-formed-spec : {M : Type 1} → statement M
 replicas-formed-spec =

@@ -1,0 +1,6 @@
+-- Laws that belong to no one function.
+pub mod Joined
+pub mod Below
+pub mod Order
+pub mod Whole
+pub mod Within

@@ -1,0 +1,92 @@
+-- What the form tells the code: the words that the accessors read are there, and how large they are.
+use Prim.Native.Nat.{ℕ, _+_, _≤_, _<_}
+use mathlib.Core.Path.{_≡_}
+use mathlib.Core.Bool.{false}
+use native.Mathlib.Omega.{arith}
+use lib.ListN.{length}
+use lib.Dec.{eqb}
+use Rattle.protocol.specs.Memory.{
+  Memory,
+  replicaCount,
+  ceiling,
+  faultBound,
+  certificateCount,
+  blockCount,
+  rowStart,
+  replicaWords,
+  rowAt,
+  retired,
+  raised,
+  replica,
+  certificateWords,
+  certificateAt,
+  certificate,
+  maxCertificates,
+  maxBlocks,
+  blockAt,
+  parent,
+}
+use Rattle.protocol.specs.Form.{lastKind, lengthsFit, blockFormed, replicaFormed, certificateFormed}
+use Rattle.protocol.proofs.Tests.{tests, each}
+use Rattle.protocol.proofs.Formed.{Formed, Sizes, sizes}
+
+-- ---- what the accessors require
+
+module _ (m : Memory) (s : Sizes m) where
+  pub header-within : rowStart ≤ length (m .table)
+  header-within = omega arith
+
+  pub replica-within : (i k : ℕ) → i < replicaCount (faultBound m) → k < replicaWords → rowAt i + k < length (m .table)
+  replica-within i k h l = omega arith
+
+  pub certificate-within : (c k : ℕ) → c < certificateCount m → k < certificateWords → certificateAt c + k < length (m .log)
+  certificate-within c k h l = omega arith
+
+  pub parent-within : (b : ℕ) → b < blockCount m → blockAt b < length (m .blocks)
+  parent-within b h = omega arith
+
+-- ---- how large the words are
+
+pub record Counts (m : Memory) : Type 0 where
+  pub certificates : certificateCount m ≤ maxCertificates
+  pub blocks : blockCount m ≤ maxBlocks
+
+pub record ReplicaBounds (m : Memory) (i : ℕ) : Type 0 where
+  pub status : replica m i .status ≤ retired
+  pub boot : replica m i .boot ≤ ceiling
+  pub minViewLow : 1 ≤ replica m i .minView
+  pub minView : replica m i .minView ≤ replica m i .viewLimit
+  pub viewLimit : replica m i .viewLimit ≤ ceiling
+  pub flag : replica m i .flag ≤ raised
+  pub storedView : replica m i .storedView < replica m i .minView
+  pub storedBlock : replica m i .storedBlock < blockCount m
+  pub decidedView : replica m i .decidedView ≤ ceiling
+  pub decidedBlock : replica m i .decidedBlock < blockCount m
+
+pub record CertificateBounds (m : Memory) (c : ℕ) : Type 0 where
+  pub kindLow : 1 ≤ certificate m c .kind
+  pub kind : certificate m c .kind ≤ lastKind
+  pub signer : certificate m c .signer < replicaCount (faultBound m)
+  pub view : certificate m c .view ≤ ceiling
+  pub block : certificate m c .block < blockCount m
+  pub ofView : certificate m c .ofView ≤ ceiling
+  pub subject : certificate m c .subject < replicaCount (faultBound m)
+  pub boot : certificate m c .boot ≤ ceiling
+
+module _ (m : Memory) (w : Formed m) where
+  pub counts-within : Counts m
+  unfolding lengthsFit
+  counts-within = let s = sizes m w in let h = each _ (w .lengths) in omega tests
+
+  pub replica-bounds : (i : ℕ) → i < replicaCount (faultBound m) → ReplicaBounds m i
+  unfolding replicaFormed
+  replica-bounds i l = let h = each _ (w .rows i l) in omega tests
+
+  pub certificate-bounds : (c : ℕ) → c < certificateCount m → CertificateBounds m c
+  unfolding certificateFormed
+  certificate-bounds c l = let h = each _ (w .log c l) in omega tests
+
+  -- Block 0 alone has a parent that is not below it.
+  pub parent-below : (b : ℕ) → b < blockCount m → 1 ≤ b → parent m b < b
+  unfolding blockFormed
+  parent-below b l h = let n : eqb b 0 ≡ false = omega tests in let e = rw n at (w .parents b l) in omega tests

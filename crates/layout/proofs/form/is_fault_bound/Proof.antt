@@ -1,0 +1,11 @@
+use mathlib.Core.List.{[], _∷_}
+use Rattle.layout.proofs.Joined.{joined-all}
+use Rattle.layout.proofs.form.is_fault_bound.Statement.{statement}
+use Rattle.layout.proofs.form.is_fault_bound.Tie as tie
+
+returns : tie.Need-returns
+returns c = joined-all _ (_ ∷ [])
+
+pub is-fault-bound-spec : {M : Type 1} → statement M
+is-fault-bound-spec = tie.close
+    (tie.spec returns)

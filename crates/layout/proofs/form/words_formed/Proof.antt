@@ -1,0 +1,23 @@
+use mathlib.Core.Path.{_≡_}
+use mathlib.Core.List.{[], _∷_}
+use native.Mathlib.Omega.{arith}
+use lib.ListN.{getD}
+use Rattle.protocol.specs.Memory.{replicaCount, faultBoundAt}
+use Rattle.layout.proofs.Joined.{joined-all}
+use borrow.Author.Needs.{needs}
+use Rattle.layout.proofs.form.words_formed.Statement.{statement}
+use Rattle.layout.proofs.form.words_formed.Tie as tie
+
+returns : tie.Need-returns
+returns c =
+    let b = c .before .before .before in
+    let t = b .before .before .before .before .before .before .args .table .now in
+    let n : b .before .before .row-count .result ≡ replicaCount (getD t faultBoundAt 0) = omega arith in
+    rw (c .certificates-formed .ensures, c .before .before .replicas-formed .ensures, b .parents-formed .ensures, n)
+    (joined-all _ (_ ∷ _ ∷ []))
+
+pub words-formed-spec : {M : Type 1} → statement M
+words-formed-spec =
+    tie.close
+    (tie.spec (λ c κs. search needs) (λ c. search needs) (λ c κs. search needs) (λ c κs. search needs)
+    (λ c. search needs) (λ c κs. search needs) returns)

@@ -1,0 +1,2 @@
+-- What the inner functions' contracts cite.
+pub mod Parts

@@ -1,0 +1,41 @@
+-- The parts of the form that go over words, each over the one slice that it reads.
+use Prim.Native.Nat.{ℕ, _+_}
+use mathlib.Core.Bool.{Bool}
+use mathlib.Core.List.{List, [], _∷_}
+use Rattle.protocol.specs.Memory.{
+  Memory,
+  memory,
+  replicaCount,
+  faultBound,
+  certificateCount,
+  blockCount,
+  replica,
+  certificate,
+  parent,
+}
+use Rattle.protocol.specs.Form.{allHold, allBelow, blockFormed, replicaFormed, certificateFormed}
+
+-- The test of one block: its number, its parent.
+abbrev pub blockOk : List ℕ → ℕ → Bool
+blockOk blocks b = blockFormed b (parent (memory [] [] blocks) b)
+
+-- The test of one replica, where so many blocks are added.
+abbrev pub replicaOk : List ℕ → ℕ → ℕ → Bool
+replicaOk table added i = replicaFormed added (replica (memory table [] []) i)
+
+-- The test of one certificate, of so many replicas and blocks.
+abbrev pub certificateOk : List ℕ → ℕ → ℕ → ℕ → Bool
+certificateOk log replicas added c = certificateFormed replicas added (certificate (memory [] log []) c)
+
+-- A test of four numbers one after the other.
+abbrev pub fourOk : (ℕ → Bool) → ℕ → Bool
+fourOk test k = allHold (test k ∷ test (k + 1) ∷ test (k + 2) ∷ test (k + 3) ∷ [])
+
+-- All of them, as in the form whole.
+abbrev pub wordsOk : Memory → Bool
+wordsOk m =
+    allHold
+    (allBelow (blockCount m) (blockOk (m .blocks))
+    ∷ allBelow (replicaCount (faultBound m)) (replicaOk (m .table) (blockCount m))
+    ∷ allBelow (certificateCount m) (certificateOk (m .log) (replicaCount (faultBound m)) (blockCount m))
+    ∷ [])

@@ -114,7 +114,7 @@ fn certificate_formed(log: &[u32], number: usize, replicas: u32, added: u32) -> 
         & (log[at + SUBJECT_BOOT_AT] <= CEILING)
 }
 
-// Four certificates, one after the other. One caller, joined by `&` alone: so it is inlined, and its comparisons are made by vectors.
+// Four certificates, one after the other. One caller, and tests joined by `&` alone: so it is inlined, and vectors compare.
 fn four_formed(log: &[u32], number: usize, replicas: u32, added: u32) -> bool
     requires { ⌜ certificateAt (number + 4) ≤ length (now log) ⌝ }
     ensures { λ r. ⌜ r ≡ fourOk (certificateOk (now (log .entry)) replicas added) number ⌝ }

@@ -1,4 +1,4 @@
-// The words of a ledger's memory (document 01, "Memory"): where each stands, how it is read and written, and the test of their form.
+// The words of a ledger's memory (document 01, "Memory"): where each stands, how it is read and written, what form they have.
 // The constants have the names of protocol/specs/Memory.antt, in upper case.
 ghost use mathlib.Core.Path.{_≡_};
 ghost use Prim.Native.Nat.{_+_, _≤_, _<_};

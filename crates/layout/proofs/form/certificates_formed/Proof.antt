@@ -30,11 +30,13 @@ loop-holds c = search needs
 
 returns : tie.Need-returns Inv-loop μ-loop Inv-loop2 μ-loop2
 returns c =
-    refuted-four _ (c .before .before .before .loop .number) _ (omega arith) (denied (c .before .four-formed .ensures) (c .if1 .taken))
+    refuted-four _ (c .before .before .before .loop .number) _ (omega arith)
+    (denied (c .before .four-formed .ensures) (c .if1 .taken))
 
 loop-again : tie.Need-loop-again Inv-loop μ-loop Inv-loop2 μ-loop2
 loop-again c =
-    (search needs, next-four _ _ (c .before .before .before .loop .inv .1) (granted (c .before .four-formed .ensures) (c .if1 .left)))
+    let all = c .before .before .before .loop .inv .1 in
+    (search needs, next-four _ _ all (granted (c .before .four-formed .ensures) (c .if1 .left)))
 
 returns-2 : tie.Need-returns-2 Inv-loop μ-loop Inv-loop2 μ-loop2
 returns-2 c =
@@ -43,7 +45,8 @@ returns-2 c =
 
 loop2-again : tie.Need-loop2-again Inv-loop μ-loop Inv-loop2 μ-loop2
 loop2-again c =
-    (search needs, next _ _ (c .before .before .before .loop2 .inv .1) (granted (c .before .certificate-formed .ensures) (c .if2 .left)))
+    let all = c .before .before .before .loop2 .inv .1 in
+    (search needs, next _ _ all (granted (c .before .certificate-formed .ensures) (c .if2 .left)))
 
 returns-3 : tie.Need-returns-3 Inv-loop μ-loop Inv-loop2 μ-loop2
 returns-3 c = at-end _ (omega arith) (omega arith) (sym (c .before .loop2 .inv .1))

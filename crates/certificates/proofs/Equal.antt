@@ -6,16 +6,7 @@ use mathlib.Core.List.{List}
 use native.Mathlib.Omega.{arith}
 use lib.ListN.{getD}
 use lib.Dec.{eqb}
-use Rattle.protocol.specs.Memory.{
-  words,
-  kindAt,
-  signerAt,
-  viewAt,
-  proposedBlockAt,
-  ofViewAt,
-  subjectAt,
-  subjectBootAt,
-}
+use Rattle.protocol.specs.Memory.{words, kindAt, signerAt, viewAt, proposedBlockAt, ofViewAt, subjectAt, subjectBootAt}
 use Rattle.protocol.specs.Form.{allBelow}
 use Rattle.protocol.proofs.Tests.{tests, by-test, at-below}
 use Rattle.certificates.specs.declared.Certificate.{Certificate}

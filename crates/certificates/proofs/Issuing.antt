@@ -2,14 +2,12 @@
 use Prim.Native.Nat.{ℕ, zero, suc}
 use mathlib.Core.Path.{_≡_, refl, ap, sym, _∙_}
 use mathlib.Core.Bool.{true, false}
-use mathlib.Core.List.{List, [], _∷_, _++_}
-use lib.Dec.{leb}
+use mathlib.Core.List.{List}
 use Rattle.protocol.specs.Memory.{Memory, Certificate, Assignment, words, update}
 use Rattle.protocol.specs.Certificates.{numberFor, canFile, file}
-use Rattle.protocol.specs.Outcome.{Outcome, Need, _else_, firstRefusal, answered, follow, noRoom}
+use Rattle.protocol.specs.Outcome.{Outcome, Need, firstRefusal, answered, follow, noRoom}
 use Rattle.protocol.specs.Calls.{issuing}
-use Rattle.protocol.proofs.Tests.{tests, and-true}
-use Rattle.protocol.proofs.Needs.{positive}
+use Rattle.protocol.proofs.Needs.{positive, refused-first, all-pass}
 use Rattle.certificates.specs.declared.Filed.{Filed}
 use Rattle.certificates.specs.declared.Filed.the-variants.{At, Refused}
 use Rattle.certificates.specs.Filing.{Result, filing}
@@ -21,20 +19,6 @@ refusal n m = record { answer = record { number = n; first = 0; second = 0 }; me
 
 abbrev pub issuance : ℕ → Memory → Outcome
 issuance number m = record { answer = record { number = 0; first = number; second = 0 }; memory = m }
-
--- ---- the needs before the last
-
-refused-first : (ns ms : List Need) → (firstRefusal ns ≡ 0 → ⊥) → firstRefusal (ns ++ ms) ≡ firstRefusal ns
-unfolding firstRefusal
-refused-first [] ms h = absurd (h refl)
-refused-first ((true else n) ∷ ns) ms h = refused-first ns ms h
-refused-first ((false else n) ∷ ns) ms h = refl
-
-all-pass : (ns ms : List Need) → positive ns ≡ true → firstRefusal ns ≡ 0 → firstRefusal (ns ++ ms) ≡ firstRefusal ms
-unfolding firstRefusal
-all-pass [] ms p e = refl
-all-pass ((true else n) ∷ ns) ms p e = all-pass ns ms (and-true (leb 1 n) (positive ns) p .1) e
-all-pass ((false else n) ∷ ns) ms p e = let h = and-true (leb 1 n) (positive ns) p in absurd (omega tests)
 
 module _ (m : Memory) (needs : List Need) (i : ℕ) (changes : List Assignment) (c : Certificate) where
   -- ---- the three ways that an issuing call goes

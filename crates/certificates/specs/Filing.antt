@@ -5,14 +5,7 @@ use mathlib.Core.Bool.{Bool, cond}
 use mathlib.Core.List.{List}
 use lib.ListN.{length, getD}
 use lib.Dec.{eqb}
-use Rattle.protocol.specs.Memory.{
-  Memory,
-  memory,
-  certificateCountAt,
-  certificateWords,
-  certificateAt,
-  maxCertificates,
-}
+use Rattle.protocol.specs.Memory.{Memory, memory, certificateCountAt, certificateWords, certificateAt, maxCertificates}
 use Rattle.protocol.specs.Memory as Memory
 use Rattle.protocol.specs.Form.{allBelow}
 use Rattle.protocol.specs.Certificates.{numberFor, canFile, file}

@@ -5,27 +5,9 @@ use mathlib.Core.Bool.{false}
 use native.Mathlib.Omega.{arith}
 use lib.ListN.{length}
 use lib.Dec.{eqb}
-use Rattle.protocol.specs.Memory.{
-  Memory,
-  replicaCount,
-  ceiling,
-  faultBound,
-  certificateCount,
-  blockCount,
-  rowStart,
-  replicaWords,
-  rowAt,
-  retired,
-  raised,
-  replica,
-  certificateWords,
-  certificateAt,
-  certificate,
-  maxCertificates,
-  maxBlocks,
-  blockAt,
-  parent,
-}
+use Rattle.protocol.specs.Memory.{Memory, replicaCount, ceiling, faultBound, certificateCount, blockCount, rowStart}
+use Rattle.protocol.specs.Memory.{replicaWords, rowAt, retired, raised, replica, certificateWords, certificateAt, certificate}
+use Rattle.protocol.specs.Memory.{maxCertificates, maxBlocks, blockAt, parent}
 use Rattle.protocol.specs.Form.{lastKind, lengthsFit, blockFormed, replicaFormed, certificateFormed}
 use Rattle.protocol.proofs.Tests.{tests, each}
 use Rattle.protocol.proofs.Formed.{Formed, Sizes, sizes}

@@ -2,17 +2,8 @@
 use Prim.Native.Nat.{ℕ, _+_}
 use mathlib.Core.Bool.{Bool}
 use mathlib.Core.List.{List, [], _∷_}
-use Rattle.protocol.specs.Memory.{
-  Memory,
-  memory,
-  replicaCount,
-  faultBound,
-  certificateCount,
-  blockCount,
-  replica,
-  certificate,
-  parent,
-}
+use Rattle.protocol.specs.Memory.{Memory, memory, replicaCount, faultBound, certificateCount, blockCount, replica, certificate}
+use Rattle.protocol.specs.Memory.{parent}
 use Rattle.protocol.specs.Form.{allHold, allBelow, blockFormed, replicaFormed, certificateFormed}
 
 -- The test of one block: its number, its parent.

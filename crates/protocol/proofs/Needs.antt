@@ -36,6 +36,28 @@ pub holds-both : (ns ms : List Need) → Holds (ns ++ ms) → Holds ns × Holds 
 holds-both [] ms h = (tt, h)
 holds-both ((t else n) ∷ ns) ms h = let both = holds-both ns ms (h .1) in ((h .0, both .0), both .1)
 
+-- The first list of two decides where it refuses, and the second where the first passes.
+pub refused-first : (ns ms : List Need) → (firstRefusal ns ≡ 0 → ⊥) → firstRefusal (ns ++ ms) ≡ firstRefusal ns
+unfolding firstRefusal
+refused-first [] ms h = absurd (h refl)
+refused-first ((true else n) ∷ ns) ms h = refused-first ns ms h
+refused-first ((false else n) ∷ ns) ms h = refl
+
+pub all-pass : (ns ms : List Need) → positive ns ≡ true → firstRefusal ns ≡ 0 → firstRefusal (ns ++ ms) ≡ firstRefusal ms
+unfolding firstRefusal
+all-pass [] ms p e = refl
+all-pass ((true else n) ∷ ns) ms p e = all-pass ns ms (and-true (leb 1 n) (positive ns) p .1) e
+all-pass ((false else n) ∷ ns) ms p e = let h = and-true (leb 1 n) (positive ns) p in absurd (omega tests)
+
+-- A need that fails, and one that holds, at the head of a list.
+pub fails : {t : Bool} {n : ℕ} (rest : List Need) → t ≡ false → firstRefusal ((t else n) ∷ rest) ≡ n
+unfolding firstRefusal
+fails rest e = rw e refl
+
+pub holds : {t : Bool} (n : ℕ) (rest : List Need) → t ≡ true → firstRefusal ((t else n) ∷ rest) ≡ firstRefusal rest
+unfolding firstRefusal
+holds n rest e = rw e refl
+
 -- ---- accepted and refused, of any rule
 
 accepted-number : (n : ℕ) (m : Memory) (rule : Rule) → Accepted (answered n m rule) → n ≡ 0

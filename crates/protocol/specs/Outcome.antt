@@ -74,3 +74,7 @@ answered (suc n) m rule = record { answer = record { number = suc n; first = 0; 
 
 unfoldable pub follow : Memory → Rule → Outcome
 follow m rule = answered (firstRefusal (rule .needs)) m rule
+
+-- What a call's rule gives on three slices.
+abbrev pub outcomeBy : (Memory → Rule) → List ℕ → List ℕ → List ℕ → Outcome
+outcomeBy rule t l b = follow (memory t l b) (rule (memory t l b))

@@ -12,22 +12,8 @@ use borrow.Author.Tests.{not-true}
 use Rattle.protocol.specs.Memory.{Memory, Certificate, certificateCount, certificate}
 use Rattle.protocol.specs.Form.{lengthsFit, certificateFormed}
 use Rattle.protocol.specs.Certificates.{COMMIT, NEWVIEW, REPLY}
-use Rattle.protocol.specs.Quorum.{
-  every,
-  isQuorumSize,
-  isIssued,
-  allIssued,
-  certificatesOf,
-  firstOf,
-  contains,
-  distinct,
-  signers,
-  isCommitQuorum,
-  isNewViewQuorum,
-  isReplyQuorum,
-  greatestFrom,
-  greatest,
-}
+use Rattle.protocol.specs.Quorum.{every, isQuorumSize, isIssued, allIssued, certificatesOf, firstOf, contains, distinct}
+use Rattle.protocol.specs.Quorum.{signers, isCommitQuorum, isNewViewQuorum, isReplyQuorum, greatestFrom, greatest}
 use Rattle.protocol.proofs.Tests.{tests, by-test, by-cond, and-true, or-false, each}
 use Rattle.protocol.proofs.Formed.{Formed, sizes}
 use Rattle.quorum.specs.Lists.{certificatesIn, Listed, isQuorum, Greatest}

@@ -5,15 +5,8 @@ use mathlib.Core.Bool.{Bool, true, not}
 use mathlib.Core.List.{List, [], _∷_}
 use lib.ListN.{length, getD}
 use lib.Dec.{eqb}
-use Rattle.protocol.specs.Memory.{
-  Certificate,
-  memory,
-  certificateWords,
-  certificateAt,
-  certificateWord,
-  certificate,
-  maxCertificates,
-}
+use Rattle.protocol.specs.Memory.{Certificate, memory, certificateWords, certificateAt, certificateWord, certificate}
+use Rattle.protocol.specs.Memory.{maxCertificates}
 use Rattle.protocol.specs.Form.{allHold}
 use Rattle.protocol.specs.Certificates.{isKind, COMMIT, NEWVIEW, REPLY}
 use Rattle.protocol.specs.Quorum.{every, certificatesOf, contains, distinct, signers, greatest}

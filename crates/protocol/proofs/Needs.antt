@@ -7,7 +7,7 @@ use mathlib.Core.Logic.{⊎-elim}
 use native.Mathlib.Omega.{arith}
 use lib.Dec.{leb}
 use Rattle.protocol.specs.Memory.{Memory}
-use Rattle.protocol.specs.Outcome.{Need, _else_, Rule, firstRefusal, answered, follow}
+use Rattle.protocol.specs.Outcome.{Outcome, Need, _else_, Rule, firstRefusal, answered, follow}
 use Rattle.protocol.specs.Theorems.{Accepted, Refused, Lowest}
 use Rattle.protocol.proofs.Tests.{tests, and-true}
 
@@ -49,6 +49,12 @@ all-pass [] ms p e = refl
 all-pass ((true else n) ∷ ns) ms p e = all-pass ns ms (and-true (leb 1 n) (positive ns) p .1) e
 all-pass ((false else n) ∷ ns) ms p e = let h = and-true (leb 1 n) (positive ns) p in absurd (omega tests)
 
+pub first-pass : (ns ms : List Need) → firstRefusal (ns ++ ms) ≡ 0 → firstRefusal ns ≡ 0
+unfolding firstRefusal
+first-pass [] ms e = refl
+first-pass ((true else n) ∷ ns) ms e = first-pass ns ms e
+first-pass ((false else n) ∷ ns) ms e = e
+
 -- A need that fails, and one that holds, at the head of a list.
 pub fails : {t : Bool} {n : ℕ} (rest : List Need) → t ≡ false → firstRefusal ((t else n) ∷ rest) ≡ n
 unfolding firstRefusal
@@ -76,6 +82,25 @@ accepted-after m rule e = ap (λ (n : ℕ). answered n m rule .memory) (no-refus
 pub accepted-first : (m : Memory) (rule : Rule) → Accepted (follow m rule) → follow m rule .answer .first ≡ rule .first
 unfolding follow answered
 accepted-first m rule e = ap (λ (n : ℕ). answered n m rule .answer .first) (no-refusal m rule e)
+
+-- The outcome of a rule that refuses, and of one that accepts.
+abbrev pub refusal : ℕ → Memory → Outcome
+refusal n m = record { answer = record { number = n; first = 0; second = 0 }; memory = m }
+
+abbrev pub acceptance : ℕ → ℕ → Memory → Outcome
+acceptance first second m = record { answer = record { number = 0; first = first; second = second }; memory = m }
+
+pub refuses : (m : Memory) (rule : Rule) (n : ℕ) → n ≡ firstRefusal (rule .needs) → (n ≡ 0 → ⊥) → refusal n m ≡ follow m rule
+unfolding follow answered
+refuses m rule n e h = rw (← e) (go n h)
+  where
+    go : (n : ℕ) → (n ≡ 0 → ⊥) → refusal n m ≡ answered n m rule
+    go zero h = absurd (h refl)
+    go (suc n) h = refl
+
+pub accepts : (m : Memory) (rule : Rule) → 0 ≡ firstRefusal (rule .needs) → acceptance (rule .first) (rule .second) (rule .after) ≡ follow m rule
+unfolding follow answered
+accepts m rule e = rw (← e) refl
 
 -- What holds of the memory as it was and of the memory on success holds of the memory left.
 pub left-memory : (P : Memory → Type 0) (m : Memory) (rule : Rule) → P m → (firstRefusal (rule .needs) ≡ 0 → P (rule .after))

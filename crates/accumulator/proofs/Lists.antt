@@ -8,8 +8,8 @@ use Rattle.protocol.specs.Memory.{Memory, rowAt, replicaWords, certificateAt, c
 use Rattle.protocol.specs.Quorum.{every, isIssued, allIssued}
 use Rattle.protocol.proofs.Tests.{tests, and-true}
 use Rattle.layout.proofs.Within.{replica-within, certificate-within}
-use Rattle.quorum.specs.Lists.{Listed}
-use Rattle.quorum.proofs.Accepted.{listed, some-listed}
+use Rattle.quorum.specs.Lists.{Listed, Greatest}
+use Rattle.quorum.proofs.Accepted.{listed, some-listed, greatest-issued}
 use Rattle.checks.proofs.Ready.{ReadyList}
 
 first-issued : (m : Memory) (list : List ℕ) → 0 < length list → allIssued m list ≡ true → isIssued m (getD list 0 0) ≡ true
@@ -34,3 +34,9 @@ module _ (m : Memory) (i : ℕ) (list : List ℕ) (h : ReadyList m i list) where
 
   pub row-whole : rowAt i + replicaWords ≤ length (m .table)
   row-whole = let last = row-within 8 (omega tests) in omega tests
+
+  pub greatest-within : (r : ℕ) → Greatest (m .log) list r → (k : ℕ) → k < certificateWords
+      → certificateAt r + k < length (m .log)
+  greatest-within r g k l =
+      let known = greatest-issued m list r (h .issued) g in
+      certificate-within m (h .ready .sizes) r k known l

@@ -73,7 +73,7 @@ pub fn accumulate(
     };
     let filed = certificates::file(table, log, acc);
     let Filed::At(number) = filed else {
-        return refused(checks::NO_ROOM);
+        return refused(certificates::refusal_of(filed));
     };
     accepted(number, 0)
 }

@@ -1,136 +1,64 @@
+use native.Mathlib.Omega.{arith}
+use mathlib.Core.Path.{sym, _∙_}
 use borrow.Author.Needs.{needs}
+use Rattle.protocol.specs.Memory.{memory}
+use Rattle.certificates.proofs.Fits.{log-fits}
+use Rattle.accumulator.proofs.Lists.{some, all-listed, first-within, greatest-within}
+use Rattle.accumulator.proofs.Ways.{accumulate-ready, accumulate-refused, accumulate-rule, accumulate-full, accumulate-issued}
 use Rattle.accumulator.proofs.accumulate.Statement.{statement}
 use Rattle.accumulator.proofs.accumulate.Tie as tie
-use Rattle.accumulator.proofs.accumulate.Reads as reads
-use Rattle.accumulator.proofs.accumulate.Lts as lts
-use Rattle.accumulator.proofs.accumulate_refusal.Reads as accumulate-refusal-reads
-use Rattle.certificates.proofs.file.Reads as file-reads
-use Rattle.checks.proofs.accepted.Reads as accepted-reads
-use Rattle.checks.proofs.refused.Reads as refused-reads
-use Rattle.layout.proofs.certificate_word.Reads as certificate-word-reads
-use Rattle.quorum.proofs.greatest.Reads as greatest-reads
 
--- src/lib.rt:60:9
-accumulate-refusal-requires : tie.Need-accumulate-refusal-requires
-accumulate-refusal-requires c κs = search needs
-
--- src/lib.rt:62:9
-refused-requires : tie.Need-refused-requires
-refused-requires c κs = search needs
-
--- src/lib.rt:62:9
-same-length : tie.Need-same-length
-same-length c = search needs
-
--- src/lib.rt:62:9
-same-length-2 : tie.Need-same-length-2
-same-length-2 c = search needs
-
--- src/lib.rt:62:9
-same-length-3 : tie.Need-same-length-3
-same-length-3 c = search needs
-
--- src/lib.rt:62:9
 returns : tie.Need-returns
-returns c = ?
+returns c = rw (c .refused .ensures) (accumulate-refused _ _ _ (c .before .before .accumulate-refusal .ensures) (omega (arith, c .before .if1 .taken)))
 
--- src/lib.rt:64:9
 greatest-requires : tie.Need-greatest-requires
-greatest-requires c κs = ?
+greatest-requires c κs = let r = accumulate-ready (memory (c .before .before .before .before .before .before .before .before .before .before .args .table .now) (c .before .before .before .before .before .before .before .before .before .before .args .log .now) (c .before .before .before .before .before .before .before .before .before .before .args .blocks .now)) (c .before .before .before .before .before .before .before .before .before .before .args .replica)
+    (c .before .before .before .before .before .before .before .before .before .before .args .list .now) (sym (c .before .before .accumulate-refusal .ensures) ∙ c .before .if1 .left) in
+    (all-listed _ _ _ r, some _ _ _ r)
 
--- src/lib.rt:68:37
 shared-slice-read-certificate-word : tie.Need-shared-slice-read-certificate-word
-shared-slice-read-certificate-word c = ?
+shared-slice-read-certificate-word c = some _ _ _ (accumulate-ready (memory (c .before .before .before .before .before .before .before .before .before .before .before .before .before .args .table .now) (c .before .before .before .before .before .before .before .before .before .before .before .before .before .args .log .now) (c .before .before .before .before .before .before .before .before .before .before .before .before .before .args .blocks .now)) (c .before .before .before .before .before .before .before .before .before .before .before .before .before .args .replica)
+    (c .before .before .before .before .before .before .before .before .before .before .before .before .before .args .list .now) (sym (c .before .before .before .before .before .accumulate-refusal .ensures) ∙ c .before .before .before .before .if1 .left))
 
--- src/lib.rt:68:15
 certificate-word-requires : tie.Need-certificate-word-requires
-certificate-word-requires c κs = ?
+certificate-word-requires c κs = first-within _ _ _ (accumulate-ready (memory (c .before .before .before .before .before .before .before .before .before .before .before .before .before .args .table .now) (c .before .before .before .before .before .before .before .before .before .before .before .before .before .args .log .now) (c .before .before .before .before .before .before .before .before .before .before .before .before .before .args .blocks .now)) (c .before .before .before .before .before .before .before .before .before .before .before .before .before .args .replica)
+    (c .before .before .before .before .before .before .before .before .before .before .before .before .before .args .list .now) (sym (c .before .before .before .before .before .accumulate-refusal .ensures) ∙ c .before .before .before .before .if1 .left)) 2 (omega arith)
 
--- src/lib.rt:69:16
 certificate-word-requires-2 : tie.Need-certificate-word-requires-2
-certificate-word-requires-2 c κs = ?
+certificate-word-requires-2 c κs = greatest-within _ _ _ (accumulate-ready (memory (c .before .before .before .before .before .before .before .before .before .before .before .before .before .before .before .args .table .now) (c .before .before .before .before .before .before .before .before .before .before .before .before .before .before .before .args .log .now) (c .before .before .before .before .before .before .before .before .before .before .before .before .before .before .before .args .blocks .now)) (c .before .before .before .before .before .before .before .before .before .before .before .before .before .before .before .args .replica)
+    (c .before .before .before .before .before .before .before .before .before .before .before .before .before .before .before .args .list .now) (sym (c .before .before .before .before .before .before .before .accumulate-refusal .ensures) ∙ c .before .before .before .before .before .before .if1 .left)) _ (c .before .before .before .before .greatest .ensures) 3 (omega arith)
 
--- src/lib.rt:70:18
 certificate-word-requires-3 : tie.Need-certificate-word-requires-3
-certificate-word-requires-3 c κs = ?
+certificate-word-requires-3 c κs = greatest-within _ _ _ (accumulate-ready (memory (c .before .before .before .before .before .before .before .before .before .before .before .before .before .before .before .before .before .args .table .now) (c .before .before .before .before .before .before .before .before .before .before .before .before .before .before .before .before .before .args .log .now) (c .before .before .before .before .before .before .before .before .before .before .before .before .before .before .before .before .before .args .blocks .now)) (c .before .before .before .before .before .before .before .before .before .before .before .before .before .before .before .before .before .args .replica)
+    (c .before .before .before .before .before .before .before .before .before .before .before .before .before .before .before .before .before .args .list .now) (sym (c .before .before .before .before .before .before .before .before .before .accumulate-refusal .ensures) ∙ c .before .before .before .before .before .before .before .before .if1 .left)) _ (c .before .before .before .before .before .before .greatest .ensures) 4 (omega arith)
 
--- src/lib.rt:74:9
 file-requires : tie.Need-file-requires
-file-requires c κs = ?
+file-requires c κs = log-fits _ (accumulate-ready (memory (c .before .before .before .before .before .before .before .before .before .before .before .before .before .before .before .before .before .before .before .before .args .table .now) (c .before .before .before .before .before .before .before .before .before .before .before .before .before .before .before .before .before .before .before .before .args .log .now) (c .before .before .before .before .before .before .before .before .before .before .before .before .before .before .before .before .before .before .before .before .args .blocks .now)) (c .before .before .before .before .before .before .before .before .before .before .before .before .before .before .before .before .before .before .before .before .args .replica)
+    (c .before .before .before .before .before .before .before .before .before .before .before .before .before .before .before .before .before .before .before .before .args .list .now) (sym (c .before .before .before .before .before .before .before .before .before .before .before .before .accumulate-refusal .ensures) ∙ c .before .before .before .before .before .before .before .before .before .before .before .if1 .left) .ready .formed)
 
--- src/lib.rt:75:19
-enum-known-filed : tie.Need-enum-known-filed
-enum-known-filed c = search needs
-
--- src/lib.rt:76:9
-enum-told : tie.Need-enum-told
-enum-told c = search needs
-
--- src/lib.rt:76:9
-refused-requires-2 : tie.Need-refused-requires-2
-refused-requires-2 c κs = search needs
-
--- src/lib.rt:76:9
-same-length-4 : tie.Need-same-length-4
-same-length-4 c = search needs
-
--- src/lib.rt:76:9
-same-length-5 : tie.Need-same-length-5
-same-length-5 c = search needs
-
--- src/lib.rt:76:9
-same-length-6 : tie.Need-same-length-6
-same-length-6 c = search needs
-
--- src/lib.rt:76:9
 returns-2 : tie.Need-returns-2
-returns-2 c = ?
+returns-2 c =
+    let r = accumulate-ready (memory (c .before .before .before .before .before .before .before .before .before .before .before .before .before .before .before .before .before .before .before .before .before .before .before .before .before .before .before .before .before .args .table .now) (c .before .before .before .before .before .before .before .before .before .before .before .before .before .before .before .before .before .before .before .before .before .before .before .before .before .before .before .before .before .args .log .now) (c .before .before .before .before .before .before .before .before .before .before .before .before .before .before .before .before .before .before .before .before .before .before .before .before .before .before .before .before .before .args .blocks .now)) (c .before .before .before .before .before .before .before .before .before .before .before .before .before .before .before .before .before .before .before .before .before .before .before .before .before .before .before .before .before .args .replica)
+    (c .before .before .before .before .before .before .before .before .before .before .before .before .before .before .before .before .before .before .before .before .before .before .before .before .before .before .before .before .before .args .list .now) (sym (c .before .before .before .before .before .before .before .before .before .before .before .before .before .before .before .before .before .before .before .before .before .accumulate-refusal .ensures) ∙ c .before .before .before .before .before .before .before .before .before .before .before .before .before .before .before .before .before .before .before .before .if1 .left) in
+    rw (c .refused2 .ensures)
+    (accumulate-full _ _ _ _ _ _ (accumulate-rule _ _ _ _ _ _ _ (r .size) (c .before .before .before .before .before .before .before .before .before .before .before .before .before .before .before .before .before .before .greatest .ensures .is) (c .before .before .before .before .before .before .before .before .before .before .before .before .before .before .before .certificate-word .ensures)
+    (c .before .before .before .before .before .before .before .before .before .before .before .before .before .certificate-word2 .ensures) (c .before .before .before .before .before .before .before .before .before .before .before .certificate-word3 .ensures))
+    (sym (c .before .before .before .before .before .before .before .before .before .before .before .before .before .before .before .before .before .before .before .before .before .accumulate-refusal .ensures) ∙ c .before .before .before .before .before .before .before .before .before .before .before .before .before .before .before .before .before .before .before .before .if1 .left) (c .before .before .before .before .before .before .before .before .file .ensures (c .before .before .before .before .before .before .before .before .before .before .before .before .before .before .before .before .before .before .before .before .before .before .before .before .before .before .before .before .before .args .blocks .now)) (c .before .before .enum-told .given .1) (c .before .refusal-of .ensures))
 
--- src/lib.rt:78:5
-accepted-requires : tie.Need-accepted-requires
-accepted-requires c κs = search needs
-
--- src/lib.rt:51:1
-same-length-7 : tie.Need-same-length-7
-same-length-7 c = search needs
-
--- src/lib.rt:51:1
-same-length-8 : tie.Need-same-length-8
-same-length-8 c = search needs
-
--- src/lib.rt:51:1
-same-length-9 : tie.Need-same-length-9
-same-length-9 c = search needs
-
--- src/lib.rt:51:1
 returns-3 : tie.Need-returns-3
-returns-3 c = ?
+returns-3 c =
+    let r = accumulate-ready (memory (c .before .before .before .before .before .before .before .before .before .before .before .before .before .before .before .before .before .before .before .before .before .before .before .before .before .before .before .before .before .args .table .now) (c .before .before .before .before .before .before .before .before .before .before .before .before .before .before .before .before .before .before .before .before .before .before .before .before .before .before .before .before .before .args .log .now) (c .before .before .before .before .before .before .before .before .before .before .before .before .before .before .before .before .before .before .before .before .before .before .before .before .before .before .before .before .before .args .blocks .now)) (c .before .before .before .before .before .before .before .before .before .before .before .before .before .before .before .before .before .before .before .before .before .before .before .before .before .before .before .before .before .args .replica)
+    (c .before .before .before .before .before .before .before .before .before .before .before .before .before .before .before .before .before .before .before .before .before .before .before .before .before .before .before .before .before .args .list .now) (sym (c .before .before .before .before .before .before .before .before .before .before .before .before .before .before .before .before .before .before .before .before .before .accumulate-refusal .ensures) ∙ c .before .before .before .before .before .before .before .before .before .before .before .before .before .before .before .before .before .before .before .before .if1 .left) in
+    rw (c .accepted .ensures)
+    (accumulate-issued _ _ _ _ _ _ (accumulate-rule _ _ _ _ _ _ _ (r .size) (c .before .before .before .before .before .before .before .before .before .before .before .before .before .before .before .before .before .before .greatest .ensures .is) (c .before .before .before .before .before .before .before .before .before .before .before .before .before .before .before .certificate-word .ensures)
+    (c .before .before .before .before .before .before .before .before .before .before .before .before .before .certificate-word2 .ensures) (c .before .before .before .before .before .before .before .before .before .before .before .certificate-word3 .ensures))
+    (sym (c .before .before .before .before .before .before .before .before .before .before .before .before .before .before .before .before .before .before .before .before .before .accumulate-refusal .ensures) ∙ c .before .before .before .before .before .before .before .before .before .before .before .before .before .before .before .before .before .before .before .before .if1 .left) (c .before .before .before .before .before .before .before .before .file .ensures (c .before .before .before .before .before .before .before .before .before .before .before .before .before .before .before .before .before .before .before .before .before .before .before .before .before .before .before .before .before .args .blocks .now)) (c .before .before .filed .given .1))
 
 pub accumulate-spec : {M : Type 1} → statement M
 accumulate-spec =
     tie.close
-    (tie.spec
-    accumulate-refusal-requires
-    refused-requires
-    same-length
-    same-length-2
-    same-length-3
-    returns
-    greatest-requires
-    shared-slice-read-certificate-word
-    certificate-word-requires
-    certificate-word-requires-2
-    certificate-word-requires-3
-    file-requires
-    enum-known-filed
-    enum-told
-    refused-requires-2
-    same-length-4
-    same-length-5
-    same-length-6
-    returns-2
-    accepted-requires
-    same-length-7
-    same-length-8
-    same-length-9
-    returns-3)
+    (tie.spec (λ c κs. search needs) (λ c κs. search needs) (λ c. search needs) (λ c. search needs) (λ c. search needs) returns
+    greatest-requires shared-slice-read-certificate-word certificate-word-requires certificate-word-requires-2
+    certificate-word-requires-3 file-requires (λ c. search needs) (λ c. search needs) (λ c κs. search needs) (λ c κs. search needs)
+    (λ c. search needs) (λ c. search needs) (λ c. search needs) returns-2 (λ c κs. search needs) (λ c. search needs)
+    (λ c. search needs) (λ c. search needs) returns-3)

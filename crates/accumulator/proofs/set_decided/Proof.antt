@@ -1,4 +1,3 @@
-use mathlib.Core.Path.{sym}
 use borrow.Author.Needs.{needs}
 use Rattle.protocol.proofs.Tests.{tests}
 use lib.Dec.{ltb}

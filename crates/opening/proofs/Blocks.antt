@@ -1,0 +1,34 @@
+-- The ways that a block call goes.
+use Prim.Native.Nat.{ℕ, _+_}
+use mathlib.Core.Path.{_≡_, refl, sym, _∙_}
+use mathlib.Core.Bool.{true, false}
+use lib.ListN.{length, set}
+use lib.Dec.{ltb}
+use Rattle.protocol.specs.Memory.{Memory, memory, blockCountAt, blockCount, blockAt, appendBlock}
+use Rattle.protocol.specs.Form.{wellFormed}
+use Rattle.protocol.specs.Outcome.{firstRefusal, follow, wrongForm, unknownNumber, noRoom}
+use Rattle.protocol.specs.Calls.{isBlock, block}
+use Rattle.protocol.proofs.Tests.{tests}
+use Rattle.protocol.proofs.Needs.{refusal, acceptance, refuses, accepts, fails, holds}
+
+module _ (m : Memory) (p : ℕ) where
+  pub no-form : wellFormed m ≡ false → refusal wrongForm m ≡ follow m (block m p)
+  unfolding block
+  no-form e = refuses m _ wrongForm (sym (fails _ e)) (λ z. omega tests)
+
+  module _ (form : wellFormed m ≡ true) where
+    pub unknown : isBlock m p ≡ false → refusal unknownNumber m ≡ follow m (block m p)
+    unfolding block
+    unknown e = refuses m _ unknownNumber (sym (holds _ _ form ∙ fails _ e)) (λ z. omega tests)
+
+    module _ (known : isBlock m p ≡ true) where
+      pub full : ltb (blockAt (blockCount m)) (length (m .blocks)) ≡ false → refusal noRoom m ≡ follow m (block m p)
+      unfolding block
+      full e = refuses m _ noRoom (sym (holds _ _ form ∙ holds _ _ known ∙ fails _ e)) (λ z. omega tests)
+
+      pub adds : ltb (blockAt (blockCount m)) (length (m .blocks)) ≡ true
+          → acceptance (blockCount m) 0
+          (memory (set (m .table) blockCountAt (blockCount m + 1)) (m .log) (set (m .blocks) (blockAt (blockCount m)) p))
+          ≡ follow m (block m p)
+      unfolding block appendBlock firstRefusal
+      adds e = accepts m (block m p) (rw (form, known, e) refl)

@@ -1,0 +1,93 @@
+// The two calls that no replica makes: opening a ledger, and adding a block.
+ghost use mathlib.Core.Path.{_≡_};
+ghost use Prim.Native.Nat.{_+_, _≤_};
+ghost use lib.ListN.{length};
+ghost use Rattle.protocol.specs.Memory.{memory, rowAt, replicaWords, assign};
+ghost use Rattle.protocol.specs.Outcome.{left, outcomeBy};
+ghost use Rattle.protocol.specs.Calls.{opening as openingRule, block as blockRule};
+ghost use Rattle.opening.specs.Fresh.{freshRow, freshRows};
+use checks::accepted;
+use checks::refused;
+use layout::BLOCK_COUNT_AT;
+use layout::BOOT_AT;
+use layout::CERTIFICATE_COUNT_AT;
+use layout::DECIDED_BLOCK_AT;
+use layout::DECIDED_VIEW_AT;
+use layout::FAULT_BOUND_AT;
+use layout::FLAG_AT;
+use layout::LIVE;
+use layout::LOWERED;
+use layout::MIN_VIEW_AT;
+use layout::STATUS_AT;
+use layout::STORED_BLOCK_AT;
+use layout::STORED_VIEW_AT;
+use layout::VIEW_LIMIT_AT;
+use layout::set_replica_word;
+use protocol::Answer;
+
+// A replica as opening leaves it.
+fn fresh_row(table: &mut [u32], replica: u32, limit: u32)
+    requires { ⌜ rowAt replica + replicaWords ≤ length (now table) ⌝ }
+    ensures { λ _. ⌜ now (table .exit) ≡ assign (now (table .entry)) (rowAt replica) (freshRow limit) ⌝ }
+{
+    set_replica_word(table, replica, STATUS_AT, LIVE);
+    set_replica_word(table, replica, BOOT_AT, 0);
+    set_replica_word(table, replica, MIN_VIEW_AT, 1);
+    set_replica_word(table, replica, VIEW_LIMIT_AT, limit);
+    set_replica_word(table, replica, FLAG_AT, LOWERED);
+    set_replica_word(table, replica, STORED_VIEW_AT, 0);
+    set_replica_word(table, replica, STORED_BLOCK_AT, 0);
+    set_replica_word(table, replica, DECIDED_VIEW_AT, 0);
+    set_replica_word(table, replica, DECIDED_BLOCK_AT, 0);
+}
+
+// All replicas below a count.
+fn fresh_rows(table: &mut [u32], replicas: u32, limit: u32)
+    requires { ⌜ rowAt replicas ≤ length (now table) ⌝ }
+    ensures { λ _. ⌜ now (table .exit) ≡ freshRows (now (table .entry)) limit replicas ⌝ }
+{
+    let mut i: u32 = 0;
+    while i < replicas {
+        fresh_row(table, i, limit);
+        i += 1;
+    }
+}
+
+// A ledger for f, whatever the memory held.
+pub fn open_ledger(table: &mut [u32], log: &mut [u32], blocks: &mut [u32], f: u32) -> Answer
+    ensures { λ r. ⌜ left r (now (table .exit)) (now (log .exit)) (now (blocks .exit)) ≡ outcomeBy (λ m. openingRule m f) (now (table .entry)) (now (log .entry)) (now (blocks .entry)) ⌝ }
+{
+    if layout::form::is_fault_bound(f) {
+        if layout::form::lengths_fit(table, log, blocks, f) {
+            table[FAULT_BOUND_AT] = f;
+            table[CERTIFICATE_COUNT_AT] = 0;
+            table[BLOCK_COUNT_AT] = 1;
+            blocks[0] = 0;
+            let replicas = layout::replica_count(f);
+            fresh_rows(table, replicas, counter::counter_step(0));
+            return accepted(replicas, 0);
+        }
+        return refused(checks::WRONG_FORM);
+    }
+    refused(checks::OUT_OF_RANGE)
+}
+
+// A block on an added one.
+pub fn block(table: &mut [u32], log: &mut [u32], blocks: &mut [u32], parent: u32) -> Answer
+    ensures { λ r. ⌜ left r (now (table .exit)) (now (log .exit)) (now (blocks .exit)) ≡ outcomeBy (λ m. blockRule m parent) (now (table .entry)) (now (log .entry)) (now (blocks .entry)) ⌝ }
+{
+    if layout::form::is_well_formed(table, log, blocks) {
+        let count = table[BLOCK_COUNT_AT];
+        if count <= parent {
+            return refused(checks::UNKNOWN_NUMBER);
+        }
+        let at = layout::block_at(count);
+        if blocks.len() <= at {
+            return refused(checks::NO_ROOM);
+        }
+        table[BLOCK_COUNT_AT] = count + 1;
+        blocks[at] = parent;
+        return accepted(count, 0);
+    }
+    refused(checks::WRONG_FORM)
+}

@@ -1,5 +1,5 @@
 -- How a call that issues nothing ends: what it gives where a need fails, and where all hold.
-use Prim.Native.Nat.{ℕ, zero, suc, _+_, _<_}
+use Prim.Native.Nat.{ℕ, zero, suc, _+_, _≤_}
 use mathlib.Core.Path.{_≡_, refl, sym, _∙_}
 use Rattle.protocol.specs.declared.Answer.{Answer}
 use Rattle.protocol.specs.Memory.{Memory, rowAt, replicaWords}
@@ -7,7 +7,6 @@ use native.Mathlib.Omega.{arith}
 use lib.ListN.{length}
 use Rattle.protocol.specs.Outcome.{Rule, Outcome, firstRefusal, answered, follow}
 use Rattle.protocol.proofs.Tests.{tests}
-use Rattle.layout.proofs.Within.{replica-within}
 use Rattle.checks.specs.Needs.{replicaNeeds}
 use Rattle.checks.proofs.Ready.{ready}
 
@@ -26,7 +25,6 @@ module _ (m : Memory) (rule : Rule) where
   unfolding follow answered
   accepts e after r = rw (e, after, ← r)
 
--- The words of a replica that the first needs accept are there.
-pub within : (m : Memory) (i : ℕ) {r : ℕ} → r ≡ firstRefusal (replicaNeeds m i) → r ≡ 0 → (k : ℕ) → k < replicaWords
-    → rowAt i + k < length (m .table)
-within m i e z k h = let w = ready m i (sym e ∙ z) in replica-within m (w .sizes) i k (omega (tests, w .own)) h
+-- The row of a replica that the first needs accept is there.
+pub row-within : (m : Memory) (i : ℕ) {r : ℕ} → r ≡ firstRefusal (replicaNeeds m i) → r ≡ 0 → rowAt i + replicaWords ≤ length (m .table)
+row-within m i e z = let w = ready m i (sym e ∙ z) in omega (tests, w .own, w .sizes)

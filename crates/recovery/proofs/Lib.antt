@@ -1,2 +1,4 @@
 pub mod Ends
+pub mod Issues
 pub mod Reserving
+pub mod Requesting

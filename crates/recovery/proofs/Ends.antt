@@ -1,14 +1,25 @@
--- How a call that issues nothing ends: what it gives where a need fails, and where all hold.
+-- How a call ends that issues nothing: what it gives where a need fails, and where all hold.
 use Prim.Native.Nat.{ℕ, zero, suc, _+_, _≤_}
 use mathlib.Core.Path.{_≡_, refl, sym, _∙_}
-use Rattle.protocol.specs.declared.Answer.{Answer}
-use Rattle.protocol.specs.Memory.{Memory, rowAt, replicaWords}
+use mathlib.Core.Bool.{Bool, true, false}
+use mathlib.Core.List.{List, _∷_}
 use native.Mathlib.Omega.{arith}
 use lib.ListN.{length}
-use Rattle.protocol.specs.Outcome.{Rule, Outcome, firstRefusal, answered, follow}
+use Rattle.protocol.specs.declared.Answer.{Answer}
+use Rattle.protocol.specs.Memory.{Memory, rowAt, replicaWords}
+use Rattle.protocol.specs.Outcome.{Need, _else_, Rule, firstRefusal, answered, follow}
 use Rattle.protocol.proofs.Tests.{tests}
-use Rattle.checks.specs.Needs.{replicaNeeds}
-use Rattle.checks.proofs.Ready.{ready}
+use Rattle.protocol.proofs.Needs.{fails, holds}
+use Rattle.certificates.proofs.Issuing.{refusal}
+use Rattle.checks.proofs.Ready.{Ready}
+
+-- The tests of a call, one after the other: one that fails, and one that holds.
+pub stops : {t : Bool} {n : ℕ} (rest : List Need) → t ≡ false → n ≡ firstRefusal ((t else n) ∷ rest)
+stops rest e = sym (fails rest e)
+
+pub passes : {t : Bool} {r : ℕ} (n : ℕ) (rest : List Need) → t ≡ true → r ≡ firstRefusal rest
+    → r ≡ firstRefusal ((t else n) ∷ rest)
+passes n rest e s = s ∙ sym (holds n rest e)
 
 module _ (m : Memory) (rule : Rule) where
   pub refuses : {a : Answer} {n : ℕ} → a ≡ record { number = n; first = 0; second = 0 } → (n ≡ 0 → ⊥)
@@ -16,7 +27,7 @@ module _ (m : Memory) (rule : Rule) where
   unfolding follow answered
   refuses {a} {n} e some r = rw (e, ← r) (go n some)
     where
-      go : (n : ℕ) → (n ≡ 0 → ⊥) → record { answer = record { number = n; first = 0; second = 0 }; memory = m } ≡ answered n m rule
+      go : (n : ℕ) → (n ≡ 0 → ⊥) → refusal n m ≡ answered n m rule
       go zero some = absurd (some refl)
       go (suc n) some = refl
 
@@ -26,5 +37,5 @@ module _ (m : Memory) (rule : Rule) where
   accepts e after r = rw (e, after, ← r)
 
 -- The row of a replica that the first needs accept is there.
-pub row-within : (m : Memory) (i : ℕ) {r : ℕ} → r ≡ firstRefusal (replicaNeeds m i) → r ≡ 0 → rowAt i + replicaWords ≤ length (m .table)
-row-within m i e z = let w = ready m i (sym e ∙ z) in omega (tests, w .own, w .sizes)
+pub row-within : (m : Memory) (i : ℕ) → Ready m i → rowAt i + replicaWords ≤ length (m .table)
+row-within m i w = omega (tests, w .own, w .sizes)

@@ -2,3 +2,4 @@ pub mod Ends
 pub mod Issues
 pub mod Reserving
 pub mod Requesting
+pub mod Replying

@@ -1,18 +1,26 @@
 // The calls of a restarted replica and of those that help it (document 01, "Calls"): reboot, reserve, request, reply, recover.
 ghost use mathlib.Core.Path.{_≡_};
-ghost use Rattle.protocol.specs.Certificates.{reqOf};
+ghost use Prim.Native.Nat.{_+_, _≤_};
+ghost use lib.ListN.{length};
+ghost use Rattle.protocol.specs.Memory.{rowAt, replicaWords, assign};
+ghost use Rattle.protocol.specs.Certificates.{reqOf, replyOf};
 ghost use Rattle.protocol.specs.Outcome.{left, firstRefusal, outcomeBy};
-ghost use Rattle.protocol.specs.Calls.{reserve as reserveRule, request as requestRule};
+ghost use Rattle.protocol.specs.Calls.{reserve as reserveRule, request as requestRule, reply as replyRule};
 ghost use Rattle.certificates.specs.Filing.{certificateOf};
 ghost use Rattle.recovery.specs.Words.{replicaOf};
-ghost use Rattle.recovery.specs.Tests.{reserveTests};
+ghost use Rattle.recovery.specs.Tests.{reserveTests, replyTests, raising};
 use certificates::Certificate;
 use certificates::Filed;
 use checks::COUNTER_LIMIT;
+use checks::WRONG_CERTIFICATE;
 use checks::WRONG_STATUS;
 use checks::accepted;
 use checks::refused;
 use layout::CEILING;
+use layout::FLAG_AT;
+use layout::LIVE;
+use layout::LOWERED;
+use layout::MIN_VIEW_AT;
 use layout::RECOVERING;
 use layout::RETIRED;
 use layout::VIEW_LIMIT_AT;
@@ -24,6 +32,8 @@ mod words;
 
 // The kinds of certificates that the calls here read and issue.
 const REQ: u32 = 5;
+
+const REPLY: u32 = 6;
 
 // A replica may have this view limit next.
 fn reserve_refusal(r: Replica, limit: u32) -> u32
@@ -88,4 +98,78 @@ pub fn request(table: &mut [u32], log: &mut [u32], blocks: &mut [u32], replica: 
         return refused(certificates::refusal_of(filed));
     };
     accepted(number, 0)
+}
+
+// A replica may answer this certificate.
+fn reply_refusal(replica: u32, r: Replica, q: Certificate) -> u32
+    ensures { λ n. ⌜ n ≡ firstRefusal (replyTests replica (replicaOf r) (certificateOf q)) ⌝ }
+{
+    if r.status != LIVE {
+        return WRONG_STATUS;
+    }
+    if q.kind != REQ {
+        return WRONG_CERTIFICATE;
+    }
+    if q.signer == replica {
+        return WRONG_CERTIFICATE;
+    }
+    if r.view_limit < q.view {
+        return COUNTER_LIMIT;
+    }
+    0
+}
+
+// What a replica answers: its stored block, for the one that asked.
+fn reply_to(replica: u32, r: Replica, q: Certificate) -> Certificate
+    ensures { λ c. ⌜ certificateOf c
+        ≡ replyOf replica (q .view) (r .«stored_block») (r .«stored_view») (q .signer) (q .boot) ⌝ }
+{
+    Certificate {
+        kind: REPLY,
+        signer: replica,
+        view: q.view,
+        block: r.stored_block,
+        of_view: r.stored_view,
+        subject: q.signer,
+        boot: q.boot,
+    }
+}
+
+// The min view rises to a view that is above it, and the flag is lowered then.
+fn raise_min_view(table: &mut [u32], replica: u32, min_view: u32, view: u32)
+    requires { ⌜ rowAt replica + replicaWords ≤ length (now table) ⌝ }
+    ensures { λ _. ⌜ now (table .exit) ≡ assign (now (table .entry)) (rowAt replica) (raising «min_view» view) ⌝ }
+{
+    if min_view < view {
+        set_replica_word(table, replica, MIN_VIEW_AT, view);
+        set_replica_word(table, replica, FLAG_AT, LOWERED);
+    }
+}
+
+pub fn reply(
+    table: &mut [u32],
+    log: &mut [u32],
+    blocks: &mut [u32],
+    replica: u32,
+    number: u32,
+) -> Answer
+    ensures { λ r. ⌜ left r (now (table .exit)) (now (log .exit)) (now (blocks .exit))
+        ≡ outcomeBy (λ m. replyRule m replica number) (now (table .entry)) (now (log .entry)) (now (blocks .entry)) ⌝ }
+{
+    let refusal = checks::number_refusal(table, log, blocks, replica, number);
+    if refusal != 0 {
+        return refused(refusal);
+    }
+    let r = words::replica_in(table, replica);
+    let q = words::certificate_in(log, number);
+    let refusal = reply_refusal(replica, r, q);
+    if refusal != 0 {
+        return refused(refusal);
+    }
+    let filed = certificates::file(table, log, reply_to(replica, r, q));
+    let Filed::At(issued) = filed else {
+        return refused(certificates::refusal_of(filed));
+    };
+    raise_min_view(table, replica, r.min_view, q.view);
+    accepted(issued, 0)
 }

@@ -16,7 +16,8 @@ returns c =
     (stopped _ _ (c .before .before .replica-refusal .ensures) (c .before .if1 .taken))
 
 replica-in-requires : tie.Need-replica-in-requires
-replica-in-requires c κs = row-within _ _ (c .before .before .replica-refusal .ensures) (c .before .if1 .left)
+replica-in-requires c κs =
+    row-within _ _ (ready _ _ (sym (c .before .before .replica-refusal .ensures) ∙ c .before .if1 .left))
 
 returns-2 : tie.Need-returns-2
 returns-2 c =
@@ -59,9 +60,8 @@ returns-4 c =
 pub request-spec : {M : Type 1} → statement M
 request-spec =
     tie.close
-    (tie.spec (λ c κs. search needs) (λ c κs. search needs) (λ c. search needs) (λ c. search needs)
-    (λ c. search needs) returns replica-in-requires (λ c κs. search needs) (λ c. search needs)
-    (λ c. search needs) (λ c. search needs) returns-2 (λ c κs. search needs) file-requires (λ c. search needs)
-    (λ c. search needs) (λ c κs. search needs) (λ c κs. search needs) (λ c. search needs) (λ c. search needs)
-    (λ c. search needs) returns-3 (λ c κs. search needs) (λ c. search needs) (λ c. search needs)
-    (λ c. search needs) returns-4)
+    (tie.spec (λ c κs. search needs) (λ c κs. search needs) (λ c. search needs) (λ c. search needs) (λ c.
+    search needs) returns replica-in-requires (λ c κs. search needs) (λ c. search needs) (λ c. search needs) (λ
+    c. search needs) returns-2 (λ c κs. search needs) file-requires (λ c. search needs) (λ c. search needs) (λ
+    c κs. search needs) (λ c κs. search needs) (λ c. search needs) (λ c. search needs) (λ c. search needs)
+    returns-3 (λ c κs. search needs) (λ c. search needs) (λ c. search needs) (λ c. search needs) returns-4)

@@ -15,7 +15,8 @@ returns c =
     (stopped _ _ (c .before .before .replica-refusal .ensures) (c .before .if1 .taken))
 
 replica-in-requires : tie.Need-replica-in-requires
-replica-in-requires c κs = row-within _ _ (c .before .before .replica-refusal .ensures) (c .before .if1 .left)
+replica-in-requires c κs =
+    row-within _ _ (ready _ _ (sym (c .before .before .replica-refusal .ensures) ∙ c .before .if1 .left))
 
 add-limit : tie.Need-add-limit
 add-limit c =
@@ -40,7 +41,7 @@ set-replica-word-requires : tie.Need-set-replica-word-requires
 set-replica-word-requires c κs =
     let ok = c .before .before .before .before .before .before .before in
     let first = ok .before in
-    omega (arith, row-within _ _ (first .replica-refusal .ensures) (ok .if1 .left))
+    omega (arith, row-within _ _ (ready _ _ (sym (first .replica-refusal .ensures) ∙ ok .if1 .left)))
 
 returns-3 : tie.Need-returns-3
 returns-3 c =
@@ -58,8 +59,8 @@ returns-3 c =
 pub reserve-spec : {M : Type 1} → statement M
 reserve-spec =
     tie.close
-    (tie.spec (λ c κs. search needs) (λ c κs. search needs) (λ c. search needs) (λ c. search needs)
-    (λ c. search needs) returns replica-in-requires (λ c κs. search needs) add-limit (λ c κs. search needs)
-    (λ c κs. search needs) (λ c. search needs) (λ c. search needs) (λ c. search needs) returns-2
-    set-replica-word-requires (λ c κs. search needs) (λ c. search needs) (λ c. search needs)
-    (λ c. search needs) returns-3)
+    (tie.spec (λ c κs. search needs) (λ c κs. search needs) (λ c. search needs) (λ c. search needs) (λ c.
+    search needs) returns replica-in-requires (λ c κs. search needs) add-limit (λ c κs. search needs) (λ c κs.
+    search needs) (λ c. search needs) (λ c. search needs) (λ c. search needs) returns-2
+    set-replica-word-requires (λ c κs. search needs) (λ c. search needs) (λ c. search needs) (λ c. search
+    needs) returns-3)

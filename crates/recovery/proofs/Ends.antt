@@ -1,17 +1,19 @@
 -- How a call ends that issues nothing: what it gives where a need fails, and where all hold.
-use Prim.Native.Nat.{ℕ, zero, suc, _+_, _≤_}
+use Prim.Native.Nat.{ℕ, zero, suc, _+_, _≤_, _<_}
 use mathlib.Core.Path.{_≡_, refl, sym, _∙_}
 use mathlib.Core.Bool.{Bool, true, false}
 use mathlib.Core.List.{List, _∷_}
 use native.Mathlib.Omega.{arith}
 use lib.ListN.{length}
 use Rattle.protocol.specs.declared.Answer.{Answer}
-use Rattle.protocol.specs.Memory.{Memory, rowAt, replicaWords}
+use Rattle.protocol.specs.Memory.{Memory, rowAt, replicaWords, certificateCount, certificateAt, certificateWords}
 use Rattle.protocol.specs.Outcome.{Need, _else_, Rule, firstRefusal, answered, follow}
 use Rattle.protocol.proofs.Tests.{tests}
 use Rattle.protocol.proofs.Needs.{fails, holds}
+use Rattle.protocol.proofs.Formed.{Sizes}
 use Rattle.certificates.proofs.Issuing.{refusal}
-use Rattle.checks.proofs.Ready.{Ready}
+use Rattle.checks.specs.Needs.{replicaNeeds, numberNeeds, listNeeds}
+use Rattle.checks.proofs.Ready.{Ready, ready, ReadyNumber, ready-number, ReadyList, ready-list}
 
 -- The tests of a call, one after the other: one that fails, and one that holds.
 pub stops : {t : Bool} {n : ℕ} (rest : List Need) → t ≡ false → n ≡ firstRefusal ((t else n) ∷ rest)
@@ -36,6 +38,24 @@ module _ (m : Memory) (rule : Rule) where
   unfolding follow answered
   accepts e after r = rw (e, after, ← r)
 
--- The row of a replica that the first needs accept is there.
+-- ---- what reading asks: the row of a replica that the first needs accept, the words of a certificate that is issued
+
 pub row-within : (m : Memory) (i : ℕ) → Ready m i → rowAt i + replicaWords ≤ length (m .table)
 row-within m i w = omega (tests, w .own, w .sizes)
+
+pub certificate-there : (m : Memory) (number : ℕ) → Sizes m → number < certificateCount m
+    → certificateAt number + certificateWords ≤ length (m .log)
+certificate-there m number s h = omega arith
+
+-- ---- the first needs hold: `checks::replica_refusal`, `number_refusal` or `list_refusal` gave 0
+
+pub ready-by : {r : ℕ} (m : Memory) (i : ℕ) → r ≡ firstRefusal (replicaNeeds m i) → r ≡ 0 → Ready m i
+ready-by m i e z = ready m i (sym e ∙ z)
+
+pub number-by : {r : ℕ} (m : Memory) (i number : ℕ) → r ≡ firstRefusal (numberNeeds m i number) → r ≡ 0
+    → ReadyNumber m i number
+number-by m i number e z = ready-number m i number (sym e ∙ z)
+
+pub list-by : {r : ℕ} (m : Memory) (i : ℕ) (list : List ℕ) → r ≡ firstRefusal (listNeeds m i list) → r ≡ 0
+    → ReadyList m i list
+list-by m i list e z = ready-list m i list (sym e ∙ z)

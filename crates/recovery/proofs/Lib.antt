@@ -3,3 +3,5 @@ pub mod Issues
 pub mod Reserving
 pub mod Requesting
 pub mod Replying
+pub mod Rebooting
+pub mod Recovering

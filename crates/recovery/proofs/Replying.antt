@@ -1,33 +1,25 @@
 -- Reply, from what the code reads, files and writes.
-use Prim.Native.Nat.{ℕ, _+_, _≤_}
+use Prim.Native.Nat.{ℕ}
 use mathlib.Core.Path.{_≡_, refl, ap, _∙_}
 use mathlib.Core.List.{List, _++_}
-use native.Mathlib.Omega.{arith}
-use lib.ListN.{length}
 use Rattle.protocol.specs.declared.Answer.{Answer}
 use Rattle.protocol.specs.Memory as Memory
-use Rattle.protocol.specs.Memory.{Memory, memory, rowAt, replicaWords, replica, certificateAt, certificateWords, certificate, words}
+use Rattle.protocol.specs.Memory.{Memory, memory, rowAt, replica, certificate, words}
 use Rattle.protocol.specs.Memory.{assign, update}
 use Rattle.protocol.specs.Certificates.{replyOf}
 use Rattle.protocol.specs.Outcome.{Need, firstRefusal, follow}
 use Rattle.protocol.specs.Calls.{issuing, reply}
-use Rattle.protocol.proofs.Tests.{tests}
 use Rattle.certificates.specs.declared.Certificate.{Certificate}
 use Rattle.certificates.specs.declared.Filed.{Filed}
 use Rattle.certificates.specs.declared.Filed.the-variants.{At, Refused}
 use Rattle.certificates.specs.Filing.{Result, certificateOf, filing, refusalOf}
 use Rattle.checks.specs.Needs.{numberNeeds}
-use Rattle.checks.proofs.Ready.{ReadyNumber, stopped, further}
+use Rattle.checks.proofs.Ready.{stopped, further}
 use Rattle.recovery.specs.declared.words.Replica.{Replica}
 use Rattle.recovery.specs.Words.{replicaOf}
 use Rattle.recovery.specs.Tests.{replyTests, raising}
 use Rattle.recovery.proofs.Ends.{refuses}
 use Rattle.recovery.proofs.Issues.{full, issued}
-
--- The words of a certificate whose number the first needs accept are there.
-pub words-within : (m : Memory) (i number : ℕ) → ReadyNumber m i number
-    → certificateAt number + certificateWords ≤ length (m .log)
-words-within m i number w = omega (tests, w .issued, w .ready .sizes)
 
 module _ (m : Memory) (i number : ℕ) {first : ℕ} (ready : first ≡ firstRefusal (numberNeeds m i number)) (pass : first ≡ 0)
     (r : Replica) (read : replicaOf r ≡ replica m i) (q : Certificate) (asked : certificateOf q ≡ certificate m number)

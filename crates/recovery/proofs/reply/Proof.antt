@@ -1,12 +1,12 @@
-use mathlib.Core.Path.{sym, _∙_}
 use native.Mathlib.Omega.{arith}
 use borrow.Author.Needs.{needs}
 use Rattle.protocol.specs.Calls.{issuing, reply as replyRule}
+use Rattle.protocol.proofs.Tests.{tests}
 use Rattle.certificates.proofs.Fits.{log-fits}
-use Rattle.checks.proofs.Ready.{ready-number, stopped}
-use Rattle.recovery.proofs.Ends.{refuses, row-within}
+use Rattle.checks.proofs.Ready.{stopped}
+use Rattle.recovery.proofs.Ends.{refuses, number-by, row-within, certificate-there}
 use Rattle.recovery.proofs.Issues.{filed-length}
-use Rattle.recovery.proofs.Replying.{words-within, reply-refused, reply-full, reply-issued}
+use Rattle.recovery.proofs.Replying.{reply-refused, reply-full, reply-issued}
 use Rattle.recovery.proofs.reply.Statement.{statement}
 use Rattle.recovery.proofs.reply.Tie as tie
 
@@ -18,13 +18,14 @@ returns c =
 
 replica-in-requires : tie.Need-replica-in-requires
 replica-in-requires c κs =
-    row-within _ _ (ready-number _ _ _ (sym (c .before .before .number-refusal .ensures) ∙ c .before .if1 .left) .ready)
+    row-within _ _ (number-by _ _ _ (c .before .before .number-refusal .ensures) (c .before .if1 .left) .ready)
 
 certificate-in-requires : tie.Need-certificate-in-requires
 certificate-in-requires c κs =
     let ok = c .before .before .before in
     let first = ok .before in
-    words-within _ _ _ (ready-number _ _ _ (sym (first .number-refusal .ensures) ∙ ok .if1 .left))
+    let w = number-by _ _ _ (first .number-refusal .ensures) (ok .if1 .left) in
+    certificate-there _ _ (w .ready .sizes) (omega (tests, w .issued))
 
 returns-2 : tie.Need-returns-2
 returns-2 c =
@@ -40,7 +41,7 @@ file-requires : tie.Need-file-requires
 file-requires c κs =
     let ok = c .before .before .before .before .before .before .before .before .before in
     let first = ok .before in
-    log-fits _ (ready-number _ _ _ (sym (first .number-refusal .ensures) ∙ ok .if1 .left) .ready .formed)
+    log-fits _ (number-by _ _ _ (first .number-refusal .ensures) (ok .if1 .left) .ready .formed)
 
 returns-3 : tie.Need-returns-3
 returns-3 c =
@@ -63,7 +64,7 @@ raise-min-view-requires c κs =
     let ok = files .before .before .before .before .before .before .before .before .before .before in
     let first = ok .before in
     let start = first .before .before .before .before .before .before .before in
-    let row = row-within _ _ (ready-number _ _ _ (sym (first .number-refusal .ensures) ∙ ok .if1 .left) .ready) in
+    let row = row-within _ _ (number-by _ _ _ (first .number-refusal .ensures) (ok .if1 .left) .ready) in
     omega (arith, row, filed-length _ _ _ (files .file .ensures (start .args .blocks .now)))
 
 returns-4 : tie.Need-returns-4
@@ -85,10 +86,9 @@ returns-4 c =
 pub reply-spec : {M : Type 1} → statement M
 reply-spec =
     tie.close
-    (tie.spec (λ c κs. search needs) (λ c κs. search needs) (λ c. search needs) (λ c. search needs)
-    (λ c. search needs) returns replica-in-requires certificate-in-requires (λ c κs. search needs)
-    (λ c κs. search needs) (λ c. search needs) (λ c. search needs) (λ c. search needs) returns-2
-    (λ c κs. search needs) file-requires (λ c. search needs) (λ c. search needs) (λ c κs. search needs)
-    (λ c κs. search needs) (λ c. search needs) (λ c. search needs) (λ c. search needs) returns-3
-    raise-min-view-requires (λ c κs. search needs) (λ c. search needs) (λ c. search needs) (λ c. search needs)
-    returns-4)
+    (tie.spec (λ c κs. search needs) (λ c κs. search needs) (λ c. search needs) (λ c. search needs) (λ c.
+    search needs) returns replica-in-requires certificate-in-requires (λ c κs. search needs) (λ c κs. search
+    needs) (λ c. search needs) (λ c. search needs) (λ c. search needs) returns-2 (λ c κs. search needs)
+    file-requires (λ c. search needs) (λ c. search needs) (λ c κs. search needs) (λ c κs. search needs) (λ c.
+    search needs) (λ c. search needs) (λ c. search needs) returns-3 raise-min-view-requires (λ c κs. search
+    needs) (λ c. search needs) (λ c. search needs) (λ c. search needs) returns-4)

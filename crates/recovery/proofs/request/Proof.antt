@@ -1,10 +1,9 @@
-use mathlib.Core.Path.{sym, _∙_}
 use native.Mathlib.Omega.{arith}
 use borrow.Author.Needs.{needs}
 use Rattle.protocol.specs.Calls.{issuing, request as requestRule}
 use Rattle.certificates.proofs.Fits.{log-fits}
-use Rattle.checks.proofs.Ready.{ready, stopped}
-use Rattle.recovery.proofs.Ends.{refuses, row-within}
+use Rattle.checks.proofs.Ready.{stopped}
+use Rattle.recovery.proofs.Ends.{refuses, ready-by, row-within}
 use Rattle.recovery.proofs.Requesting.{request-refused, request-full, request-issued}
 use Rattle.recovery.proofs.request.Statement.{statement}
 use Rattle.recovery.proofs.request.Tie as tie
@@ -17,7 +16,7 @@ returns c =
 
 replica-in-requires : tie.Need-replica-in-requires
 replica-in-requires c κs =
-    row-within _ _ (ready _ _ (sym (c .before .before .replica-refusal .ensures) ∙ c .before .if1 .left))
+    row-within _ _ (ready-by _ _ (c .before .before .replica-refusal .ensures) (c .before .if1 .left))
 
 returns-2 : tie.Need-returns-2
 returns-2 c =
@@ -31,7 +30,7 @@ file-requires : tie.Need-file-requires
 file-requires c κs =
     let ok = c .before .before .before .before .before .before .before in
     let first = ok .before in
-    log-fits _ (ready _ _ (sym (first .replica-refusal .ensures) ∙ ok .if1 .left) .formed)
+    log-fits _ (ready-by _ _ (first .replica-refusal .ensures) (ok .if1 .left) .formed)
 
 returns-3 : tie.Need-returns-3
 returns-3 c =

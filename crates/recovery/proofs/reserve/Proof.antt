@@ -1,9 +1,8 @@
-use mathlib.Core.Path.{sym, _∙_}
 use native.Mathlib.Omega.{arith}
 use borrow.Author.Needs.{needs}
 use Rattle.protocol.specs.Calls.{reserve as reserveRule}
-use Rattle.checks.proofs.Ready.{ready, stopped}
-use Rattle.recovery.proofs.Ends.{refuses, row-within}
+use Rattle.checks.proofs.Ready.{stopped}
+use Rattle.recovery.proofs.Ends.{refuses, ready-by, row-within}
 use Rattle.recovery.proofs.Reserving.{limit-fits, reserve-refused, reserve-accepted}
 use Rattle.recovery.proofs.reserve.Statement.{statement}
 use Rattle.recovery.proofs.reserve.Tie as tie
@@ -16,7 +15,7 @@ returns c =
 
 replica-in-requires : tie.Need-replica-in-requires
 replica-in-requires c κs =
-    row-within _ _ (ready _ _ (sym (c .before .before .replica-refusal .ensures) ∙ c .before .if1 .left))
+    row-within _ _ (ready-by _ _ (c .before .before .replica-refusal .ensures) (c .before .if1 .left))
 
 add-limit : tie.Need-add-limit
 add-limit c =
@@ -24,7 +23,7 @@ add-limit c =
     let r = step .before in
     let ok = r .before .before in
     let first = ok .before in
-    let w = ready _ _ (sym (first .replica-refusal .ensures) ∙ ok .if1 .left) in
+    let w = ready-by _ _ (first .replica-refusal .ensures) (ok .if1 .left) in
     record { fits = limit-fits _ _ _ _ w (r .replica-in .ensures) (step .counter-step .ensures) }
 
 returns-2 : tie.Need-returns-2
@@ -41,7 +40,7 @@ set-replica-word-requires : tie.Need-set-replica-word-requires
 set-replica-word-requires c κs =
     let ok = c .before .before .before .before .before .before .before in
     let first = ok .before in
-    omega (arith, row-within _ _ (ready _ _ (sym (first .replica-refusal .ensures) ∙ ok .if1 .left)))
+    omega (arith, row-within _ _ (ready-by _ _ (first .replica-refusal .ensures) (ok .if1 .left)))
 
 returns-3 : tie.Need-returns-3
 returns-3 c =

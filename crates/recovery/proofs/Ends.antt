@@ -1,15 +1,27 @@
--- How a call that issues nothing ends: what it gives where a need fails, and where all hold.
-use Prim.Native.Nat.{ℕ, zero, suc, _+_, _<_}
+-- How a call ends that issues nothing: what it gives where a need fails, and where all hold.
+use Prim.Native.Nat.{ℕ, zero, suc, _+_, _≤_, _<_}
 use mathlib.Core.Path.{_≡_, refl, sym, _∙_}
-use Rattle.protocol.specs.declared.Answer.{Answer}
-use Rattle.protocol.specs.Memory.{Memory, rowAt, replicaWords}
+use mathlib.Core.Bool.{Bool, true, false}
+use mathlib.Core.List.{List, _∷_}
 use native.Mathlib.Omega.{arith}
 use lib.ListN.{length}
-use Rattle.protocol.specs.Outcome.{Rule, Outcome, firstRefusal, answered, follow}
+use Rattle.protocol.specs.declared.Answer.{Answer}
+use Rattle.protocol.specs.Memory.{Memory, rowAt, replicaWords, certificateCount, certificateAt, certificateWords}
+use Rattle.protocol.specs.Outcome.{Need, _else_, Rule, firstRefusal, answered, follow}
 use Rattle.protocol.proofs.Tests.{tests}
-use Rattle.layout.proofs.Within.{replica-within}
-use Rattle.checks.specs.Needs.{replicaNeeds}
-use Rattle.checks.proofs.Ready.{ready}
+use Rattle.protocol.proofs.Needs.{fails, holds}
+use Rattle.protocol.proofs.Formed.{Sizes}
+use Rattle.certificates.proofs.Issuing.{refusal}
+use Rattle.checks.specs.Needs.{replicaNeeds, numberNeeds, listNeeds}
+use Rattle.checks.proofs.Ready.{Ready, ready, ReadyNumber, ready-number, ReadyList, ready-list}
+
+-- The tests of a call, one after the other: one that fails, and one that holds.
+pub stops : {t : Bool} {n : ℕ} (rest : List Need) → t ≡ false → n ≡ firstRefusal ((t else n) ∷ rest)
+stops rest e = sym (fails rest e)
+
+pub passes : {t : Bool} {r : ℕ} (n : ℕ) (rest : List Need) → t ≡ true → r ≡ firstRefusal rest
+    → r ≡ firstRefusal ((t else n) ∷ rest)
+passes n rest e s = s ∙ sym (holds n rest e)
 
 module _ (m : Memory) (rule : Rule) where
   pub refuses : {a : Answer} {n : ℕ} → a ≡ record { number = n; first = 0; second = 0 } → (n ≡ 0 → ⊥)
@@ -17,7 +29,7 @@ module _ (m : Memory) (rule : Rule) where
   unfolding follow answered
   refuses {a} {n} e some r = rw (e, ← r) (go n some)
     where
-      go : (n : ℕ) → (n ≡ 0 → ⊥) → record { answer = record { number = n; first = 0; second = 0 }; memory = m } ≡ answered n m rule
+      go : (n : ℕ) → (n ≡ 0 → ⊥) → refusal n m ≡ answered n m rule
       go zero some = absurd (some refl)
       go (suc n) some = refl
 
@@ -26,7 +38,24 @@ module _ (m : Memory) (rule : Rule) where
   unfolding follow answered
   accepts e after r = rw (e, after, ← r)
 
--- The words of a replica that the first needs accept are there.
-pub within : (m : Memory) (i : ℕ) {r : ℕ} → r ≡ firstRefusal (replicaNeeds m i) → r ≡ 0 → (k : ℕ) → k < replicaWords
-    → rowAt i + k < length (m .table)
-within m i e z k h = let w = ready m i (sym e ∙ z) in replica-within m (w .sizes) i k (omega (tests, w .own)) h
+-- ---- what reading asks: the row of a replica that the first needs accept, the words of a certificate that is issued
+
+pub row-within : (m : Memory) (i : ℕ) → Ready m i → rowAt i + replicaWords ≤ length (m .table)
+row-within m i w = omega (tests, w .own, w .sizes)
+
+pub certificate-there : (m : Memory) (number : ℕ) → Sizes m → number < certificateCount m
+    → certificateAt number + certificateWords ≤ length (m .log)
+certificate-there m number s h = omega arith
+
+-- ---- the first needs hold: `checks::replica_refusal`, `number_refusal` or `list_refusal` gave 0
+
+pub ready-by : {r : ℕ} (m : Memory) (i : ℕ) → r ≡ firstRefusal (replicaNeeds m i) → r ≡ 0 → Ready m i
+ready-by m i e z = ready m i (sym e ∙ z)
+
+pub number-by : {r : ℕ} (m : Memory) (i number : ℕ) → r ≡ firstRefusal (numberNeeds m i number) → r ≡ 0
+    → ReadyNumber m i number
+number-by m i number e z = ready-number m i number (sym e ∙ z)
+
+pub list-by : {r : ℕ} (m : Memory) (i : ℕ) (list : List ℕ) → r ≡ firstRefusal (listNeeds m i list) → r ≡ 0
+    → ReadyList m i list
+list-by m i list e z = ready-list m i list (sym e ∙ z)

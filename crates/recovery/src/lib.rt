@@ -1,26 +1,89 @@
 // The calls of a restarted replica and of those that help it (document 01, "Calls"): reboot, reserve, request, reply, recover.
 ghost use mathlib.Core.Path.{_≡_};
+ghost use Prim.Native.Nat.{_+_, _≤_, max};
+ghost use lib.ListN.{length};
+ghost use Rattle.protocol.specs.Memory.{rowAt, replicaWords, assign};
+ghost use Rattle.protocol.specs.Certificates.{reqOf, replyOf};
 ghost use Rattle.protocol.specs.Outcome.{left, firstRefusal, outcomeBy};
-ghost use Rattle.protocol.specs.Calls.{reserve as reserveRule};
-ghost use Rattle.recovery.specs.Tests.{reserveTests};
+ghost use Rattle.protocol.specs.Calls.{reserve as reserveRule, request as requestRule, reply as replyRule, reboot as rebootRule, recover as recoverRule};
+ghost use Rattle.certificates.specs.Filing.{certificateOf};
+ghost use Rattle.recovery.specs.Words.{replicaOf};
+ghost use Rattle.recovery.specs.Tests.{reserveTests, replyTests, raising, retiring, restarted, restored};
+use certificates::Certificate;
+use certificates::Filed;
 use checks::COUNTER_LIMIT;
+use checks::WRONG_CERTIFICATE;
 use checks::WRONG_STATUS;
 use checks::accepted;
 use checks::refused;
 use layout::BOOT_AT;
 use layout::CEILING;
+use layout::FLAG_AT;
+use layout::LIVE;
+use layout::LOWERED;
+use layout::MIN_VIEW_AT;
+use layout::RECOVERING;
 use layout::RETIRED;
 use layout::STATUS_AT;
+use layout::STORED_BLOCK_AT;
+use layout::STORED_VIEW_AT;
 use layout::VIEW_LIMIT_AT;
-use layout::replica_word;
 use layout::set_replica_word;
 use protocol::Answer;
+use words::Replica;
 
-// A replica of this status may have this view limit next.
-fn reserve_refusal(status: u32, limit: u32) -> u32
-    ensures { λ r. ⌜ r ≡ firstRefusal (reserveTests status limit) ⌝ }
+mod words;
+
+// The kinds of certificates that the calls here read and issue.
+const REQ: u32 = 5;
+
+const REPLY: u32 = 6;
+
+// Whether a reboot, to this boot and view limit, retires the replica.
+fn retires(r: Replica, boot: u32, limit: u32) -> bool
+    ensures { λ b. ⌜ b ≡ retiring (replicaOf r) boot limit ⌝ }
 {
-    if status == RETIRED {
+    (r.status == RETIRED) | (CEILING < boot) | (CEILING < limit)
+}
+
+// The words of a replica that starts again, with nothing stored.
+fn restart(table: &mut [u32], replica: u32, boot: u32, min_view: u32, limit: u32)
+    requires { ⌜ rowAt replica + replicaWords ≤ length (now table) ⌝ }
+    ensures { λ _. ⌜ now (table .exit) ≡ assign (now (table .entry)) (rowAt replica) (restarted boot «min_view» limit) ⌝ }
+{
+    set_replica_word(table, replica, STATUS_AT, RECOVERING);
+    set_replica_word(table, replica, BOOT_AT, boot);
+    set_replica_word(table, replica, MIN_VIEW_AT, min_view);
+    set_replica_word(table, replica, VIEW_LIMIT_AT, limit);
+    set_replica_word(table, replica, FLAG_AT, LOWERED);
+    set_replica_word(table, replica, STORED_VIEW_AT, 0);
+    set_replica_word(table, replica, STORED_BLOCK_AT, 0);
+}
+
+pub fn reboot(table: &mut [u32], log: &mut [u32], blocks: &mut [u32], replica: u32) -> Answer
+    ensures { λ r. ⌜ left r (now (table .exit)) (now (log .exit)) (now (blocks .exit))
+        ≡ outcomeBy (λ m. rebootRule m replica) (now (table .entry)) (now (log .entry)) (now (blocks .entry)) ⌝ }
+{
+    let refusal = checks::replica_refusal(table, log, blocks, replica);
+    if refusal != 0 {
+        return refused(refusal);
+    }
+    let r = words::replica_in(table, replica);
+    let boot = r.boot + 1;
+    let limit = r.view_limit + counter::counter_step(boot);
+    if retires(r, boot, limit) {
+        set_replica_word(table, replica, STATUS_AT, RETIRED);
+        return accepted(r.boot, r.min_view);
+    }
+    restart(table, replica, boot, r.view_limit, limit);
+    accepted(boot, r.view_limit)
+}
+
+// A replica may have this view limit next.
+fn reserve_refusal(r: Replica, limit: u32) -> u32
+    ensures { λ n. ⌜ n ≡ firstRefusal (reserveTests (replicaOf r) limit) ⌝ }
+{
+    if r.status == RETIRED {
         return WRONG_STATUS;
     }
     if CEILING < limit {
@@ -37,13 +100,167 @@ pub fn reserve(table: &mut [u32], log: &mut [u32], blocks: &mut [u32], replica: 
     if refusal != 0 {
         return refused(refusal);
     }
-    let status = replica_word(table, replica, STATUS_AT);
-    let boot = replica_word(table, replica, BOOT_AT);
-    let limit = replica_word(table, replica, VIEW_LIMIT_AT) + counter::counter_step(boot);
-    let refusal = reserve_refusal(status, limit);
+    let r = words::replica_in(table, replica);
+    let limit = r.view_limit + counter::counter_step(r.boot);
+    let refusal = reserve_refusal(r, limit);
     if refusal != 0 {
         return refused(refusal);
     }
     set_replica_word(table, replica, VIEW_LIMIT_AT, limit);
     accepted(limit, 0)
+}
+
+// What a restarted replica asks the others with.
+fn req(replica: u32, r: Replica) -> Certificate
+    ensures { λ c. ⌜ certificateOf c ≡ reqOf replica (r .«min_view») (r .boot) ⌝ }
+{
+    Certificate {
+        kind: REQ,
+        signer: replica,
+        view: r.min_view,
+        block: 0,
+        of_view: 0,
+        subject: replica,
+        boot: r.boot,
+    }
+}
+
+pub fn request(table: &mut [u32], log: &mut [u32], blocks: &mut [u32], replica: u32) -> Answer
+    ensures { λ r. ⌜ left r (now (table .exit)) (now (log .exit)) (now (blocks .exit))
+        ≡ outcomeBy (λ m. requestRule m replica) (now (table .entry)) (now (log .entry)) (now (blocks .entry)) ⌝ }
+{
+    let refusal = checks::replica_refusal(table, log, blocks, replica);
+    if refusal != 0 {
+        return refused(refusal);
+    }
+    let r = words::replica_in(table, replica);
+    if r.status != RECOVERING {
+        return refused(WRONG_STATUS);
+    }
+    let filed = certificates::file(table, log, req(replica, r));
+    let Filed::At(number) = filed else {
+        return refused(certificates::refusal_of(filed));
+    };
+    accepted(number, 0)
+}
+
+// A replica may answer this certificate.
+fn reply_refusal(replica: u32, r: Replica, q: Certificate) -> u32
+    ensures { λ n. ⌜ n ≡ firstRefusal (replyTests replica (replicaOf r) (certificateOf q)) ⌝ }
+{
+    if r.status != LIVE {
+        return WRONG_STATUS;
+    }
+    if q.kind != REQ {
+        return WRONG_CERTIFICATE;
+    }
+    if q.signer == replica {
+        return WRONG_CERTIFICATE;
+    }
+    if r.view_limit < q.view {
+        return COUNTER_LIMIT;
+    }
+    0
+}
+
+// What a replica answers: its stored block, for the one that asked.
+fn reply_to(replica: u32, r: Replica, q: Certificate) -> Certificate
+    ensures { λ c. ⌜ certificateOf c
+        ≡ replyOf replica (q .view) (r .«stored_block») (r .«stored_view») (q .signer) (q .boot) ⌝ }
+{
+    Certificate {
+        kind: REPLY,
+        signer: replica,
+        view: q.view,
+        block: r.stored_block,
+        of_view: r.stored_view,
+        subject: q.signer,
+        boot: q.boot,
+    }
+}
+
+// The min view rises to a view that is above it, and the flag is lowered then.
+fn raise_min_view(table: &mut [u32], replica: u32, min_view: u32, view: u32)
+    requires { ⌜ rowAt replica + replicaWords ≤ length (now table) ⌝ }
+    ensures { λ _. ⌜ now (table .exit) ≡ assign (now (table .entry)) (rowAt replica) (raising «min_view» view) ⌝ }
+{
+    if min_view < view {
+        set_replica_word(table, replica, MIN_VIEW_AT, view);
+        set_replica_word(table, replica, FLAG_AT, LOWERED);
+    }
+}
+
+pub fn reply(
+    table: &mut [u32],
+    log: &mut [u32],
+    blocks: &mut [u32],
+    replica: u32,
+    number: u32,
+) -> Answer
+    ensures { λ r. ⌜ left r (now (table .exit)) (now (log .exit)) (now (blocks .exit))
+        ≡ outcomeBy (λ m. replyRule m replica number) (now (table .entry)) (now (log .entry)) (now (blocks .entry)) ⌝ }
+{
+    let refusal = checks::number_refusal(table, log, blocks, replica, number);
+    if refusal != 0 {
+        return refused(refusal);
+    }
+    let r = words::replica_in(table, replica);
+    let q = words::certificate_in(log, number);
+    let refusal = reply_refusal(replica, r, q);
+    if refusal != 0 {
+        return refused(refusal);
+    }
+    let filed = certificates::file(table, log, reply_to(replica, r, q));
+    let Filed::At(issued) = filed else {
+        return refused(certificates::refusal_of(filed));
+    };
+    raise_min_view(table, replica, r.min_view, q.view);
+    accepted(issued, 0)
+}
+
+fn larger(a: u32, b: u32) -> u32
+    ensures { λ r. ⌜ r ≡ max a b ⌝ }
+{
+    if a < b { b } else { a }
+}
+
+// The words of a replica that is live again, with what the replies hold.
+fn restore(table: &mut [u32], replica: u32, min_view: u32, c: Certificate)
+    requires { ⌜ rowAt replica + replicaWords ≤ length (now table) ⌝ }
+    ensures { λ _. ⌜ now (table .exit) ≡ assign (now (table .entry)) (rowAt replica) (restored «min_view» (certificateOf c)) ⌝ }
+{
+    set_replica_word(table, replica, STATUS_AT, LIVE);
+    set_replica_word(table, replica, MIN_VIEW_AT, min_view);
+    set_replica_word(table, replica, STORED_VIEW_AT, c.of_view);
+    set_replica_word(table, replica, STORED_BLOCK_AT, c.block);
+}
+
+pub fn recover(
+    table: &mut [u32],
+    log: &mut [u32],
+    blocks: &mut [u32],
+    replica: u32,
+    list: &[u32],
+) -> Answer
+    ensures { λ r. ⌜ left r (now (table .exit)) (now (log .exit)) (now (blocks .exit))
+        ≡ outcomeBy (λ m. recoverRule m replica (now (list .entry))) (now (table .entry)) (now (log .entry)) (now (blocks .entry)) ⌝ }
+{
+    let refusal = checks::list_refusal(table, log, blocks, replica, list);
+    if refusal != 0 {
+        return refused(refusal);
+    }
+    let r = words::replica_in(table, replica);
+    if r.status != RECOVERING {
+        return refused(WRONG_STATUS);
+    }
+    if !quorum::is_reply_quorum(log, list, replica, r.boot, r.min_view) {
+        return refused(WRONG_CERTIFICATE);
+    }
+    let c = words::certificate_in(log, quorum::greatest(log, list));
+    let min_view = larger(r.min_view, c.of_view + 1);
+    if r.view_limit < min_view {
+        return refused(COUNTER_LIMIT);
+    }
+    restore(table, replica, min_view, c);
+    accepted(min_view, c.of_view)
 }

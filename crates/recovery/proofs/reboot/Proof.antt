@@ -1,0 +1,81 @@
+use native.Mathlib.Omega.{arith}
+use borrow.Author.Needs.{needs}
+use Rattle.protocol.specs.Calls.{reboot as rebootRule}
+use Rattle.recovery.proofs.Ends.{refuses, ready-by, row-within}
+use Rattle.recovery.proofs.Reserving.{limit-fits}
+use Rattle.recovery.proofs.Rebooting.{boot-fits, reboot-retires, reboot-restarts}
+use Rattle.recovery.proofs.reboot.Statement.{statement}
+use Rattle.recovery.proofs.reboot.Tie as tie
+
+returns : tie.Need-returns
+unfolding rebootRule
+returns c =
+    refuses _ _ (c .refused .ensures) (c .before .if1 .taken) (c .before .before .replica-refusal .ensures)
+
+replica-in-requires : tie.Need-replica-in-requires
+replica-in-requires c κs =
+    row-within _ _ (ready-by _ _ (c .before .before .replica-refusal .ensures) (c .before .if1 .left))
+
+add-boot : tie.Need-add-boot
+add-boot c =
+    let r = c .before in
+    let ok = r .before .before in
+    let first = ok .before in
+    let w = ready-by _ _ (first .replica-refusal .ensures) (ok .if1 .left) in
+    record { fits = boot-fits _ _ _ w (r .replica-in .ensures) }
+
+add-limit : tie.Need-add-limit
+add-limit c =
+    let step = c .before in
+    let r = step .before .before in
+    let ok = r .before .before in
+    let first = ok .before in
+    let w = ready-by _ _ (first .replica-refusal .ensures) (ok .if1 .left) in
+    record { fits = limit-fits _ _ _ _ w (r .replica-in .ensures) (step .counter-step .ensures) }
+
+set-replica-word-requires : tie.Need-set-replica-word-requires
+set-replica-word-requires c κs =
+    let ok = c .before .before .before .before .before .before .before .before in
+    let first = ok .before in
+    omega (arith, row-within _ _ (ready-by _ _ (first .replica-refusal .ensures) (ok .if1 .left)))
+
+returns-2 : tie.Need-returns-2
+returns-2 c =
+    let written = c .before .before .before in
+    let is = written .before .before in
+    let tested = is .before in
+    let step = tested .before .before in
+    let r = step .before .before in
+    let ok = r .before .before in
+    let first = ok .before in
+    reboot-retires _ _ (first .replica-refusal .ensures) (ok .if1 .left) _ (r .replica-in .ensures)
+    (step .counter-step .ensures) (tested .retires .ensures) (is .if2 .taken) (c .accepted .ensures)
+    (written .set-replica-word .ensures)
+
+restart-requires : tie.Need-restart-requires
+restart-requires c κs =
+    let ok = c .before .before .before .before .before .before .before .before in
+    let first = ok .before in
+    row-within _ _ (ready-by _ _ (first .replica-refusal .ensures) (ok .if1 .left))
+
+returns-3 : tie.Need-returns-3
+returns-3 c =
+    let written = c .before .before .before in
+    let is = written .before .before in
+    let tested = is .before in
+    let step = tested .before .before in
+    let r = step .before .before in
+    let ok = r .before .before in
+    let first = ok .before in
+    reboot-restarts _ _ (first .replica-refusal .ensures) (ok .if1 .left) _ (r .replica-in .ensures)
+    (step .counter-step .ensures) (tested .retires .ensures) (is .if2 .left) (c .accepted2 .ensures)
+    (written .restart .ensures)
+
+pub reboot-spec : {M : Type 1} → statement M
+reboot-spec =
+    tie.close
+    (tie.spec (λ c κs. search needs) (λ c κs. search needs) (λ c. search needs) (λ c. search needs) (λ c.
+    search needs) returns replica-in-requires add-boot (λ c κs. search needs) add-limit (λ c κs. search needs)
+    set-replica-word-requires (λ c κs. search needs) (λ c. search needs) (λ c. search needs) (λ c. search
+    needs) returns-2 restart-requires (λ c κs. search needs) (λ c. search needs) (λ c. search needs) (λ c.
+    search needs) returns-3)

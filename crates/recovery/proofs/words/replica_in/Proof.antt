@@ -1,0 +1,13 @@
+use borrow.Author.Needs.{needs}
+use Rattle.recovery.proofs.words.replica_in.Statement.{statement}
+use Rattle.recovery.proofs.words.replica_in.Tie as tie
+
+returns : tie.Need-returns
+returns c = cc
+
+pub replica-in-spec : {M : Type 1} → statement M
+replica-in-spec =
+    tie.close
+    (tie.spec (λ c κs. search needs) (λ c κs. search needs) (λ c κs. search needs) (λ c κs. search needs)
+    (λ c κs. search needs) (λ c κs. search needs) (λ c κs. search needs) (λ c κs. search needs)
+    (λ c κs. search needs) returns)

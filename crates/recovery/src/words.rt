@@ -1,0 +1,55 @@
+// Replicas and certificates by value, so that each word is read once.
+ghost use mathlib.Core.Path.{_≡_};
+ghost use mathlib.Core.List.{[]};
+ghost use Prim.Native.Nat.{_+_, _≤_};
+ghost use lib.ListN.{length};
+ghost use Rattle.protocol.specs.Memory.{memory, rowAt, replicaWords, replica as replicaAt, certificateAt, certificateWords, certificate};
+ghost use Rattle.certificates.specs.Filing.{certificateOf};
+ghost use Rattle.recovery.specs.Words.{replicaOf};
+use certificates::Certificate;
+use layout::certificate_word;
+use layout::replica_word;
+
+pub struct Replica {
+    pub status: u32,
+    pub boot: u32,
+    pub min_view: u32,
+    pub view_limit: u32,
+    pub flag: u32,
+    pub stored_view: u32,
+    pub stored_block: u32,
+    pub decided_view: u32,
+    pub decided_block: u32,
+}
+
+pub fn replica_in(table: &[u32], replica: u32) -> Replica
+    requires { ⌜ rowAt replica + replicaWords ≤ length (now table) ⌝ }
+    ensures { λ r. ⌜ replicaOf r ≡ replicaAt (memory (now (table .entry)) [] []) replica ⌝ }
+{
+    Replica {
+        status: replica_word(table, replica, layout::STATUS_AT),
+        boot: replica_word(table, replica, layout::BOOT_AT),
+        min_view: replica_word(table, replica, layout::MIN_VIEW_AT),
+        view_limit: replica_word(table, replica, layout::VIEW_LIMIT_AT),
+        flag: replica_word(table, replica, layout::FLAG_AT),
+        stored_view: replica_word(table, replica, layout::STORED_VIEW_AT),
+        stored_block: replica_word(table, replica, layout::STORED_BLOCK_AT),
+        decided_view: replica_word(table, replica, layout::DECIDED_VIEW_AT),
+        decided_block: replica_word(table, replica, layout::DECIDED_BLOCK_AT),
+    }
+}
+
+pub fn certificate_in(log: &[u32], number: u32) -> Certificate
+    requires { ⌜ certificateAt number + certificateWords ≤ length (now log) ⌝ }
+    ensures { λ r. ⌜ certificateOf r ≡ certificate (memory [] (now (log .entry)) []) number ⌝ }
+{
+    Certificate {
+        kind: certificate_word(log, number, layout::KIND_AT),
+        signer: certificate_word(log, number, layout::SIGNER_AT),
+        view: certificate_word(log, number, layout::VIEW_AT),
+        block: certificate_word(log, number, layout::PROPOSED_BLOCK_AT),
+        of_view: certificate_word(log, number, layout::OF_VIEW_AT),
+        subject: certificate_word(log, number, layout::SUBJECT_AT),
+        boot: certificate_word(log, number, layout::SUBJECT_BOOT_AT),
+    }
+}

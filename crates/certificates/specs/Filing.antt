@@ -66,3 +66,8 @@ leaves r t l b = record { outcome = r; memory = memory t l b }
 
 unfoldable pub filing : Memory → List ℕ → Result
 filing m ws = record { outcome = placeFor m ws; memory = cond (canFile m ws) (file m ws) m }
+
+-- The number that a refusal holds.
+abbrev pub refusalOf : Filed → ℕ
+refusalOf (At number) = 0
+refusalOf (Refused refusal) = refusal

@@ -14,6 +14,7 @@ ghost use Rattle.certificates.specs.Filing.{
   placeFor,
   leaves,
   filing,
+  refusalOf,
 };
 
 // Where the table has the number of certificates issued.
@@ -53,6 +54,16 @@ pub struct Certificate {
 pub enum Filed {
     At(u32),
     Refused(u32),
+}
+
+// The refusal that a caller hands up, 0 where the certificate is filed.
+pub fn refusal_of(filed: Filed) -> u32
+    ensures { λ r. ⌜ r ≡ refusalOf filed ⌝ }
+{
+    match filed {
+        Filed::At(_) => 0,
+        Filed::Refused(refusal) => refusal,
+    }
 }
 
 // Whether the certificate whose words start at an index equals this one. Few have its view, so that is tested first.

@@ -1,0 +1,43 @@
+use mathlib.Core.Path.{sym, _∙_}
+use native.Mathlib.Omega.{arith}
+use borrow.Author.Needs.{needs}
+use Rattle.checks.proofs.Ready.{ready}
+use Rattle.checker.proofs.Issue.{row-within, issuable, stops-first, stops-further, passes}
+use Rattle.checker.proofs.Rules.{viewing}
+use Rattle.checker.proofs.view.Statement.{statement}
+use Rattle.checker.proofs.view.Tie as tie
+
+returns : tie.Need-returns
+returns c = stops-first (viewing _ _ _) (c .refused .ensures) (c .before .before .replica-refusal .ensures) (omega (arith, c .before .if1 .taken))
+
+standing-of-requires : tie.Need-standing-of-requires
+standing-of-requires c κs = row-within _ _ (ready _ _ (sym (c .before .before .replica-refusal .ensures) ∙ c .before .if1 .left))
+
+returns-2 : tie.Need-returns-2
+returns-2 c =
+    stops-further (viewing _ _ _) (sym (c .before .before .before .before .before .before .replica-refusal .ensures) ∙ c .before .before .before .before .before .if1 .left) (c .refused2 .ensures)
+    (rw (c .before .before .before .standing-of .ensures) at (c .before .before .view-refusal .ensures)) (omega (arith, c .before .if2 .taken))
+
+replica-word-requires : tie.Need-replica-word-requires
+replica-word-requires c κs = let w = row-within _ _ (ready _ _ (sym (c .before .before .before .before .before .before .replica-refusal .ensures) ∙ c .before .before .before .before .before .if1 .left)) in omega (arith, w)
+
+replica-word-requires-2 : tie.Need-replica-word-requires-2
+replica-word-requires-2 c κs = let w = row-within _ _ (ready _ _ (sym (c .before .before .before .before .before .before .before .before .replica-refusal .ensures) ∙ c .before .before .before .before .before .before .before .if1 .left)) in omega (arith, w)
+
+enter-requires : tie.Need-enter-requires
+enter-requires c κs = issuable _ _ (ready _ _ (sym (c .before .before .before .before .before .before .before .before .before .before .before .before .before .replica-refusal .ensures) ∙ c .before .before .before .before .before .before .before .before .before .before .before .before .if1 .left))
+
+returns-3 : tie.Need-returns-3
+returns-3 c =
+    passes (viewing _ _ _) (sym (c .before .before .before .before .before .before .before .before .before .before .before .before .before .before .before .before .before .before .replica-refusal .ensures) ∙ c .before .before .before .before .before .before .before .before .before .before .before .before .before .before .before .before .before .if1 .left)
+    (sym (rw (c .before .before .before .before .before .before .before .before .before .before .before .before .before .before .before .standing-of .ensures) at (c .before .before .before .before .before .before .before .before .before .before .before .before .before .before .view-refusal .ensures)) ∙ c .before .before .before .before .before .before .before .before .before .before .before .before .before .if2 .left)
+    (rw (c .before .before .before .before .before .flag-in .ensures, c .before .before .before .before .before .before .before .before .before .before .before .before .before .before .before .standing-of .ensures, c .before .before .before .before .before .before .before .before .of-kind .ensures, c .before .before .before .before .before .before .before .before .before .replica-word2 .ensures, c .before .before .before .before .before .before .before .before .before .before .before .replica-word .ensures) at (c .before .before .before .before .enter .ensures (c .before .before .before .before .before .before .before .before .before .before .before .before .before .before .before .before .before .before .before .before .before .before .before .before .before .args .blocks .now)))
+
+pub view-spec : {M : Type 1} → statement M
+view-spec =
+    tie.close
+    (tie.spec (λ c κs. search needs) (λ c κs. search needs) (λ c. search needs) (λ c. search needs)
+    (λ c. search needs) returns standing-of-requires (λ c κs. search needs) (λ c κs. search needs)
+    (λ c. search needs) (λ c. search needs) (λ c. search needs) returns-2 replica-word-requires
+    replica-word-requires-2 (λ c κs. search needs) (λ c κs. search needs) enter-requires (λ c. search needs)
+    (λ c. search needs) (λ c. search needs) returns-3)

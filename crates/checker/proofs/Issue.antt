@@ -58,7 +58,8 @@ module _ (m : Memory) (i : ℕ) (changes : List Assignment) (c : Certificate) {d
 
 -- ---- a call that issues: its first needs, which the shared tests decide, its further ones, its changes, its certificate
 
-pub record Issues (m : Memory) (rule : Rule) (first more : List Need) (i : ℕ) (changes : List Assignment) (c : Certificate) : Type 0 where
+pub record Issues (m : Memory) (rule : Rule) (first more : List Need) (i : ℕ) (changes : List Assignment) (c : Certificate)
+    : Type 0 where
   pub needs : List Need
   pub is : rule ≡ issuing m needs i changes c
   pub numbered : positive needs ≡ true

@@ -1,4 +1,4 @@
--- The steps of a call: the words that it reads, its needs after the shared first ones, over those words, and the issuing of a certificate.
+-- The steps of a call: the words that it reads; its needs after the shared first ones, over those words; issuing a certificate.
 use Prim.Native.Nat.{ℕ, _+_, _≤_}
 use mathlib.Core.List.{List, [], _∷_}
 use lib.ListN.{length}
@@ -8,7 +8,8 @@ use Rattle.protocol.specs.Memory.{statusAt, minViewAt, viewLimitAt, flagAt, kin
 use Rattle.protocol.specs.Memory as Memory
 use Rattle.protocol.specs.Certificates.{PROP}
 use Rattle.protocol.specs.Leader.{leads}
-use Rattle.protocol.specs.Outcome.{Outcome, Need, _else_, follow, outOfRange, wrongStatus, wrongCertificate, wrongView, counterLimit}
+use Rattle.protocol.specs.Outcome.{Outcome, Need, _else_, follow, outOfRange, wrongStatus, wrongCertificate, wrongView}
+use Rattle.protocol.specs.Outcome.{counterLimit}
 use Rattle.protocol.specs.Calls.{issuing}
 use Rattle.certificates.specs.Filing.{LogFits}
 use Rattle.checker.specs.declared.Standing.{Standing}

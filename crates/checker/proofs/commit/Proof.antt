@@ -5,15 +5,38 @@ use Rattle.checker.proofs.commit.Statement.{statement}
 use Rattle.checker.proofs.commit.Tie as tie
 
 returns : tie.Need-returns
-returns c = λ b. full _ _ _ _ (c .before .before .before .before .before .before .before .before .before .of-kind .ensures) (c .before .before .before .before .before .before .before .before .file .ensures b) (c .before .before .enum-told .given .1) (c .before .refusal-of .ensures) (c .refused .ensures)
+returns c =
+    let after-file = c .before .before .before .before .before .before .before .before in
+    λ b. full _ _ _ _ (after-file .before .of-kind .ensures) (after-file .file .ensures b)
+    (c .before .before .enum-told .given .1) (c .before .refusal-of .ensures) (c .refused .ensures)
 
 set-replica-word-requires-4 : tie.Need-set-replica-word-requires-4
-set-replica-word-requires-4 c κs = omega (arith, c .before .before .table4 .given, c .before .before .before .before .before .before .table3 .given, c .before .before .before .before .before .before .before .before .before .before .table2 .given, c .before .before .before .before .before .before .before .before .before .before .before .before .before .before .before .before .before .before .before .table .given, c .before .before .before .before .before .before .before .before .before .before .before .before .before .before .before .before .before .before .before .before .before .before .before .before .before .before .pre)
+set-replica-word-requires-4 c κs =
+    let after-table3 = c .before .before .before .before .before .before in
+    let after-table2 = after-table3 .before .before .before .before in
+    let after-table = after-table2 .before .before .before .before .before .before .before .before .before in
+    let after-pre = after-table .before .before .before .before .before .before .before in
+    omega (
+      arith,
+      c .before .before .table4 .given,
+      after-table3 .table3 .given,
+      after-table2 .table2 .given,
+      after-table .table .given,
+      after-pre .pre,
+    )
 
 returns-2 : tie.Need-returns-2
 returns-2 c =
-    λ b. issued _ _ _ _ (c .before .before .before .before .before .before .before .before .before .before .before .before .before .before .before .before .before .before .before .before .before .before .before .before .before .of-kind .ensures) (c .before .before .before .before .before .before .before .before .before .before .before .before .before .before .before .before .before .before .before .before .before .before .before .before .file .ensures b) (c .before .before .before .before .before .before .before .before .before .before .before .before .before .before .before .before .before .before .filed .given .1) (c .accepted .ensures)
-    (rw (c .before .before .before .before .before .before .before .set-replica-word3 .ensures, c .before .before .before .before .before .before .before .before .before .before .before .set-replica-word2 .ensures, c .before .before .before .before .before .before .before .before .before .before .before .before .before .before .before .set-replica-word .ensures) at (c .before .before .before .set-replica-word4 .ensures))
+    let after-set-replica-word3 = c .before .before .before .before .before .before .before in
+    let after-set-replica-word2 = after-set-replica-word3 .before .before .before .before in
+    let after-set-replica-word = after-set-replica-word2 .before .before .before .before in
+    let after-file = after-set-replica-word .before .before .before .before .before .before .before .before .before in
+    λ b. issued _ _ _ _ (after-file .before .of-kind .ensures) (after-file .file .ensures b)
+    (after-set-replica-word .before .before .before .filed .given .1) (c .accepted .ensures) (rw (
+      after-set-replica-word3 .set-replica-word3 .ensures,
+      after-set-replica-word2 .set-replica-word2 .ensures,
+      after-set-replica-word .set-replica-word .ensures,
+    ) at (c .before .before .before .set-replica-word4 .ensures))
 
 pub commit-spec : {M : Type 1} → statement M
 commit-spec =

@@ -9,4 +9,5 @@ returns-2 : tie.Need-returns-2
 returns-2 c = simp (le-ltb _ _ (c .if1 .left))
 
 pub flag-in-spec : {M : Type 1} → statement M
-flag-in-spec = tie.close (tie.spec returns returns-2)
+flag-in-spec = tie.close
+    (tie.spec returns returns-2)

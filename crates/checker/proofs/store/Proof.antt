@@ -8,33 +8,59 @@ use Rattle.checker.proofs.store.Statement.{statement}
 use Rattle.checker.proofs.store.Tie as tie
 
 returns : tie.Need-returns
-returns c = stops-first (storing _ _ _) (c .refused .ensures) (c .before .before .number-refusal .ensures) (omega (arith, c .before .if1 .taken))
+returns c =
+    stops-first (storing _ _ _) (c .refused .ensures) (c .before .before .number-refusal .ensures)
+    (omega (arith, c .before .if1 .taken))
 
 signed-at-requires : tie.Need-signed-at-requires
-signed-at-requires c κs = signed-within _ _ _ (ready-number _ _ _ (sym (c .before .before .number-refusal .ensures) ∙ c .before .if1 .left))
+signed-at-requires c κs =
+    signed-within _ _ _ (ready-number _ _ _ (sym (c .before .before .number-refusal .ensures) ∙ c .before .if1 .left))
 
 slice-read-store-refusal : tie.Need-slice-read-store-refusal
-slice-read-store-refusal c = let z = ready-number _ _ _ (sym (c .before .before .before .before .number-refusal .ensures) ∙ c .before .before .before .if1 .left) .ready .sizes in omega (arith, z)
+slice-read-store-refusal c =
+    let after-number-refusal = c .before .before .before .before in
+    let z = ready-number _ _ _
+    (sym (after-number-refusal .number-refusal .ensures) ∙ c .before .before .before .if1 .left) .ready .sizes in
+    omega (arith, z)
 
 standing-of-requires : tie.Need-standing-of-requires
-standing-of-requires c κs = row-within _ _ (ready-number _ _ _ (sym (c .before .before .before .before .before .number-refusal .ensures) ∙ c .before .before .before .before .if1 .left) .ready)
+standing-of-requires c κs =
+    let after-if1 = c .before .before .before .before in
+    row-within _ _
+    (ready-number _ _ _ (sym (after-if1 .before .number-refusal .ensures) ∙ after-if1 .if1 .left) .ready)
 
 store-refusal-requires : tie.Need-store-refusal-requires
-store-refusal-requires c κs = ready-number _ _ _ (sym (c .before .before .before .before .before .before .number-refusal .ensures) ∙ c .before .before .before .before .before .if1 .left) .ready .sizes .faultsHigh
+store-refusal-requires c κs =
+    let after-if1 = c .before .before .before .before .before in
+    ready-number _ _ _
+    (sym (after-if1 .before .number-refusal .ensures) ∙ after-if1 .if1 .left) .ready .sizes .faultsHigh
 
 returns-2 : tie.Need-returns-2
 returns-2 c =
-    stops-further (storing _ _ _) (sym (c .before .before .before .before .before .before .before .before .before .number-refusal .ensures) ∙ c .before .before .before .before .before .before .before .before .if1 .left) (c .refused2 .ensures)
-    (rw (c .before .before .before .standing-of .ensures, c .before .before .before .before .before .before .signed-at .ensures) at (c .before .before .store-refusal .ensures)) (omega (arith, c .before .if2 .taken))
+    let after-signed-at = c .before .before .before .before .before .before in
+    stops-further (storing _ _ _) (sym (after-signed-at .before .before .before .number-refusal .ensures)
+    ∙ after-signed-at .before .before .if1 .left) (c .refused2 .ensures) (rw
+    (c .before .before .before .standing-of .ensures, after-signed-at .signed-at .ensures)
+    at (c .before .before .store-refusal .ensures)) (omega (arith, c .before .if2 .taken))
 
 commit-requires : tie.Need-commit-requires
-commit-requires c κs = let h = ready-number _ _ _ (sym (c .before .before .before .before .before .before .before .before .before .before .number-refusal .ensures) ∙ c .before .before .before .before .before .before .before .before .before .if1 .left) in (issuable _ _ (h .ready), rw (c .before .before .before .before .before .before .before .signed-at .ensures) (signed-view _ _ _ h))
+commit-requires c κs =
+    let after-signed-at = c .before .before .before .before .before .before .before in
+    let h = ready-number _ _ _ (sym (after-signed-at .before .before .before .number-refusal .ensures)
+    ∙ after-signed-at .before .before .if1 .left) in
+    (issuable _ _ (h .ready), rw (after-signed-at .signed-at .ensures) (signed-view _ _ _ h))
 
 returns-3 : tie.Need-returns-3
 returns-3 c =
-    passes (storing _ _ _) (sym (c .before .before .before .before .before .before .before .before .before .before .before .before .before .before .before .number-refusal .ensures) ∙ c .before .before .before .before .before .before .before .before .before .before .before .before .before .before .if1 .left)
-    (sym (rw (c .before .before .before .before .before .before .before .before .before .standing-of .ensures, c .before .before .before .before .before .before .before .before .before .before .before .before .signed-at .ensures) at (c .before .before .before .before .before .before .before .before .store-refusal .ensures)) ∙ c .before .before .before .before .before .before .before .if2 .left)
-    (rw (c .before .before .before .before .before .before .before .before .before .before .before .before .signed-at .ensures) at (c .before .before .before .before .commit .ensures (c .before .before .before .before .before .before .before .before .before .before .before .before .before .before .before .before .before .before .before .before .before .before .args .blocks .now)))
+    let after-commit = c .before .before .before .before in
+    let after-store-refusal = after-commit .before .before .before .before in
+    let after-signed-at = after-store-refusal .before .before .before .before in
+    let after-args = after-signed-at .before .before .before .before .before .before .before .before .before .before in
+    passes (storing _ _ _)
+    (sym (after-signed-at .before .before .before .number-refusal .ensures) ∙ after-signed-at .before .before .if1 .left)
+    (sym (rw (after-store-refusal .before .standing-of .ensures, after-signed-at .signed-at .ensures)
+    at (after-store-refusal .store-refusal .ensures)) ∙ after-commit .before .before .before .if2 .left)
+    (rw (after-signed-at .signed-at .ensures) at (after-commit .commit .ensures (after-args .args .blocks .now)))
 
 pub store-spec : {M : Type 1} → statement M
 store-spec =

@@ -15,13 +15,19 @@ returns-3 : tie.Need-returns-3
 returns-3 c = sym (holds _ _ (omega tests) ∙ holds _ _ (omega tests) ∙ fails _ (omega tests))
 
 returns-4 : tie.Need-returns-4
-returns-4 c = sym (holds _ _ (omega tests) ∙ holds _ _ (omega tests) ∙ holds _ _ (omega tests) ∙ fails _ (omega tests))
+returns-4 c =
+    sym (holds _ _ (omega tests) ∙ holds _ _ (omega tests) ∙ holds _ _ (omega tests) ∙ fails _ (omega tests))
 
 returns-5 : tie.Need-returns-5
-returns-5 c = sym (holds _ _ (omega tests) ∙ holds _ _ (omega tests) ∙ holds _ _ (omega tests) ∙ holds _ _ (omega tests) ∙ fails _ (omega tests))
+returns-5 c =
+    sym (holds _ _ (omega tests) ∙ holds _ _ (omega tests) ∙ holds _ _ (omega tests) ∙ holds _ _ (omega tests)
+    ∙ fails _ (omega tests))
 
 returns-6 : tie.Need-returns-6
-returns-6 c = last _ (omega tests) ∙ sym (holds _ _ (omega tests) ∙ holds _ _ (omega tests) ∙ holds _ _ (omega tests) ∙ holds _ _ (omega tests))
+returns-6 c =
+    last _ (omega tests) ∙ sym
+    (holds _ _ (omega tests) ∙ holds _ _ (omega tests) ∙ holds _ _ (omega tests) ∙ holds _ _ (omega tests))
 
 pub view-refusal-spec : {M : Type 1} → statement M
-view-refusal-spec = tie.close (tie.spec returns returns-2 returns-3 returns-4 returns-5 returns-6)
+view-refusal-spec = tie.close
+    (tie.spec returns returns-2 returns-3 returns-4 returns-5 returns-6)

@@ -1,0 +1,180 @@
+-- Laws of justifications: their first needs, what they give, and the needs of a proposal on them.
+use Prim.Native.Nat.{ℕ, _+_, _≤_}
+use mathlib.Core.Path.{_≡_, refl, sym, _∙_}
+use mathlib.Core.Bool.{Bool, true, false, not, _&&_}
+use mathlib.Core.List.{List, [], _∷_, _++_}
+use native.Mathlib.Omega.{arith}
+use lib.ListN.{getD}
+use lib.Dec.{eqb}
+use Rattle.protocol.specs.declared.Justification.{Justification}
+use Rattle.protocol.specs.declared.Justification.the-variants.{Acc, Commits}
+use Rattle.protocol.specs.Memory.{Memory, Certificate, ceiling, faultBound, live, memory, parent}
+use Rattle.protocol.specs.Form.{allHold}
+use Rattle.protocol.specs.Certificates.{ACC}
+use Rattle.protocol.specs.Quorum.{every, isIssued, allIssued, certificatesOf, isCommitQuorum}
+use Rattle.protocol.specs.Outcome.{Need, _else_, firstRefusal, unknownNumber, wrongStatus, wrongCertificate}
+use Rattle.protocol.specs.Calls.{isBlock, numbersOf, isSized, isJustified}
+use Rattle.protocol.proofs.Tests.{tests, by-test, and-true, all-hold}
+use Rattle.protocol.proofs.Needs.{all-needs, fails, holds}
+use Rattle.protocol.proofs.Formed.{Formed, formed, sizes}
+use Rattle.layout.proofs.Within.{certificate-bounds}
+use Rattle.quorum.specs.Lists.{certificatesIn}
+use Rattle.quorum.proofs.Accepted.{listed, some-listed, every-at, commits}
+use Rattle.checks.specs.Needs.{replicaNeeds, numberNeeds, listNeeds}
+use Rattle.checks.proofs.Ready.{Ready}
+use Rattle.checker.specs.declared.Signed.{Signed}
+use Rattle.checker.specs.declared.Ground.{Ground}
+use Rattle.checker.specs.declared.Given.{Given}
+use Rattle.checker.specs.declared.Given.the-variants.{By, Nothing}
+use Rattle.checker.specs.Steps.{standingIn, signedIn}
+use Rattle.checker.specs.Grounds.{justificationNeeds, CommitsIn, Grounded, groundFrom, groundOf, proposalTests}
+use Rattle.checker.specs.Grounds.{prepareTests}
+
+-- ---- the first needs
+
+-- Two needs of one number, in either order.
+pub swapped : (first : List Need) (s t : Bool) (n : ℕ) (rest : List Need)
+    → firstRefusal (first ++ (s else n ∷ t else n ∷ rest)) ≡ firstRefusal (first ++ (t else n ∷ s else n ∷ rest))
+unfolding firstRefusal
+swapped [] true t n rest = refl
+swapped [] false true n rest = refl
+swapped [] false false n rest = refl
+swapped ((true else k) ∷ first) s t n rest = swapped first s t n rest
+swapped ((false else k) ∷ first) s t n rest = refl
+
+and-alone : (t : Bool) → (t && true) ≡ t
+and-alone true = refl
+and-alone false = refl
+
+module _ (m : Memory) (i : ℕ) (list : List ℕ) {j : Justification} {n : ℕ} where
+  pub on-acc : {number : ℕ} → j ≡ Acc number → n ≡ firstRefusal (numberNeeds m i number)
+      → n ≡ firstRefusal (justificationNeeds m i j list)
+  unfolding justificationNeeds firstRefusal every
+  on-acc {number} is e = rw (is, and-alone (isIssued m number)) e
+
+  pub on-commits : {view block : ℕ} → j ≡ Commits view block → n ≡ firstRefusal (listNeeds m i list)
+      → n ≡ firstRefusal (justificationNeeds m i j list)
+  unfolding justificationNeeds
+  on-commits is e = rw is e
+
+pub record ReadyJustification (m : Memory) (i : ℕ) (j : Justification) (list : List ℕ) : Type 0 where
+  pub ready : Ready m i
+  pub grounded : Grounded (m .log) j list
+
+grounded-by : (m : Memory) (j : Justification) (list : List ℕ) → Formed m → isSized m j list ≡ true
+    → allIssued m (numbersOf j list) ≡ true → Grounded (m .log) j list
+unfolding every
+grounded-by m (Acc number) list f s e = let issued = and-true (isIssued m number) true e .0 in let z = sizes m f in omega tests
+grounded-by m (Commits view block) list f s e =
+    let some = some-listed m list s in
+    let issued = every-at (isIssued m) list 0 e 0 some in
+    record { listed = listed m list f e; some = some; view = certificate-bounds m f (getD list 0 0) (omega tests) .view }
+
+pub ready-justification : (m : Memory) (i : ℕ) (j : Justification) (list : List ℕ)
+    → firstRefusal (justificationNeeds m i j list) ≡ 0 → ReadyJustification m i j list
+unfolding justificationNeeds
+ready-justification m i j list e =
+    let h = all-needs (justificationNeeds m i j list) refl e in
+    let f = formed m (h .0) in
+    record {
+      ready = record { formed = f; sizes = sizes m f; own = h .1 .0 };
+      grounded = grounded-by m j list f (h .1 .1 .0) (h .1 .1 .1 .0);
+    }
+
+-- ---- what a justification gives
+
+unjustified : (i : ℕ) (j : Justification) (cs : List Certificate) → isJustified i j cs ≡ false → Nothing ≡ groundOf i j cs
+unfolding groundOf
+unjustified i j cs e = rw e refl
+
+justified : (i : ℕ) (j : Justification) (cs : List Certificate) → isJustified i j cs ≡ true
+    → By (groundFrom j cs) ≡ groundOf i j cs
+unfolding groundOf
+justified i j cs e = rw e refl
+
+-- And back.
+pub nothing-given : (i : ℕ) (j : Justification) (cs : List Certificate) → Nothing ≡ groundOf i j cs → isJustified i j cs ≡ false
+unfolding groundOf
+nothing-given i j cs e = by-test (isJustified i j cs) (λ t. let x = rw t at e in cc) (λ f. f)
+
+pub given-by : (i : ℕ) (j : Justification) (cs : List Certificate) {g : Ground} → By g ≡ groundOf i j cs
+    → (isJustified i j cs ≡ true) × (g ≡ groundFrom j cs)
+unfolding groundOf
+given-by i j cs e = by-test (isJustified i j cs) (λ t. (t, let x = rw t at e in cc)) (λ f. let x = rw f at e in (cc, cc))
+
+first-fails : (t : Bool) {s : Bool} → s ≡ false → allHold (s ∷ t ∷ []) ≡ false
+unfolding allHold
+first-fails t e = rw e refl
+
+second-fails : (s : Bool) {t : Bool} → t ≡ false → allHold (s ∷ t ∷ []) ≡ false
+unfolding allHold
+second-fails true e = rw e refl
+second-fails false e = refl
+
+module _ (log list : List ℕ) (i : ℕ) {j : Justification} where
+  module _ {number : ℕ} (is : j ≡ Acc number) {p : Signed} (read : p ≡ signedIn log number) where
+    pub acc-other-kind : (p .kind ≡ ACC → ⊥) → Nothing ≡ groundOf i j (certificatesIn log (numbersOf j list))
+    acc-other-kind h =
+        let other = rw read at h in
+        rw is (unjustified i (Acc number) (certificatesIn log (number ∷ [])) (first-fails _ (omega tests)))
+
+    pub acc-other-signer : (p .signer ≡ i → ⊥) → Nothing ≡ groundOf i j (certificatesIn log (numbersOf j list))
+    acc-other-signer h =
+        let other = rw read at h in
+        rw is (unjustified i (Acc number) (certificatesIn log (number ∷ [])) (second-fails _ (omega tests)))
+
+    pub acc-gives : p .kind ≡ ACC → p .signer ≡ i
+        → By (record { view = p .view; block = p .block }) ≡ groundOf i j (certificatesIn log (numbersOf j list))
+    acc-gives k s =
+        let kind = rw read at k in
+        let signer = rw read at s in
+        rw (is, read) (justified i (Acc number) (certificatesIn log (number ∷ [])) (all-hold _ (omega tests, (omega tests, tt))))
+
+  module _ {view block : ℕ} (is : j ≡ Commits view block) where
+    pub no-quorum : isCommitQuorum view block (certificatesIn log list) ≡ false
+        → Nothing ≡ groundOf i j (certificatesIn log (numbersOf j list))
+    no-quorum e = rw is (unjustified i (Commits view block) (certificatesIn log list) e)
+
+    pub quorum-gives : isCommitQuorum view block (certificatesIn log list) ≡ true
+        → By (record { view = view + 1; block = block }) ≡ groundOf i j (certificatesIn log (numbersOf j list))
+    quorum-gives e = rw is (justified i (Commits view block) (certificatesIn log list) e)
+
+-- The view of a commit quorum has a next one.
+pub has-next : (log list : List ℕ) (view block : ℕ) → CommitsIn log list
+    → isCommitQuorum view block (certificatesIn log list) ≡ true → view ≤ ceiling
+has-next log list view block h e =
+    let q = commits (memory [] log []) list view block e .all 0 (h .some) in
+    let v = h .view in
+    omega (arith, q, v)
+
+-- ---- the needs of a proposal
+
+pub block-zero : (b : ℕ) → b ≡ 0 → not (eqb b 0) ≡ false
+block-zero b e = let t : eqb b 0 ≡ true = omega tests in rw t refl
+
+pub block-other : (b : ℕ) → (b ≡ 0 → ⊥) → not (eqb b 0) ≡ true
+block-other b h = let t : eqb b 0 ≡ false = omega tests in rw t refl
+
+pub not-known : (m : Memory) (i b : ℕ) (j : Justification) (list : List ℕ) → isBlock m b ≡ false
+    → unknownNumber ≡ firstRefusal (prepareTests m i b j list)
+unfolding prepareTests
+not-known m i b j list e = sym (fails _ e)
+
+module _ (m : Memory) (i b : ℕ) (j : Justification) (list : List ℕ) (known : isBlock m b ≡ true) where
+  pub not-live : (standingIn (m .table) i .status ≡ live → ⊥) → wrongStatus ≡ firstRefusal (prepareTests m i b j list)
+  unfolding prepareTests
+  not-live h = sym (holds _ _ known ∙ fails _ (omega tests))
+
+  module _ (is-live : standingIn (m .table) i .status ≡ live) where
+    pub no-ground : Nothing ≡ groundOf i j (certificatesOf m (numbersOf j list))
+        → wrongCertificate ≡ firstRefusal (prepareTests m i b j list)
+    unfolding prepareTests
+    no-ground e = sym (holds _ _ known ∙ holds _ _ (omega tests) ∙ fails _ (nothing-given i j _ e))
+
+    pub on-ground : {g : Ground} {n : ℕ} → By g ≡ groundOf i j (certificatesOf m (numbersOf j list))
+        → n ≡ firstRefusal (proposalTests (faultBound m) i b (parent m b) (standingIn (m .table) i) g)
+        → n ≡ firstRefusal (prepareTests m i b j list)
+    unfolding prepareTests
+    on-ground e q =
+        let given = given-by i j _ e in
+        (rw (given .1) at q) ∙ sym (holds _ _ known ∙ holds _ _ (omega tests) ∙ holds _ _ (given .0))

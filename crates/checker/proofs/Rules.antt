@@ -1,0 +1,50 @@
+-- The three rules, as calls that issue a certificate.
+use Prim.Native.Nat.{ℕ, _+_}
+use mathlib.Core.Path.{refl}
+use mathlib.Core.Bool.{cond}
+use mathlib.Core.List.{List, [], _∷_}
+use Rattle.protocol.specs.declared.Justification.{Justification}
+use Rattle.protocol.specs.Memory.{Memory, _becomes_, faultBound, replica, certificate, lowered, raised}
+use Rattle.protocol.specs.Memory.{minViewAt, flagAt, storedViewAt, storedBlockAt}
+use Rattle.protocol.specs.Certificates.{propOf, commitOf, newViewOf}
+use Rattle.protocol.specs.Form.{wellFormed}
+use Rattle.protocol.specs.Quorum.{allIssued, certificatesOf}
+use Rattle.protocol.specs.Outcome.{_else_, wrongForm, outOfRange, unknownNumber}
+use Rattle.protocol.specs.Calls.{isReplica, isBlock, numbersOf, isSized, proposalView, isAhead, prepare, store, view}
+use Rattle.checks.specs.Needs.{replicaNeeds, numberNeeds}
+use Rattle.checker.specs.Steps.{standingIn, signedIn, storeTests, viewTests}
+use Rattle.checker.specs.Grounds.{justificationNeeds, prepareTests}
+use Rattle.checker.proofs.Issue.{Issues}
+use Rattle.checker.proofs.Grounds.{swapped}
+
+module _ (m : Memory) (i : ℕ) where
+  pub preparing : (b : ℕ) (j : Justification) (list : List ℕ) → let cs = certificatesOf m (numbersOf j list) in
+      Issues m (prepare m i b j list) (justificationNeeds m i j list) (prepareTests m i b j list) i (flagAt becomes raised ∷ [])
+      (propOf i (proposalView j cs) b)
+  unfolding prepare justificationNeeds prepareTests
+  preparing b j list =
+      record {
+        needs = _;
+        is = refl;
+        numbered = refl;
+        first-numbered = refl;
+        same-refusal =
+            swapped (wellFormed m else wrongForm ∷ isReplica m i else outOfRange ∷ isSized m j list else outOfRange ∷ [])
+            (isBlock m b) (allIssued m (numbersOf j list)) unknownNumber _;
+      }
+
+  pub storing : (number : ℕ) → let p = certificate m number in
+      Issues m (store m i number) (numberNeeds m i number)
+      (storeTests (faultBound m) (standingIn (m .table) i) (signedIn (m .log) number)) i
+      (storedViewAt becomes p .view ∷ storedBlockAt becomes p .block ∷ minViewAt becomes (p .view + 1)
+      ∷ flagAt becomes lowered ∷ [])
+      (commitOf i (p .view) (p .block))
+  unfolding store
+  storing number = record { needs = _; is = refl; numbered = refl; first-numbered = refl; same-refusal = refl }
+
+  pub viewing : (w : ℕ) → let r = replica m i in
+      Issues m (view m i w) (replicaNeeds m i) (viewTests (standingIn (m .table) i) w) i
+      (flagAt becomes cond (isAhead r w) lowered (r .flag) ∷ minViewAt becomes w ∷ [])
+      (newViewOf i w (r .storedBlock) (r .storedView))
+  unfolding view
+  viewing w = record { needs = _; is = refl; numbered = refl; first-numbered = refl; same-refusal = refl }

@@ -1,0 +1,13 @@
+// The leader of a view: the one place that says which replica it is.
+ghost use mathlib.Core.Path.{_≡_};
+ghost use Prim.Native.Nat.{_≤_};
+ghost use Rattle.protocol.specs.Memory.{maxFaultBound};
+ghost use Rattle.protocol.specs.Leader.{leads as leadsRule};
+
+// Whether, with this f, a replica leads a view.
+pub fn leads(f: u32, view: u32, replica: u32) -> bool
+    requires { ⌜ f ≤ maxFaultBound ⌝ }
+    ensures { λ r. ⌜ r ≡ leadsRule f view replica ⌝ }
+{
+    replica == view % layout::replica_count(f)
+}

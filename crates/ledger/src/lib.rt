@@ -1,0 +1,57 @@
+// Any call of a ledger, and its front panel.
+ghost use mathlib.Core.Path.{_≡_};
+ghost use Rattle.protocol.specs.Memory.{memory};
+ghost use Rattle.protocol.specs.Outcome.{left};
+ghost use Rattle.protocol.specs.Runs.{step};
+ghost use Rattle.ledger.specs.Panel.{panelAnswer};
+use checks::accepted;
+use checks::refused;
+use layout::DECIDED_BLOCK_AT;
+use protocol::Answer;
+use protocol::Call;
+
+// One of the twelve calls, with the list beside it.
+pub fn invoke(
+    table: &mut [u32],
+    log: &mut [u32],
+    blocks: &mut [u32],
+    call: Call,
+    list: &[u32],
+) -> Answer
+    ensures { λ r. ⌜ left r (now (table .exit)) (now (log .exit)) (now (blocks .exit)) ≡ step (memory (now (table .entry)) (now (log .entry)) (now (blocks .entry))) call (now (list .entry)) ⌝ }
+{
+    match call {
+        Call::Open(f) => opening::open_ledger(table, log, blocks, f),
+        Call::Block(parent) => opening::block(table, log, blocks, parent),
+        Call::Prepare(replica, block, justification) => checker::prepare(
+            table,
+            log,
+            blocks,
+            replica,
+            block,
+            justification,
+            list,
+        ),
+        Call::Store(replica, number) => checker::store(table, log, blocks, replica, number),
+        Call::View(replica, view) => checker::view(table, log, blocks, replica, view),
+        Call::Accumulate(replica) => accumulator::accumulate(table, log, blocks, replica, list),
+        Call::Decide(replica) => accumulator::decide(table, log, blocks, replica, list),
+        Call::Reboot(replica) => recovery::reboot(table, log, blocks, replica),
+        Call::Reserve(replica) => recovery::reserve(table, log, blocks, replica),
+        Call::Request(replica) => recovery::request(table, log, blocks, replica),
+        Call::Reply(replica, number) => recovery::reply(table, log, blocks, replica, number),
+        Call::Recover(replica) => recovery::recover(table, log, blocks, replica, list),
+    }
+}
+
+// What the front panel of a replica's box shows: the height of its decided block.
+pub fn panel(table: &[u32], log: &[u32], blocks: &[u32], replica: u32) -> Answer
+    ensures { λ r. ⌜ r ≡ panelAnswer (memory (now (table .entry)) (now (log .entry)) (now (blocks .entry))) replica ⌝ }
+{
+    let refusal = checks::replica_refusal(table, log, blocks, replica);
+    if refusal != 0 {
+        return refused(refusal);
+    }
+    let decided = layout::replica_word(table, replica, DECIDED_BLOCK_AT);
+    accepted(ancestry::height(blocks, decided), 0)
+}

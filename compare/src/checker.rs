@@ -72,7 +72,8 @@ pub fn prepare<R: Rules>(rules: R, m: &mut Memory, replica: u32, block: u32, j: 
     let let_in = rules.has(Mistake::PrepareRecovering) && r.status == RECOVERING;
     need(r.status == LIVE || let_in, 4)?;
     let (w, ground) = justified(rules, m, replica, j)?;
-    need(m.leads(replica, w) || rules.has(Mistake::PrepareAnyLeader), 5)?;
+    let any_leader = rules.has(Mistake::PrepareAnyLeader) || rules.has(Mistake::LeaderNowhere);
+    need(m.leads(replica, w) || any_leader, 5)?;
     need(block != 0 || rules.has(Mistake::PrepareBlockZero), 6)?;
     need(m.parent(block) == ground || rules.has(Mistake::PrepareAnyParent), 6)?;
     need(r.min_view == w || rules.has(Mistake::PrepareAboveMinView) && r.min_view < w, 7)?;
@@ -98,7 +99,8 @@ pub fn store<R: Rules>(rules: R, m: &mut Memory, replica: u32, number: u32) -> A
     need(r.status == LIVE || let_in, 4)?;
     let Certificate { kind, signer, view, block, .. } = m.certificate(number);
     need(kind == PROP, 5)?;
-    need(m.leads(signer, view) || rules.has(Mistake::StoreAnyLeader), 5)?;
+    let any_leader = rules.has(Mistake::StoreAnyLeader) || rules.has(Mistake::LeaderNowhere);
+    need(m.leads(signer, view) || any_leader, 5)?;
     need(view >= r.min_view || rules.has(Mistake::StoreBelowMinView), 7)?;
     need(below_limit(view, r, rules.has(Mistake::StoreLimitInclusive)), 8)?;
     let commit = Certificate { kind: COMMIT, signer: replica, view, block, ..Certificate::default() };

@@ -77,12 +77,13 @@ mistakes! {
     RecoverNoLimit "recover-no-limit" "recover does not look at the limit" "min_view above the limit is wrong form: nothing is accepted any more";
     // Checker.
     PrepareIgnoresFlag "prepare-ignores-flag" "prepare does not look at its flag" "";
-    PrepareAnyLeader "prepare-any-leader" "prepare does not ask for the leader" "";
+    PrepareAnyLeader "prepare-any-leader" "prepare does not ask for the leader" "store asks again";
+    LeaderNowhere "leader-nowhere" "neither prepare nor store asks for the leader" "";
     PrepareAnyParent "prepare-any-parent" "prepare does not look at the block's parent" "";
     PrepareBlockZero "prepare-block-zero" "prepare takes block 0" "block 0 stands in every block's ancestry";
     PrepareOtherAcc "prepare-other-acc" "prepare takes another replica's ACC" "an ACC is sound whoever signed it";
     PrepareAboveMinView "prepare-above-min-view" "prepare passes where min_view is below w" "";
-    PrepareRecovering "prepare-recovering" "a recovering replica may prepare" "its min_view is still the old limit, which it never led";
+    PrepareRecovering "prepare-recovering" "a recovering replica may prepare" "the flag it sets stays through recover";
     PrepareLimitInclusive "prepare-limit-inclusive" "prepare tests the limit with <= instead of <" "";
     StoreLimitInclusive "store-limit-inclusive" "store tests the limit with <= instead of <" "min_view above the limit is wrong form: nothing is accepted any more";
     ViewLimitInclusive "view-limit-inclusive" "view tests the limit with <= instead of <" "no two proposals come of it, and a promise still binds after the cut";

@@ -114,7 +114,11 @@ impl<R: Rules> Explorer<R> {
         let Some(number) = self.late(&accs) else { return };
         let acc = self.driver.certificate(number);
         let block = self.child_of(acc.block);
-        let leader = if self.random.once_in(8) { self.any_replica() } else { acc.signer };
+        let leader = match self.random.below(8) {
+            0 => self.any_replica(),
+            1 => acc.view % self.driver.n(),
+            _ => acc.signer,
+        };
         self.driver.call(PREPARE_ACC, leader, block, &[number]);
     }
 

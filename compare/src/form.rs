@@ -37,7 +37,7 @@ fn counts_fit<R: Rules>(rules: R, m: &Memory) -> bool {
     let slots = m.log.len() / CERTIFICATE_WORDS;
     (rules.has(Mistake::FormIssued) || m.issued() as usize <= slots)
         && (rules.has(Mistake::FormAdded) || m.added() as usize <= m.blocks.len())
-        && (rules.has(Mistake::FormNoBlock) || m.added() >= 1)
+        && m.added() >= 1
 }
 
 fn parents_fall<R: Rules>(rules: R, m: &Memory) -> bool {
@@ -62,7 +62,7 @@ fn replica_fits<R: Rules>(rules: R, added: u32, r: Replica) -> bool {
     (rules.has(Mistake::FormStatus) || r.status <= RETIRED)
         && (rules.has(Mistake::FormFlag) || r.flag <= 1)
         && (rules.has(Mistake::FormBoot) || r.boot <= LIMIT)
-        && (rules.has(Mistake::FormMinViewZero) || 1 <= r.min_view)
+        && 1 <= r.min_view
         && (rules.has(Mistake::FormMinView) || r.min_view <= r.view_limit)
         && (rules.has(Mistake::FormViewLimit) || r.view_limit <= LIMIT)
         && (rules.has(Mistake::FormStoredView) || r.stored_view < r.min_view)

@@ -118,7 +118,8 @@ mistakes! {
     BlockCountStays "block-count-stays" "the block count does not grow" "no block but 0 can be named";
     FiledAgain "filed-again" "an equal certificate is added again" "a copy says nothing new";
     OpenClearsLog "open-clears-log" "opening clears the log's words" "words past the count are not read";
-    // Form: each line drops one test.
+    // Form: each line drops one test. Two tests have no line, since others imply them: at least one block (a replica's
+    // stored block is added), and 1 <= min_view (the stored view is below it).
     FormTableLonger "form-table-longer" "a longer table has sound form" "no list of calls reaches it";
     FormLogSeven "form-log-seven" "a log of any length has sound form" "no list of calls reaches it";
     FormLogLong "form-log-long" "a log of more than 4,096 slots has sound form" "no list of calls reaches it";
@@ -126,14 +127,12 @@ mistakes! {
     FormF "form-f" "f is not tested" "no list of calls reaches it";
     FormIssued "form-issued" "the issued count is not tested" "no list of calls reaches it";
     FormAdded "form-added" "the block count is not tested" "no list of calls reaches it";
-    FormNoBlock "form-no-block" "no block at all has sound form" "no list of calls reaches it";
     FormRoot "form-root" "block 0's parent is not tested" "no list of calls reaches it";
     FormParent "form-parent" "parents are not tested" "no list of calls reaches it";
     FormParentEqual "form-parent-equal" "a block may be its own parent" "no list of calls reaches it";
     FormStatus "form-status" "status is not tested" "no list of calls reaches it";
     FormFlag "form-flag" "flag is not tested" "no list of calls reaches it";
     FormBoot "form-boot" "boot is not tested" "no list of calls reaches it";
-    FormMinViewZero "form-min-view-zero" "min_view 0 has sound form" "no list of calls reaches it";
     FormMinView "form-min-view" "min_view above the limit has sound form" "no list of calls reaches it";
     FormViewLimit "form-view-limit" "the limit is not tested" "no list of calls reaches it";
     FormStoredView "form-stored-view" "the stored view is not tested" "no list of calls reaches it";

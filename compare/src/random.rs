@@ -29,6 +29,12 @@ impl Random {
         low + self.below(high - low + 1)
     }
 
+    /// Below `count`, but once in `times` maybe `count` itself.
+    pub fn nearly_below(&mut self, count: u32, times: u32) -> u32 {
+        let past = u32::from(self.once_in(times));
+        self.below(count + past)
+    }
+
     /// True once in `times`.
     pub fn once_in(&mut self, times: u32) -> bool {
         self.below(times) == 0

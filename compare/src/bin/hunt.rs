@@ -3,7 +3,7 @@
 //! hunt [--mistake NAME | --none | --all] [--seconds N] [--seed N] [--quiet]
 //! Without a choice: every mistake that demand 3 can see, then no mistake at all.
 
-use judge::hunt::search::{search, Found};
+use judge::hunt::search::{search, Found, Progress};
 use judge::mistake::Mistake;
 use judge::options::Options;
 use std::process::ExitCode;
@@ -67,10 +67,9 @@ fn hunt(mistake: Option<Mistake>, options: &Options) -> bool {
     if told > 0 {
         eprintln!();
     }
-    let time = start.elapsed().as_secs_f64();
     match &found {
-        Some(found) => tell_found(name, found, time, options.flag("quiet")),
-        None => println!("{name}: nothing in {} attempts, {} calls, {time:.1} s", progress.attempts, progress.lines),
+        Some(found) => tell_found(name, found, &progress, options.flag("quiet")),
+        None => println!("{name}: nothing in {} attempts, {} calls, {seconds} s", progress.attempts, progress.lines),
     }
     if found.is_some() != seen {
         println!("{name}: NOT AS EXPECTED");
@@ -78,12 +77,13 @@ fn hunt(mistake: Option<Mistake>, options: &Options) -> bool {
     found.is_some() == seen
 }
 
-fn tell_found(name: &str, found: &Found, time: f64, quiet: bool) {
+fn tell_found(name: &str, found: &Found, progress: &Progress, quiet: bool) {
+    let (attempts, time) = progress.found.unwrap_or_default();
     println!(
-        "{name}: {:?} by {} after {} attempts, {time:.2} s, {} lines",
+        "{name}: found in {:.3} s ({attempts} attempts); shortest: {:?} by {}, {} lines",
+        time.as_secs_f64(),
         found.violation,
         found.order,
-        found.attempts,
         found.trace.len()
     );
     if quiet {

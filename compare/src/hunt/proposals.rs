@@ -95,4 +95,20 @@ impl Attack {
         let (other, _) = self.driver.propose_on(acc)?;
         self.split(one, other)
     }
+
+    /// The leader proposes on an ACC that another replica made.
+    pub fn borrowed_acc(&mut self) -> Option<()> {
+        let voters = self.first_quorum();
+        let view = self.view_led_by(&voters, 1);
+        let promises = self.driver.promises(view, &voters)?;
+        let leader = view % self.driver.n();
+        let other = *voters.iter().find(|&&voter| voter != leader)?;
+        let acc = self.driver.accepted(ACCUMULATE, other, 0, &promises)?;
+        let block = self.driver.accepted(BLOCK, 0, 0, &[])?;
+        let prop = self.driver.accepted(PREPARE_ACC, leader, block, &[acc])?;
+        let commits = self.driver.commit(prop, &voters)?;
+        self.decide(&commits)?;
+        let quorum = self.second_quorum();
+        self.second_decision(&quorum)
+    }
 }

@@ -32,13 +32,13 @@ pub const ORDERS: &[(&str, Order)] = &[
     ("proposes at the limit", Attack::proposes_at_the_limit),
     ("two leaders", Attack::two_leaders),
     ("proposes before entering", Attack::proposes_before_entering),
+    ("borrowed ACC", Attack::borrowed_acc),
 ];
 
 /// A broken demand 3: how, by which order, and the shortest trace found.
 pub struct Found {
     pub violation: Violation,
     pub order: &'static str,
-    pub attempts: u64,
     pub trace: Vec<(Line, Outcome)>,
 }
 
@@ -46,7 +46,12 @@ pub struct Found {
 pub struct Progress {
     pub attempts: u64,
     pub lines: u64,
+    /// Attempts and time up to the first find.
+    pub found: Option<(u64, Duration)>,
 }
+
+/// After the first find the search goes on so long for a shorter trace.
+const SHORTEN: Duration = Duration::from_millis(300);
 
 /// Searches until something is found or the time is up; `tell` is called now and then.
 pub fn search(
@@ -55,25 +60,34 @@ pub fn search(
     time: Duration,
     mut tell: impl FnMut(&Progress),
 ) -> (Option<Found>, Progress) {
-    let end = Instant::now() + time;
+    let start = Instant::now();
+    let mut end = start + time;
     let mut random = Random::new(seed);
-    let mut progress = Progress { attempts: 0, lines: 0 };
+    let mut progress = Progress { attempts: 0, lines: 0, found: None };
+    let mut best: Option<Found> = None;
     while Instant::now() < end {
         let part = Random::new(random.bits());
         let (order, lines) = if random.once_in(3) { explore(mistake, part) } else { attack(mistake, part) };
         progress.attempts += 1;
         progress.lines += lines.len() as u64;
         if let Some((violation, count)) = judge(mistake, &lines, SLOTS) {
+            let first = best.is_none();
             let trace = shortest(mistake, lines[..count].to_vec());
-            let found = Found { violation, order, attempts: progress.attempts, trace };
-            return (Some(found), progress);
+            if best.as_ref().is_none_or(|found| trace.len() < found.trace.len()) {
+                best = Some(Found { violation, order, trace });
+            }
+            if first {
+                progress.found = Some((progress.attempts, start.elapsed()));
+                end = end.min(Instant::now() + SHORTEN);
+            }
         }
         tell(&progress);
     }
-    (None, progress)
+    (best, progress)
 }
 
-fn attack(mistake: Option<Mistake>, mut random: Random) -> (&'static str, Vec<Line>) {
+/// One known order of attack, up to its first refusal.
+pub fn attack(mistake: Option<Mistake>, mut random: Random) -> (&'static str, Vec<Line>) {
     let (name, order) = random.pick(ORDERS);
     let mut attack = Attack::new(mistake, random);
     order(&mut attack);

@@ -5,6 +5,7 @@
 
 pub mod accumulator;
 pub mod ancestry;
+pub mod benchmark;
 pub mod call;
 pub mod certificate;
 pub mod checker;

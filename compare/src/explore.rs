@@ -137,7 +137,7 @@ impl<R: Rules> Explorer<R> {
     fn propose_on_commits(&mut self) {
         let Some((one, list)) = self.commits() else { return };
         let block = self.child_of(one.block);
-        let leader = (one.view + 1) % self.driver.n();
+        let leader = if self.random.once_in(8) { self.any_replica() } else { (one.view + 1) % self.driver.n() };
         self.driver.call(PREPARE_COMMITS, leader, block, &list);
     }
 

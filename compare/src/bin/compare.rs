@@ -4,13 +4,14 @@
 //! compare --memories [--seconds N] [--seed N]   memories: the firmware (feature `firmware`), else the library itself
 //! compare --self [--seconds N] [--seed N]       the harness alone: the library with itself
 //! compare --mistakes [--seed N]                 which mistakes the generators tell apart, and by what
+//! compare --coverage [--seed N]                 how often each generated call gets each answer
 //! compare --script SEED                         prints the script of a seed
 
 use judge::comparison::checkers::{Checker, Library};
-use judge::comparison::mistakes;
 use judge::comparison::programs::{first_difference, output};
 use judge::comparison::samples::{call_difference, difference, panel_difference};
 use judge::comparison::shrink::{sample_text, shrink_sample, shrink_script};
+use judge::comparison::{coverage, mistakes};
 use judge::generate::scripts::script;
 use judge::mistake::Correct;
 use judge::options::Options;
@@ -23,7 +24,7 @@ type Run<'a> = &'a dyn Fn(&[u8]) -> Result<Vec<u8>, String>;
 
 fn main() -> ExitCode {
     let known = ["yard", "second", "scenarios", "seconds", "seed", "script", "scripts", "count"];
-    match Options::read(&known, &["memories", "self", "mistakes"]).and_then(|options| work(&options)) {
+    match Options::read(&known, &["memories", "self", "mistakes", "coverage"]).and_then(|options| work(&options)) {
         Ok(()) => ExitCode::SUCCESS,
         Err(message) => {
             eprintln!("compare: {message}");
@@ -38,9 +39,12 @@ fn work(options: &Options) -> Result<(), String> {
     if let Some(seed) = options.number("script") {
         return std::io::stdout().write_all(&script(seed).text).map_err(|error| error.to_string());
     }
+    let (scripts, memories) = (options.number("scripts").unwrap_or(300), options.number("count").unwrap_or(400_000));
+    if options.flag("coverage") {
+        coverage::tell(seed, scripts, memories);
+        return Ok(());
+    }
     if options.flag("mistakes") {
-        let (scripts, memories) =
-            (options.number("scripts").unwrap_or(300), options.number("count").unwrap_or(400_000));
         return mistakes::tell(seed, scripts, memories).then_some(()).ok_or("a mistake is missed".to_string());
     }
     if options.flag("self") {
@@ -77,20 +81,33 @@ fn compare_scripts(one: Run, other: Run, seed: u64, time: Duration) -> Result<()
     let (mut scripts, mut lines) = (0, 0);
     while start.elapsed() < time {
         let script = script(seed + scripts);
-        let (left, right) = (one(&script.text)?, other(&script.text)?);
+        let at = |error: String| format!("seed {}: {error}", seed + scripts);
+        let (left, right) = (one(&script.text).map_err(at)?, other(&script.text).map_err(at)?);
         if let Some(line) = first_difference(&left, &right) {
-            let differs = |text: &[u8]| matches!((one(text), other(text)), (Ok(l), Ok(r)) if l != r);
-            let small = shrink_script(&script.text, differs);
-            println!("seed {} ({}): outputs differ at line {line}; smallest script:", seed + scripts, script.sort);
-            println!("{}", String::from_utf8_lossy(&small));
-            println!("one:\n{}", String::from_utf8_lossy(&one(&small)?));
-            println!("other:\n{}", String::from_utf8_lossy(&other(&small)?));
+            println!("seed {} ({}): outputs differ at line {line}", seed + scripts, script.sort);
+            tell_script(one, other, &script.text)?;
             return Err("scripts differ".to_string());
         }
         scripts += 1;
         lines += left.len() / 33;
     }
     println!("{scripts} scripts, {lines} lines, no difference (seeds {seed} to {})", seed + scripts - 1);
+    Ok(())
+}
+
+/// The smallest script that still shows the difference, each line with both answers.
+fn tell_script(one: Run, other: Run, text: &[u8]) -> Result<(), String> {
+    let differs = |text: &[u8]| matches!((one(text), other(text)), (Ok(left), Ok(right)) if left != right);
+    let small = shrink_script(text, differs);
+    let lines = |bytes: &[u8]| String::from_utf8_lossy(bytes).lines().map(str::to_string).collect::<Vec<_>>();
+    let (left, right) = (lines(&one(&small)?), lines(&other(&small)?));
+    println!("smallest script, {} lines:", left.len());
+    for (place, line) in lines(&small).iter().enumerate() {
+        let answer = |answers: &[String]| answers.get(place).map_or("nothing".to_string(), |line| line.to_string());
+        let (one, other) = (answer(&left), answer(&right));
+        let mark = if one == other { String::new() } else { format!("  <-> {other}") };
+        println!("{line:<56} -> {one}{mark}");
+    }
     Ok(())
 }
 

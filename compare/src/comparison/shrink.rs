@@ -1,30 +1,47 @@
 //! Makes a script or a memory smaller as long as it still shows the difference.
 
+use super::renumber::Lines;
 use crate::generate::memory::Sample;
 use crate::memory::{CERTIFICATE_WORDS, HEADER};
 use std::time::{Duration, Instant};
 
 const TIME: Duration = Duration::from_secs(20);
 
-/// Leaves out runs of lines, long ones first.
+/// Leaves out runs of lines, long ones first, again and again until nothing more can go.
 pub fn shrink_script(script: &[u8], differs: impl Fn(&[u8]) -> bool) -> Vec<u8> {
     let end = Instant::now() + TIME;
-    let mut lines: Vec<Vec<u8>> = script.split_inclusive(|&byte| byte == b'\n').map(<[u8]>::to_vec).collect();
-    let mut run = lines.len().div_ceil(2);
-    while run > 0 {
-        let mut place = 0;
-        while place < lines.len() && Instant::now() < end {
-            let mut fewer = lines.clone();
-            fewer.drain(place..(place + run).min(lines.len()));
-            if differs(&fewer.concat()) {
-                lines = fewer;
-            } else {
-                place += run;
-            }
+    let lines = Lines::read(script);
+    let mut kept: Vec<usize> = (0..lines.count()).collect();
+    let mut before = kept.len() + 1;
+    while kept.len() < before && Instant::now() < end {
+        before = kept.len();
+        let mut run = kept.len().div_ceil(2);
+        while run > 0 {
+            kept = without_runs(&lines, kept, run, end, &differs);
+            run /= 2;
         }
-        run /= 2;
     }
-    lines.concat()
+    lines.keep(&kept)
+}
+
+/// Leaves out runs of this length, from the end on.
+fn without_runs(
+    lines: &Lines,
+    mut kept: Vec<usize>,
+    run: usize,
+    end: Instant,
+    differs: &impl Fn(&[u8]) -> bool,
+) -> Vec<usize> {
+    let mut place = kept.len();
+    while place > 0 && Instant::now() < end {
+        place = place.saturating_sub(run);
+        let mut fewer = kept.clone();
+        fewer.drain(place..(place + run).min(kept.len()));
+        if differs(&lines.keep(&fewer)) {
+            kept = fewer;
+        }
+    }
+    kept
 }
 
 /// Drops free slots and the last certificates, shortens the list, and sets words to 0 or to a fresh replica's.

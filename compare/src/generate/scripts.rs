@@ -21,15 +21,16 @@ pub fn script(seed: u64) -> Script {
     let part = Random::new(random.bits());
     let f = any_f(&mut random);
     let (sort, lines) = match random.below(64) {
-        0..=15 => ("progress", progress(part, f, 600)),
-        16..=28 => ("hostile", hostile(part, f)),
+        0..=7 => ("progress", progress(part, f, 600, false)),
+        8..=20 => ("disturbed progress", progress(part, f, 600, true)),
+        21..=28 => ("hostile", hostile(part, f)),
         29..=35 => ("attack", attacks(part)),
         36..=39 => ("openings", openings(part)),
         40..=45 => ("boots", many_boots(part, f)),
         46..=48 => ("full log", full_log(part, f)),
         49..=50 => ("full blocks", full_blocks(part, f)),
         51..=53 => ("counter by cuts", counter_by_cuts(part, f)),
-        54 => ("counter by reserves", counter_by_reserves(part, f.min(2))),
+        54 if random.once_in(8) => ("counter by reserves", counter_by_reserves(part, f.min(2))),
         _ => {
             let text = script_text(&hostile(part, f));
             return Script { sort: "damaged text", text: damaged(&mut random, &text) };

@@ -116,4 +116,21 @@ impl Attack {
         self.driver.restore(asking, &repliers)?;
         Some(req)
     }
+
+    /// The hinge recovers by the replies to another replica that was cut at the same boot and limit.
+    pub fn borrowed_replies(&mut self) -> Option<()> {
+        let asking = self.random.pick(&self.late);
+        let others = [self.early.clone(), self.late.clone()].concat();
+        let others: Vec<u32> = others.into_iter().filter(|&replica| replica != asking).collect();
+        let quorum = others.get(..self.late.len() + 1)?.to_vec();
+        self.driver.accepted(REBOOT, asking, 0, &[])?;
+        let req = self.driver.accepted(REQUEST, asking, 0, &[])?;
+        let replies = self.driver.replies(req, &quorum)?;
+        self.driver.accepted(RECOVER, asking, 0, &replies)?;
+        self.driver.accepted(REBOOT, self.hinge, 0, &[])?;
+        self.driver.accepted(RECOVER, self.hinge, 0, &replies)?;
+        self.first_decision(64)?;
+        let quorum = self.second_quorum();
+        self.second_decision(&quorum)
+    }
 }

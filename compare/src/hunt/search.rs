@@ -33,6 +33,7 @@ pub const ORDERS: &[(&str, Order)] = &[
     ("two leaders", Attack::two_leaders),
     ("proposes before entering", Attack::proposes_before_entering),
     ("borrowed ACC", Attack::borrowed_acc),
+    ("borrowed replies", Attack::borrowed_replies),
 ];
 
 /// A broken demand 3: how, by which order, and the shortest trace found.

@@ -1,0 +1,34 @@
+//! Accumulate: the latest stored block among f+1 NEWVIEWs of one view.
+
+use crate::certificate::{Certificate, ACC, NEWVIEW};
+use crate::form::well_formed;
+use crate::memory::{need, Answer, Memory, LIVE, RECOVERING};
+use crate::mistake::{Mistake, Rules};
+
+pub fn accumulate<R: Rules>(rules: R, m: &mut Memory, replica: u32, list: &[u32]) -> Answer {
+    need(well_formed(rules, m), 1)?;
+    need(m.is_replica(replica) && m.is_list_length(rules, list), 2)?;
+    need(m.all_issued(list), 3)?;
+    let status = m.replica(replica).status;
+    let let_in = rules.has(Mistake::AccumulateRecovering) && status == RECOVERING;
+    need(status == LIVE || let_in, 4)?;
+    let view = m.certificate(list[0]).view;
+    let one_view = |c: Certificate| c.view == view || rules.has(Mistake::AccumulateMixedViews);
+    let different = rules.has(Mistake::AccumulateSignerTwice) || m.different_signers(list);
+    need(m.all(list, |c| c.kind == NEWVIEW && one_view(c)) && different, 5)?;
+    let latest = if rules.has(Mistake::AccumulateTakesLast) {
+        m.certificate(list[list.len() - 1])
+    } else {
+        m.greatest(list, rules.has(Mistake::AccumulateTieLast))
+    };
+    let acc = Certificate {
+        kind: ACC,
+        signer: replica,
+        view,
+        block: latest.block,
+        of_view: latest.of_view,
+        ..Certificate::default()
+    };
+    let slot = m.slot_for(rules, acc)?;
+    Ok((m.file(rules, slot, acc), 0))
+}

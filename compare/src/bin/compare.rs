@@ -1,0 +1,152 @@
+//! `compare`: two programs on generated scripts, the firmware and the library on random memories.
+//!
+//! compare --yard PATH --second PATH [--scenarios DIR] [--seconds N] [--seed N]   scripts, byte for byte
+//! compare --memories [--seconds N] [--seed N]   memories: the firmware (feature `firmware`), else the library itself
+//! compare --self [--seconds N] [--seed N]       the harness alone: the library with itself
+//! compare --mistakes [--seed N]                 which mistakes the generators tell apart, and by what
+//! compare --coverage [--seed N]                 how often each generated call gets each answer
+//! compare --script SEED                         prints the script of a seed
+
+use judge::comparison::checkers::{Checker, Library};
+use judge::comparison::programs::{first_difference, output};
+use judge::comparison::samples::{call_difference, difference, panel_difference};
+use judge::comparison::shrink::{sample_text, shrink_sample, shrink_script};
+use judge::comparison::{coverage, mistakes};
+use judge::generate::scripts::script;
+use judge::mistake::Correct;
+use judge::options::Options;
+use judge::script::run;
+use std::io::Write;
+use std::process::ExitCode;
+use std::time::{Duration, Instant};
+
+type Run<'a> = &'a dyn Fn(&[u8]) -> Result<Vec<u8>, String>;
+
+fn main() -> ExitCode {
+    let known = ["yard", "second", "scenarios", "seconds", "seed", "script", "scripts", "count"];
+    match Options::read(&known, &["memories", "self", "mistakes", "coverage"]).and_then(|options| work(&options)) {
+        Ok(()) => ExitCode::SUCCESS,
+        Err(message) => {
+            eprintln!("compare: {message}");
+            ExitCode::FAILURE
+        }
+    }
+}
+
+fn work(options: &Options) -> Result<(), String> {
+    let seed = options.number("seed").unwrap_or(1);
+    let time = Duration::from_secs(options.number("seconds").unwrap_or(20));
+    if let Some(seed) = options.number("script") {
+        return std::io::stdout().write_all(&script(seed).text).map_err(|error| error.to_string());
+    }
+    let (scripts, memories) = (options.number("scripts").unwrap_or(300), options.number("count").unwrap_or(400_000));
+    if options.flag("coverage") {
+        coverage::tell(seed, scripts, memories);
+        return Ok(());
+    }
+    if options.flag("mistakes") {
+        return mistakes::tell(seed, scripts, memories).then_some(()).ok_or("a mistake is missed".to_string());
+    }
+    if options.flag("self") {
+        let own: Run = &|text| Ok(run(Correct, text));
+        compare_scripts(own, own, seed, time)?;
+        return compare_memories(&Library(Correct), seed, time);
+    }
+    if options.flag("memories") {
+        return compare_memories(checker().as_ref(), seed, time);
+    }
+    let (Some(yard), Some(second)) = (options.text("yard"), options.text("second")) else {
+        return Err("give --yard PATH and --second PATH, or --memories, --self or --mistakes".to_string());
+    };
+    if let Some(directory) = options.text("scenarios") {
+        compare_scenarios(directory, &[yard, second])?;
+    }
+    compare_scripts(&|text| output(yard, text), &|text| output(second, text), seed, time)
+}
+
+#[cfg(feature = "firmware")]
+fn checker() -> Box<dyn Checker> {
+    println!("the firmware against the library");
+    Box::new(judge::comparison::firmware::Firmware)
+}
+
+#[cfg(not(feature = "firmware"))]
+fn checker() -> Box<dyn Checker> {
+    println!("built without the feature `firmware`: the library against itself");
+    Box::new(Library(Correct))
+}
+
+fn compare_scripts(one: Run, other: Run, seed: u64, time: Duration) -> Result<(), String> {
+    let start = Instant::now();
+    let (mut scripts, mut lines) = (0, 0);
+    while start.elapsed() < time {
+        let script = script(seed + scripts);
+        let at = |error: String| format!("seed {}: {error}", seed + scripts);
+        let (left, right) = (one(&script.text).map_err(at)?, other(&script.text).map_err(at)?);
+        if let Some(line) = first_difference(&left, &right) {
+            println!("seed {} ({}): outputs differ at line {line}", seed + scripts, script.sort);
+            tell_script(one, other, &script.text)?;
+            return Err("scripts differ".to_string());
+        }
+        scripts += 1;
+        lines += left.len() / 33;
+    }
+    println!("{scripts} scripts, {lines} lines, no difference (seeds {seed} to {})", seed + scripts - 1);
+    Ok(())
+}
+
+/// The smallest script that still shows the difference, each line with both answers.
+fn tell_script(one: Run, other: Run, text: &[u8]) -> Result<(), String> {
+    let differs = |text: &[u8]| matches!((one(text), other(text)), (Ok(left), Ok(right)) if left != right);
+    let small = shrink_script(text, differs);
+    let lines = |bytes: &[u8]| String::from_utf8_lossy(bytes).lines().map(str::to_string).collect::<Vec<_>>();
+    let (left, right) = (lines(&one(&small)?), lines(&other(&small)?));
+    println!("smallest script, {} lines:", left.len());
+    for (place, line) in lines(&small).iter().enumerate() {
+        let answer = |answers: &[String]| answers.get(place).map_or("nothing".to_string(), |line| line.to_string());
+        let (one, other) = (answer(&left), answer(&right));
+        let mark = if one == other { String::new() } else { format!("  <-> {other}") };
+        println!("{line:<56} -> {one}{mark}");
+    }
+    Ok(())
+}
+
+fn compare_memories(checker: &dyn Checker, seed: u64, time: Duration) -> Result<(), String> {
+    let start = Instant::now();
+    let library = Library(Correct);
+    let mut count = 0;
+    while count % 256 != 0 || start.elapsed() < time {
+        if let Some((told, sample)) = difference(checker, &library, seed + count) {
+            println!("seed {}: {told}", seed + count);
+            if let Some(sample) = sample {
+                let tell =
+                    |s: &_| call_difference(checker, &library, s).or_else(|| panel_difference(checker, &library, s));
+                let small = shrink_sample(&sample, |sample| tell(sample).is_some());
+                println!("smallest memory:\n{}  {}", sample_text(&small), tell(&small).unwrap_or_default());
+            }
+            return Err("memories differ".to_string());
+        }
+        count += 1;
+    }
+    println!("{count} memories, no difference (seeds {seed} to {})", seed + count - 1);
+    Ok(())
+}
+
+/// Every NAME.txt of the directory gives its NAME.out.
+fn compare_scenarios(directory: &str, programs: &[&str]) -> Result<(), String> {
+    let listing = std::fs::read_dir(directory).map_err(|error| format!("{directory}: {error}"))?;
+    let mut paths: Vec<_> = listing.filter_map(|entry| Some(entry.ok()?.path())).collect();
+    paths.retain(|path| path.extension().is_some_and(|extension| extension == "txt"));
+    paths.sort();
+    for path in &paths {
+        let read = |path: &std::path::Path| std::fs::read(path).map_err(|error| format!("{}: {error}", path.display()));
+        let (input, expected) = (read(path)?, read(&path.with_extension("out"))?);
+        for program in programs {
+            if let Some(line) = first_difference(&output(program, &input)?, &expected) {
+                return Err(format!("{program} differs on {} at line {line}", path.display()));
+            }
+        }
+    }
+    println!("{} scenarios, no difference", paths.len());
+    Ok(())
+}

@@ -1,0 +1,82 @@
+//! Call codes, as in a script line and in the C interface: code, replica, number, list.
+
+use crate::accumulator::accumulate;
+use crate::checker::{block, decide, open, prepare, store, view, Justification};
+use crate::memory::{Answer, Memory};
+use crate::mistake::{Mistake, Rules};
+use crate::recovery::{reboot, recover, reply, request, reserve};
+
+pub const OPEN: u32 = 0;
+pub const BLOCK: u32 = 1;
+pub const PREPARE_ACC: u32 = 2;
+pub const PREPARE_COMMITS: u32 = 3;
+pub const STORE: u32 = 4;
+pub const VIEW: u32 = 5;
+pub const ACCUMULATE: u32 = 6;
+pub const DECIDE: u32 = 7;
+pub const REBOOT: u32 = 8;
+pub const RESERVE: u32 = 9;
+pub const REQUEST: u32 = 10;
+pub const REPLY_TO: u32 = 11;
+pub const RECOVER: u32 = 12;
+
+/// Most numbers of a list in a script line.
+pub const MAX_LIST: usize = 31;
+
+/// Number returned and both values.
+#[derive(Clone, Copy, PartialEq, Eq, Debug)]
+pub struct Outcome {
+    pub answer: u32,
+    pub first: u32,
+    pub second: u32,
+}
+
+impl From<Answer> for Outcome {
+    fn from(answer: Answer) -> Outcome {
+        match answer {
+            Ok((first, second)) => Outcome { answer: 0, first, second },
+            Err(answer) => Outcome { answer, first: 0, second: 0 },
+        }
+    }
+}
+
+/// Whether the numbers make a call: a code up to 12, unused numbers 0, a list only where the call has one.
+pub fn is_call<R: Rules>(rules: R, code: u32, replica: u32, number: u32, list: &[u32]) -> bool {
+    let list_fits = match code {
+        PREPARE_ACC => list.len() == 1,
+        PREPARE_COMMITS | ACCUMULATE | DECIDE | RECOVER => list.len() <= MAX_LIST,
+        _ => list.is_empty(),
+    };
+    let unused = match code {
+        BLOCK => replica,
+        OPEN | ACCUMULATE | DECIDE | REBOOT | RESERVE | REQUEST | RECOVER => number,
+        _ => 0,
+    };
+    code <= RECOVER && list_fits && (unused == 0 || rules.has(Mistake::TextUnused))
+}
+
+/// One call by its code; 10 where the numbers make no call.
+pub fn call<R: Rules>(rules: R, m: &mut Memory, code: u32, replica: u32, number: u32, list: &[u32]) -> Outcome {
+    if !is_call(rules, code, replica, number, list) {
+        return Outcome::from(Err(10));
+    }
+    if rules.has(Mistake::RefuseAll) && code != OPEN {
+        return Outcome::from(Err(4));
+    }
+    let answer = match code {
+        OPEN => open(rules, m, replica),
+        BLOCK => block(rules, m, number),
+        PREPARE_ACC => prepare(rules, m, replica, number, Justification::Acc(list[0])),
+        PREPARE_COMMITS => prepare(rules, m, replica, number, Justification::Commits(list)),
+        STORE => store(rules, m, replica, number),
+        VIEW => view(rules, m, replica, number),
+        ACCUMULATE => accumulate(rules, m, replica, list),
+        DECIDE => decide(rules, m, replica, list),
+        REBOOT => reboot(rules, m, replica),
+        RESERVE => reserve(rules, m, replica),
+        REQUEST => request(rules, m, replica),
+        REPLY_TO => reply(rules, m, replica, number),
+        _ => recover(rules, m, replica, list),
+    };
+    Outcome::from(answer)
+}

@@ -1,0 +1,158 @@
+//! Open, block, prepare, store, view and decide.
+
+use crate::certificate::{Certificate, ACC, COMMIT, NEWVIEW, PROP};
+use crate::form::{blocks_length_fits, log_length_fits, well_formed};
+use crate::memory::*;
+use crate::mistake::{Mistake, Rules};
+
+/// What lets a leader propose (document 01: ground): an ACC's number, or a list of matching commits.
+#[derive(Clone, Copy, Debug)]
+pub enum Justification<'a> {
+    Acc(u32),
+    Commits(&'a [u32]),
+}
+
+pub fn open<R: Rules>(rules: R, m: &mut Memory, f: u32) -> Answer {
+    need((1..=MAX_F).contains(&f), 2)?;
+    let lengths =
+        m.table.len() as u64 == table_length(f) && log_length_fits(m.log.len()) && blocks_length_fits(m.blocks.len());
+    need(lengths, 1)?;
+    m.table[0] = f;
+    m.table[1] = 0;
+    m.table[2] = 1;
+    m.blocks[0] = 0;
+    if rules.has(Mistake::OpenClearsLog) {
+        m.log.fill(0);
+    }
+    let fresh = Replica { min_view: 1, view_limit: COUNTER_STEPS[0], ..Replica::from_words(&[0; REPLICA_WORDS]) };
+    for replica in 0..m.replicas() {
+        m.set_replica(replica, fresh);
+    }
+    Ok((m.replicas(), 0))
+}
+
+pub fn block<R: Rules>(rules: R, m: &mut Memory, parent: u32) -> Answer {
+    need(well_formed(rules, m), 1)?;
+    need(m.is_added(parent), 3)?;
+    let number = m.added();
+    let kept = u64::from(rules.has(Mistake::NineBlocksEarly));
+    need(u64::from(number) + kept < m.blocks.len() as u64, 9)?;
+    m.blocks[number as usize] = parent;
+    if !rules.has(Mistake::BlockCountStays) {
+        m.table[2] += 1;
+    }
+    Ok((number, 0))
+}
+
+/// The view and block that a justification grounds, or 5.
+fn justified<R: Rules>(rules: R, m: &Memory, replica: u32, j: Justification) -> Result<(u32, u32), u32> {
+    match j {
+        Justification::Acc(number) => {
+            let acc = m.certificate(number);
+            let own = acc.signer == replica || rules.has(Mistake::PrepareOtherAcc);
+            need(acc.kind == ACC && own, 5)?;
+            Ok((acc.view, acc.block))
+        }
+        Justification::Commits(list) => {
+            let (view, block) = m.commit_quorum(rules, list).ok_or(5u32)?;
+            Ok((view.saturating_add(1), block))
+        }
+    }
+}
+
+pub fn prepare<R: Rules>(rules: R, m: &mut Memory, replica: u32, block: u32, j: Justification) -> Answer {
+    need(well_formed(rules, m), 1)?;
+    let (list_fits, issued) = match j {
+        Justification::Acc(number) => (true, m.is_issued(number)),
+        Justification::Commits(list) => (m.is_list_length(rules, list), m.all_issued(list)),
+    };
+    need(m.is_replica(replica) && list_fits, 2)?;
+    need(issued && m.is_added(block), 3)?;
+    let mut r = m.replica(replica);
+    let let_in = rules.has(Mistake::PrepareRecovering) && r.status == RECOVERING;
+    need(r.status == LIVE || let_in, 4)?;
+    let (w, ground) = justified(rules, m, replica, j)?;
+    let any_leader = rules.has(Mistake::PrepareAnyLeader) || rules.has(Mistake::LeaderNowhere);
+    need(m.leads(replica, w) || any_leader, 5)?;
+    need(block != 0 || rules.has(Mistake::PrepareBlockZero), 6)?;
+    need(m.parent(block) == ground || rules.has(Mistake::PrepareAnyParent), 6)?;
+    need(r.min_view == w || rules.has(Mistake::PrepareAboveMinView) && r.min_view < w, 7)?;
+    need(r.flag == 0 || rules.has(Mistake::PrepareIgnoresFlag), 7)?;
+    need(below_limit(w, r, rules.has(Mistake::PrepareLimitInclusive)), 8)?;
+    let prop = Certificate { kind: PROP, signer: replica, view: w, block, ..Certificate::default() };
+    let slot = m.slot_for(rules, prop)?;
+    r.flag = 1;
+    m.set_replica(replica, r);
+    Ok((m.file(rules, slot, prop), 0))
+}
+
+fn below_limit(view: u32, r: Replica, inclusive: bool) -> bool {
+    view < r.view_limit || inclusive && view == r.view_limit
+}
+
+pub fn store<R: Rules>(rules: R, m: &mut Memory, replica: u32, number: u32) -> Answer {
+    need(well_formed(rules, m), 1)?;
+    need(m.is_replica(replica), 2)?;
+    need(m.is_issued(number), 3)?;
+    let mut r = m.replica(replica);
+    let let_in = rules.has(Mistake::StoreRecovering) && r.status == RECOVERING;
+    need(r.status == LIVE || let_in, 4)?;
+    let Certificate { kind, signer, view, block, .. } = m.certificate(number);
+    need(kind == PROP, 5)?;
+    let any_leader = rules.has(Mistake::StoreAnyLeader) || rules.has(Mistake::LeaderNowhere);
+    need(m.leads(signer, view) || any_leader, 5)?;
+    need(view >= r.min_view || rules.has(Mistake::StoreBelowMinView), 7)?;
+    need(below_limit(view, r, rules.has(Mistake::StoreLimitInclusive)), 8)?;
+    let commit = Certificate { kind: COMMIT, signer: replica, view, block, ..Certificate::default() };
+    let slot = m.slot_for(rules, commit)?;
+    if !rules.has(Mistake::StoreChangesNothing) {
+        r.stored_view = view;
+        r.stored_block = block;
+        r.min_view = view + 1;
+        r.flag = 0;
+        m.set_replica(replica, r);
+    }
+    Ok((m.file(rules, slot, commit), 0))
+}
+
+pub fn view<R: Rules>(rules: R, m: &mut Memory, replica: u32, w: u32) -> Answer {
+    need(well_formed(rules, m), 1)?;
+    let in_range = 1 <= w && (w <= LIMIT || rules.has(Mistake::ViewPastLimit));
+    need(m.is_replica(replica) && in_range, 2)?;
+    let mut r = m.replica(replica);
+    let let_in = rules.has(Mistake::ViewRecovering) && r.status == RECOVERING;
+    need(r.status == LIVE || let_in, 4)?;
+    need(w >= r.min_view || rules.has(Mistake::ViewBelowMinView), 7)?;
+    need(below_limit(w, r, rules.has(Mistake::ViewLimitInclusive)), 8)?;
+    let newview = Certificate {
+        kind: NEWVIEW,
+        signer: replica,
+        view: w,
+        block: r.stored_block,
+        of_view: r.stored_view,
+        ..Certificate::default()
+    };
+    let slot = m.slot_for(rules, newview)?;
+    if w > r.min_view || rules.has(Mistake::ViewClearsFlag) {
+        r.flag = 0;
+    }
+    r.min_view = w;
+    m.set_replica(replica, r);
+    Ok((m.file(rules, slot, newview), 0))
+}
+
+pub fn decide<R: Rules>(rules: R, m: &mut Memory, replica: u32, list: &[u32]) -> Answer {
+    need(well_formed(rules, m), 1)?;
+    need(m.is_replica(replica) && m.is_list_length(rules, list), 2)?;
+    need(m.all_issued(list), 3)?;
+    let (view, quorum_block) = m.commit_quorum(rules, list).ok_or(5u32)?;
+    let block = if rules.has(Mistake::DecideBlockZero) { 0 } else { quorum_block };
+    let mut r = m.replica(replica);
+    let equal = rules.has(Mistake::DecideShowsEqual) && view == r.decided_view;
+    if view > r.decided_view || equal || rules.has(Mistake::DecideShowsLower) {
+        r.decided_view = view;
+        r.decided_block = block;
+        m.set_replica(replica, r);
+    }
+    Ok((block, view))
+}

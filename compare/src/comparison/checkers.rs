@@ -1,0 +1,40 @@
+//! What is compared on memories: the library by any rules, and (feature `firmware`) the proved firmware.
+
+use crate::call::Outcome;
+use crate::field::{read_number, write_number};
+use crate::generate::memory::Sample;
+use crate::mistake::Rules;
+use crate::panel::panel;
+
+/// The four functions of the C interface.
+pub trait Checker {
+    fn call(&self, sample: &mut Sample) -> Outcome;
+    /// Number returned and height.
+    fn panel(&self, sample: &mut Sample, replica: u32) -> (u32, u32);
+    fn read_number(&self, bytes: &[u8]) -> u32;
+    fn write_number(&self, number: u32, bytes: &mut [u8]) -> u32;
+}
+
+/// The library of this package.
+pub struct Library<R: Rules>(pub R);
+
+impl<R: Rules> Checker for Library<R> {
+    fn call(&self, sample: &mut Sample) -> Outcome {
+        sample.run(self.0)
+    }
+
+    fn panel(&self, sample: &mut Sample, replica: u32) -> (u32, u32) {
+        match panel(self.0, &sample.memory(), replica) {
+            Ok(height) => (0, height),
+            Err(refusal) => (refusal, 0),
+        }
+    }
+
+    fn read_number(&self, bytes: &[u8]) -> u32 {
+        read_number(self.0, bytes)
+    }
+
+    fn write_number(&self, number: u32, bytes: &mut [u8]) -> u32 {
+        write_number(number, bytes)
+    }
+}

@@ -1,0 +1,11 @@
+//! The comparison of two programs on scripts and of two checkers on memories.
+
+pub mod checkers;
+pub mod coverage;
+#[cfg(feature = "firmware")]
+pub mod firmware;
+pub mod mistakes;
+pub mod programs;
+pub mod renumber;
+pub mod samples;
+pub mod shrink;

@@ -1,0 +1,113 @@
+//! Makes a script or a memory smaller as long as it still shows the difference.
+
+use super::renumber::Lines;
+use crate::generate::memory::Sample;
+use crate::memory::{CERTIFICATE_WORDS, HEADER};
+use std::time::{Duration, Instant};
+
+const TIME: Duration = Duration::from_secs(20);
+
+/// Leaves out runs of lines, long ones first, again and again until nothing more can go.
+pub fn shrink_script(script: &[u8], differs: impl Fn(&[u8]) -> bool) -> Vec<u8> {
+    let end = Instant::now() + TIME;
+    let lines = Lines::read(script);
+    let mut kept: Vec<usize> = (0..lines.count()).collect();
+    let mut before = kept.len() + 1;
+    while kept.len() < before && Instant::now() < end {
+        before = kept.len();
+        let mut run = kept.len().div_ceil(2);
+        while run > 0 {
+            kept = without_runs(&lines, kept, run, end, &differs);
+            run /= 2;
+        }
+    }
+    lines.keep(&kept)
+}
+
+/// Leaves out runs of this length, from the end on.
+fn without_runs(
+    lines: &Lines,
+    mut kept: Vec<usize>,
+    run: usize,
+    end: Instant,
+    differs: &impl Fn(&[u8]) -> bool,
+) -> Vec<usize> {
+    let mut place = kept.len();
+    while place > 0 && Instant::now() < end {
+        place = place.saturating_sub(run);
+        let mut fewer = kept.clone();
+        fewer.drain(place..(place + run).min(kept.len()));
+        if differs(&lines.keep(&fewer)) {
+            kept = fewer;
+        }
+    }
+    kept
+}
+
+/// Drops free slots and the last certificates, shortens the list, and sets words to 0 or to a fresh replica's.
+pub fn shrink_sample(sample: &Sample, differs: impl Fn(&Sample) -> bool) -> Sample {
+    let end = Instant::now() + TIME;
+    let mut best = sample.clone();
+    let mut smaller = true;
+    while smaller && Instant::now() < end {
+        smaller = false;
+        for next in candidates(&best) {
+            if next != best && differs(&next) {
+                best = next;
+                smaller = true;
+                break;
+            }
+        }
+    }
+    best
+}
+
+/// Memories one step simpler than this one.
+fn candidates(sample: &Sample) -> Vec<Sample> {
+    let mut all = Vec::new();
+    let mut add = |change: &dyn Fn(&mut Sample)| {
+        let mut next = sample.clone();
+        change(&mut next);
+        all.push(next);
+    };
+    let kept = sample.log.len().saturating_sub(CERTIFICATE_WORDS);
+    add(&|next| next.log.truncate(kept));
+    if sample.table.len() >= HEADER && sample.table[1] > 0 {
+        add(&|next| next.table[1] -= 1);
+        add(&|next| {
+            next.table[1] -= 1;
+            next.log.truncate(kept);
+        });
+    }
+    if sample.blocks.len() > 1 {
+        add(&|next| next.blocks.truncate(sample.blocks.len() - 1));
+    }
+    for word in HEADER..sample.table.len() {
+        let fresh = [0, 0, 1, 64, 0, 0, 0, 0, 0][(word - HEADER) % 9];
+        if sample.table[word] != fresh {
+            add(&|next| next.table[word] = fresh);
+        }
+    }
+    for word in (0..sample.log.len()).filter(|&word| sample.log[word] > 1) {
+        add(&|next| next.log[word] = next.log[word].min(1));
+    }
+    for word in (0..sample.blocks.len()).filter(|&word| sample.blocks[word] != 0) {
+        add(&|next| next.blocks[word] = 0);
+    }
+    all
+}
+
+/// The memory and its call, as text that a person can read.
+pub fn sample_text(sample: &Sample) -> String {
+    let rows =
+        |words: &[u32], width: usize| words.chunks(width).map(|row| format!("    {row:?}\n")).collect::<String>();
+    let (head, replicas) = sample.table.split_at(sample.table.len().min(HEADER));
+    format!(
+        "  call {}\n  table {head:?}\n{}  log, {} words\n{}  blocks {:?}\n",
+        sample.line.text(),
+        rows(replicas, 9),
+        sample.log.len(),
+        rows(&sample.log, CERTIFICATE_WORDS),
+        sample.blocks
+    )
+}

@@ -1,0 +1,135 @@
+//! Scripts at the edges: a full log, full blocks, the counter's end, boots past 7, retired replicas, openings again.
+
+use crate::call::*;
+use crate::driver::{Driver, Line};
+use crate::explore::Explorer;
+use crate::memory::LIMIT;
+use crate::mistake::Correct;
+use crate::random::Random;
+use crate::script::{BLOCK_SLOTS, CERTIFICATE_SLOTS};
+
+fn explorer(mut random: Random, f: u32) -> Explorer<Correct> {
+    let noise = random.pick(&[2, 4, 8]);
+    Explorer { driver: Driver::open(Correct, f, CERTIFICATE_SLOTS, BLOCK_SLOTS), random, noise }
+}
+
+/// NEWVIEWs until the log is full or nearly so, then random hosts.
+pub fn full_log(mut random: Random, f: u32) -> Vec<Line> {
+    let left = random.pick(&[0, 0, 1, 2, 5]);
+    let mut hosts = explorer(random, f);
+    let (n, mut view) = (hosts.driver.n(), 1);
+    while hosts.driver.issued() + left < CERTIFICATE_SLOTS as u32 {
+        for replica in 0..n {
+            if hosts.driver.issued() + left < CERTIFICATE_SLOTS as u32 {
+                hosts.driver.enter(replica, view);
+            }
+        }
+        view += 1;
+    }
+    for _ in 0..60 {
+        // An old view again: found where the replica still stands there.
+        let replica = hosts.random.below(n);
+        let at = hosts.driver.replica(replica).min_view;
+        hosts.driver.call(VIEW, replica, at, &[]);
+        hosts.step();
+    }
+    hosts.driver.lines()
+}
+
+/// Blocks until no slot is free, with hosts at work now and then.
+pub fn full_blocks(random: Random, f: u32) -> Vec<Line> {
+    let mut hosts = explorer(random, f);
+    for _ in 0..BLOCK_SLOTS + 2 {
+        let added = hosts.driver.added();
+        let parent = if hosts.random.once_in(4) { hosts.random.below(added) } else { added - 1 };
+        hosts.driver.call(BLOCK, 0, parent, &[]);
+        if hosts.random.once_in(16) {
+            hosts.step();
+        }
+    }
+    for _ in 0..40 {
+        hosts.step();
+    }
+    hosts.driver.lines()
+}
+
+/// Three reserves of 64 and 981 cuts bring the limit to just 1,000,000; other numbers pass it by.
+pub fn counter_by_cuts(mut random: Random, f: u32) -> Vec<Line> {
+    let reserves = random.pick(&[3, 3, 3, 2, 4]);
+    let mut hosts = explorer(random, f);
+    let replica = hosts.random.below(hosts.driver.n());
+    for _ in 0..reserves {
+        hosts.driver.call(RESERVE, replica, 0, &[]);
+    }
+    while hosts.driver.replica(replica).view_limit + 1024 < LIMIT {
+        hosts.driver.call(REBOOT, replica, 0, &[]);
+    }
+    let last = hosts.random.pick(&[REBOOT, RESERVE]);
+    hosts.driver.call(last, replica, 0, &[]);
+    at_the_end(&mut hosts, replica);
+    hosts.driver.lines()
+}
+
+/// Reserves of 64 alone, up to 1,000,000.
+pub fn counter_by_reserves(random: Random, f: u32) -> Vec<Line> {
+    let mut hosts = explorer(random, f);
+    let replica = hosts.random.below(hosts.driver.n());
+    while hosts.driver.replica(replica).view_limit < LIMIT {
+        hosts.driver.call(RESERVE, replica, 0, &[]);
+    }
+    at_the_end(&mut hosts, replica);
+    hosts.driver.lines()
+}
+
+/// The last views, the refused reserve, the retiring cut, and what a retired replica may still do.
+fn at_the_end(hosts: &mut Explorer<Correct>, replica: u32) {
+    let limit = hosts.driver.replica(replica).view_limit;
+    hosts.driver.call(RESERVE, replica, 0, &[]);
+    if hosts.random.once_in(2) {
+        let others: Vec<u32> = (0..hosts.driver.n()).filter(|&other| other != replica).collect();
+        hosts.driver.restore(replica, &others);
+    }
+    for view in [limit - 1, limit, LIMIT, LIMIT + 1] {
+        hosts.driver.call(VIEW, replica, view, &[]);
+    }
+    for code in [REQUEST, REBOOT, RESERVE, REBOOT, REQUEST] {
+        hosts.driver.call(code, replica, 0, &[]);
+    }
+    for _ in 0..40 {
+        hosts.step();
+    }
+}
+
+/// Some replicas cut again and again with reserves between, so that every step of the counter is used.
+pub fn many_boots(random: Random, f: u32) -> Vec<Line> {
+    let mut hosts = explorer(random, f);
+    for _ in 0..80 {
+        let replica = hosts.random.below(2);
+        let code = hosts.random.pick(&[REBOOT, REBOOT, RESERVE]);
+        hosts.driver.call(code, replica, 0, &[]);
+        if hosts.random.once_in(3) {
+            let others: Vec<u32> = (0..hosts.driver.n()).filter(|&other| other != replica).collect();
+            hosts.driver.restore(replica, &others);
+        }
+        hosts.step();
+    }
+    hosts.driver.lines()
+}
+
+/// Hosts at work in several ledgers, one opened after the other, with refused openings between.
+pub fn openings(random: Random) -> Vec<Line> {
+    let mut hosts = explorer(random, 1);
+    for _ in 0..hosts.random.within(2, 5) {
+        let f = hosts.random.within(1, 30);
+        hosts.driver.reopen(f);
+        for _ in 0..hosts.random.within(1, 60) {
+            hosts.step();
+        }
+        let refused = hosts.random.pick(&[0, 31, 32, 1000, 99_999_999]);
+        hosts.driver.call(OPEN, refused, 0, &[]);
+        for _ in 0..hosts.random.within(1, 20) {
+            hosts.step();
+        }
+    }
+    hosts.driver.lines()
+}

@@ -1,0 +1,170 @@
+//! Random memory of sound form, with garbage past the counts, and one call.
+
+use super::perturb::{damage_form, nudge};
+use super::ready::make_ready;
+use crate::call::*;
+use crate::certificate::Certificate;
+use crate::driver::Line;
+use crate::memory::*;
+use crate::mistake::Rules;
+use crate::random::Random;
+
+/// Three slices and a call on them.
+#[derive(Clone, PartialEq, Eq, Debug)]
+pub struct Sample {
+    pub table: Vec<u32>,
+    pub log: Vec<u32>,
+    pub blocks: Vec<u32>,
+    pub line: Line,
+}
+
+impl Sample {
+    pub fn memory(&mut self) -> Memory<'_> {
+        Memory { table: &mut self.table, log: &mut self.log, blocks: &mut self.blocks }
+    }
+
+    pub fn run<R: Rules>(&mut self, rules: R) -> Outcome {
+        let line = self.line.clone();
+        call(rules, &mut self.memory(), line.code, line.replica, line.number, &line.list)
+    }
+
+    pub fn n(&self) -> u32 {
+        2 * self.table[0] + 1
+    }
+
+    pub fn set_certificate(&mut self, number: u32, to: Certificate) {
+        let start = CERTIFICATE_WORDS * number as usize;
+        self.log[start..start + CERTIFICATE_WORDS].copy_from_slice(&to.words());
+    }
+}
+
+/// A memory and a call for a seed: often nearly acceptable, sometimes damaged, sometimes of wrong lengths.
+pub fn sample(seed: u64) -> Sample {
+    let mut random = Random::new(seed);
+    let mut sample = well_formed_memory(&mut random);
+    sample.line = any_line(&mut random, &sample);
+    if !random.once_in(6) {
+        make_ready(&mut random, &mut sample);
+    }
+    if random.once_in(3) {
+        issue_beforehand(&mut sample, random.once_in(2));
+    }
+    for _ in 0..random.pick(&[0, 0, 1, 1, 2]) {
+        nudge(&mut random, &mut sample);
+    }
+    if random.once_in(3) {
+        damage_form(&mut random, &mut sample);
+    }
+    sample
+}
+
+/// Puts the certificate that the call would issue into the log; the replica's words stay.
+fn issue_beforehand(sample: &mut Sample, fill: bool) {
+    let mut after = sample.clone();
+    if after.run(crate::mistake::Correct).answer == 0 && sample.line.code != OPEN {
+        sample.log = after.log;
+        sample.table[1] = after.table[1];
+        if fill {
+            sample.log.truncate(CERTIFICATE_WORDS * sample.table[1] as usize);
+        }
+    }
+}
+
+fn garbage(random: &mut Random) -> u32 {
+    random.pick(&[0, 1, 2, 3, 7, 1_000_001, u32::MAX])
+}
+
+/// Small views mostly, so that they meet; the edges of the counter too.
+pub fn any_view(random: &mut Random) -> u32 {
+    match random.below(8) {
+        0 => random.pick(&[63, 64, 65, 127, 128]),
+        1 => random.pick(&[LIMIT - 65, LIMIT - 64, LIMIT - 2, LIMIT - 1, LIMIT]),
+        _ => random.below(6),
+    }
+}
+
+fn any_boot(random: &mut Random) -> u32 {
+    match random.below(6) {
+        0 => random.pick(&[LIMIT - 1, LIMIT]),
+        _ => random.below(10),
+    }
+}
+
+fn well_formed_memory(random: &mut Random) -> Sample {
+    let f = random.pick(&[1, 1, 1, 2, 2, 3, 5, 30]);
+    let added = random.within(1, 6);
+    let quorum = f + 1;
+    let issued = if random.once_in(6) { random.below(4) } else { quorum + random.below(5) };
+    let free = random.pick(&[0, 1, 1, 2, 3]);
+    let blocks = added + random.pick(&[0, 1, 2]);
+    let mut sample = Sample {
+        table: vec![0; table_length(f) as usize],
+        log: (0..CERTIFICATE_WORDS as u32 * (issued + free)).map(|_| garbage(random)).collect(),
+        blocks: (0..blocks).map(|_| garbage(random)).collect(),
+        line: Line::new(OPEN, 0, 0, &[]),
+    };
+    sample.table[..HEADER].copy_from_slice(&[f, issued, added]);
+    sample.blocks[0] = 0;
+    for block in 1..added {
+        sample.blocks[block as usize] = random.below(block);
+    }
+    for replica in 0..sample.n() {
+        let r = any_replica(random, added);
+        sample.memory().set_replica(replica, r);
+    }
+    for number in 0..issued {
+        let c = any_certificate(random, sample.n(), added);
+        sample.set_certificate(number, c);
+    }
+    sample
+}
+
+fn any_replica(random: &mut Random, added: u32) -> Replica {
+    let view_limit = any_view(random).max(1);
+    let min_view = if random.once_in(2) { random.within(1, view_limit.min(6)) } else { random.within(1, view_limit) };
+    Replica {
+        status: random.pick(&[LIVE, LIVE, RECOVERING, RETIRED]),
+        boot: any_boot(random),
+        min_view,
+        view_limit,
+        flag: random.below(2),
+        stored_view: random.below(min_view),
+        stored_block: random.below(added),
+        decided_view: any_view(random),
+        decided_block: random.below(added),
+    }
+}
+
+pub fn any_certificate(random: &mut Random, n: u32, added: u32) -> Certificate {
+    Certificate {
+        kind: random.within(1, 6),
+        signer: random.below(n),
+        view: any_view(random),
+        block: random.below(added),
+        of_view: any_view(random),
+        subject: random.below(n),
+        boot: any_boot(random),
+    }
+}
+
+/// A call with numbers mostly in range.
+fn any_line(random: &mut Random, sample: &Sample) -> Line {
+    let (f, issued, added) = (sample.table[0], sample.table[1], sample.table[2]);
+    let code = random.below(13);
+    let replica = if random.once_in(24) { sample.n() + random.below(2) } else { random.below(sample.n()) };
+    let length = if random.once_in(12) { random.below(MAX_LIST as u32 + 1) } else { f + 1 };
+    let list: Vec<u32> = (0..length).map(|_| random.nearly_below(issued, 30)).collect();
+    let certificate = random.nearly_below(issued, 12);
+    let block = random.nearly_below(added, 12);
+    let view = any_view(random) + u32::from(random.once_in(8));
+    match code {
+        OPEN => Line::new(code, random.pick(&[0, f, f, f, 1, 30, 31, u32::MAX]), 0, &[]),
+        BLOCK => Line::new(code, 0, block, &[]),
+        PREPARE_ACC => Line::new(code, replica, block, &[certificate]),
+        PREPARE_COMMITS => Line::new(code, replica, block, &list),
+        STORE | REPLY_TO => Line::new(code, replica, certificate, &[]),
+        VIEW => Line::new(code, replica, view, &[]),
+        ACCUMULATE | DECIDE | RECOVER => Line::new(code, replica, 0, &list),
+        _ => Line::new(code, replica, 0, &[]),
+    }
+}

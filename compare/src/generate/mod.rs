@@ -1,0 +1,9 @@
+//! Seeded generators: scripts, and memories with one call each.
+
+pub mod boundary;
+pub mod damage;
+pub mod memory;
+pub mod perturb;
+pub mod progress;
+pub mod ready;
+pub mod scripts;

@@ -1,0 +1,160 @@
+//! Makes a memory ready for its call: the certificates it names and its replica's words become acceptable, or nearly.
+
+use super::memory::{any_view, Sample};
+use crate::call::*;
+use crate::certificate::*;
+use crate::memory::{Replica, LIMIT, LIVE, RECOVERING};
+use crate::random::Random;
+
+pub fn make_ready(random: &mut Random, sample: &mut Sample) {
+    let (f, n, issued) = (sample.table[0], sample.n(), sample.table[1]);
+    if sample.line.replica >= n || issued < f + 1 {
+        return;
+    }
+    let mut places: Vec<u32> = (0..issued).collect();
+    random.shuffle(&mut places);
+    places.truncate(f as usize + 1);
+    match sample.line.code {
+        PREPARE_ACC => ready_for_acc(random, sample, places[0]),
+        PREPARE_COMMITS | DECIDE => ready_for_commits(random, sample, places),
+        STORE => ready_for_store(random, sample, places[0]),
+        VIEW => ready_for_view(random, sample),
+        ACCUMULATE => ready_for_accumulate(random, sample, places),
+        REPLY_TO => ready_for_reply(random, sample, places[0]),
+        RECOVER => ready_for_recover(random, sample, places),
+        _ => {}
+    }
+}
+
+/// The call's replica.
+fn caller(sample: &mut Sample) -> Replica {
+    let replica = sample.line.replica;
+    sample.memory().replica(replica)
+}
+
+fn set_caller(sample: &mut Sample, r: Replica) {
+    let replica = sample.line.replica;
+    sample.memory().set_replica(replica, r);
+}
+
+/// Live in view w with flag 0, the limit a little above; stays of sound form.
+fn live_at(random: &mut Random, sample: &mut Sample, w: u32) {
+    let mut r = caller(sample);
+    r.status = LIVE;
+    r.flag = 0;
+    r.min_view = w.clamp(1, LIMIT);
+    r.view_limit = (r.min_view + random.pick(&[0, 1, 1, 2, 64])).min(LIMIT);
+    r.stored_view = random.below(r.min_view.min(8));
+    set_caller(sample, r);
+}
+
+/// Different signers in any order.
+fn signers(random: &mut Random, sample: &Sample, without: Option<u32>) -> Vec<u32> {
+    let mut signers: Vec<u32> = (0..sample.n()).filter(|&signer| Some(signer) != without).collect();
+    random.shuffle(&mut signers);
+    signers
+}
+
+/// A block whose parent is the ground, made so where there is one above it.
+fn child(random: &mut Random, sample: &mut Sample, ground: u32) -> u32 {
+    let added = sample.table[2];
+    if ground + 1 >= added {
+        return random.below(added);
+    }
+    let block = random.within(ground + 1, added - 1);
+    sample.blocks[block as usize] = ground;
+    block
+}
+
+fn ready_for_acc(random: &mut Random, sample: &mut Sample, place: u32) {
+    let (view, block) = (any_view(random), random.below(sample.table[2]));
+    sample.line.replica = view % sample.n();
+    let of_view = any_view(random);
+    let acc = Certificate { kind: ACC, signer: sample.line.replica, view, block, of_view, ..Certificate::default() };
+    sample.set_certificate(place, acc);
+    sample.line.list = vec![place];
+    sample.line.number = child(random, sample, block);
+    live_at(random, sample, view);
+}
+
+fn ready_for_commits(random: &mut Random, sample: &mut Sample, places: Vec<u32>) {
+    let (view, block) = (any_view(random), random.below(sample.table[2]));
+    let signers = signers(random, sample, None);
+    for (&place, &signer) in places.iter().zip(&signers) {
+        sample.set_certificate(place, Certificate { kind: COMMIT, signer, view, block, ..Certificate::default() });
+    }
+    sample.line.list = places;
+    if sample.line.code == PREPARE_COMMITS {
+        sample.line.replica = (view + 1) % sample.n();
+        sample.line.number = child(random, sample, block);
+        live_at(random, sample, view + 1);
+    } else {
+        let mut r = caller(sample);
+        r.decided_view = random.pick(&[0, view, view.saturating_sub(1), (view + 1).min(LIMIT)]);
+        set_caller(sample, r);
+    }
+}
+
+fn ready_for_store(random: &mut Random, sample: &mut Sample, place: u32) {
+    let (view, block) = (any_view(random), random.below(sample.table[2]));
+    let signer = view % sample.n();
+    sample.set_certificate(place, Certificate { kind: PROP, signer, view, block, ..Certificate::default() });
+    sample.line.number = place;
+    let below = random.pick(&[0, 0, 1, 2]);
+    live_at(random, sample, view.saturating_sub(below));
+}
+
+fn ready_for_view(random: &mut Random, sample: &mut Sample) {
+    let below = random.pick(&[0, 0, 1, 2]);
+    let w = sample.line.number;
+    live_at(random, sample, w.saturating_sub(below));
+    let mut r = caller(sample);
+    r.flag = random.below(2);
+    set_caller(sample, r);
+}
+
+fn ready_for_accumulate(random: &mut Random, sample: &mut Sample, places: Vec<u32>) {
+    let view = any_view(random);
+    let signers = signers(random, sample, None);
+    for (&place, &signer) in places.iter().zip(&signers) {
+        let (block, of_view) = (random.below(sample.table[2]), random.below(4));
+        let promise = Certificate { kind: NEWVIEW, signer, view, block, of_view, ..Certificate::default() };
+        sample.set_certificate(place, promise);
+    }
+    sample.line.list = places;
+    let mut r = caller(sample);
+    r.status = LIVE;
+    set_caller(sample, r);
+}
+
+fn ready_for_reply(random: &mut Random, sample: &mut Sample, place: u32) {
+    let view = any_view(random);
+    let signer = signers(random, sample, Some(sample.line.replica))[0];
+    let boot = random.below(4);
+    let subject = if random.once_in(4) { random.below(sample.n()) } else { signer };
+    sample.set_certificate(place, Certificate { kind: REQ, signer, view, subject, boot, ..Certificate::default() });
+    sample.line.number = place;
+    let mut r = caller(sample);
+    r.status = LIVE;
+    r.flag = random.below(2);
+    r.min_view = (view + random.below(3)).saturating_sub(1).clamp(1, LIMIT);
+    r.view_limit = (r.min_view + random.below(3)).min(LIMIT);
+    r.stored_view = random.below(r.min_view.min(8));
+    set_caller(sample, r);
+}
+
+fn ready_for_recover(random: &mut Random, sample: &mut Sample, places: Vec<u32>) {
+    let mut r = caller(sample);
+    let own = random.once_in(8);
+    let signers = signers(random, sample, if own { None } else { Some(sample.line.replica) });
+    let around = random.pick(&[0, r.min_view.saturating_sub(2)]);
+    for (&place, &signer) in places.iter().zip(&signers) {
+        let (block, of_view) = (random.below(sample.table[2]), (around + random.below(4)).min(LIMIT));
+        let (view, boot, subject) = (r.min_view, r.boot, sample.line.replica);
+        sample.set_certificate(place, Certificate { kind: REPLY, signer, view, block, of_view, subject, boot });
+    }
+    sample.line.list = places;
+    r.status = RECOVERING;
+    r.view_limit = (r.min_view + random.below(3)).min(LIMIT);
+    set_caller(sample, r);
+}

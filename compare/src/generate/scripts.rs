@@ -1,0 +1,66 @@
+//! One script of any sort from a seed.
+
+use super::boundary::*;
+use super::damage::damaged;
+use super::progress::progress;
+use crate::driver::{script_text, Driver, Line};
+use crate::explore::Explorer;
+use crate::hunt::search::attack;
+use crate::mistake::Correct;
+use crate::random::Random;
+use crate::script::{BLOCK_SLOTS, CERTIFICATE_SLOTS};
+
+pub struct Script {
+    pub sort: &'static str,
+    pub text: Vec<u8>,
+}
+
+/// A script for a seed; the longest sorts come seldom.
+pub fn script(seed: u64) -> Script {
+    let mut random = Random::new(seed);
+    let part = Random::new(random.bits());
+    let f = any_f(&mut random);
+    let (sort, lines) = match random.below(64) {
+        0..=7 => ("progress", progress(part, f, 600, false)),
+        8..=20 => ("disturbed progress", progress(part, f, 600, true)),
+        21..=28 => ("hostile", hostile(part, f)),
+        29..=35 => ("attack", attacks(part)),
+        36..=39 => ("openings", openings(part)),
+        40..=45 => ("boots", many_boots(part, f)),
+        46..=48 => ("full log", full_log(part, f)),
+        49..=50 => ("full blocks", full_blocks(part, f)),
+        51..=53 => ("counter by cuts", counter_by_cuts(part, f)),
+        54 if random.once_in(8) => ("counter by reserves", counter_by_reserves(part, f.min(2))),
+        _ => {
+            let text = script_text(&hostile(part, f));
+            return Script { sort: "damaged text", text: damaged(&mut random, &text) };
+        }
+    };
+    Script { sort, text: script_text(&lines) }
+}
+
+fn any_f(random: &mut Random) -> u32 {
+    match random.below(4) {
+        0 => random.within(1, 30),
+        1 => random.pick(&[2, 3, 30]),
+        _ => 1,
+    }
+}
+
+/// Random hosts on old and new certificates, with cuts between any two calls.
+pub fn hostile(mut random: Random, f: u32) -> Vec<Line> {
+    let noise = random.pick(&[4, 8, 16]);
+    let steps = random.within(20, 400);
+    let driver = Driver::open(Correct, f, CERTIFICATE_SLOTS, BLOCK_SLOTS);
+    let mut hosts = Explorer { driver, random, noise };
+    for _ in 0..steps {
+        hosts.step();
+    }
+    hosts.driver.lines()
+}
+
+/// Known orders of attack, one ledger each: the rules refuse each of them somewhere.
+fn attacks(mut random: Random) -> Vec<Line> {
+    let count = random.within(1, 12);
+    (0..count).flat_map(|_| attack(None, Random::new(random.bits())).1).collect()
+}

@@ -1,0 +1,27 @@
+//! An independent second implementation of the yard ledger's checker, written from document 01 alone.
+//!
+//! Simple before clever: each call looks for its refusal in the order of document 01's table, changes nothing if it
+//! finds one, and otherwise applies the change. Every call is total on any memory.
+
+pub mod accumulator;
+pub mod ancestry;
+pub mod benchmark;
+pub mod call;
+pub mod certificate;
+pub mod checker;
+pub mod comparison;
+pub mod driver;
+pub mod explore;
+pub mod field;
+pub mod form;
+pub mod generate;
+pub mod host;
+pub mod hunt;
+pub mod memory;
+pub mod mistake;
+pub mod options;
+pub mod panel;
+pub mod quorum;
+pub mod random;
+pub mod recovery;
+pub mod script;

@@ -1,0 +1,169 @@
+//! Mistakes that can be switched on, one at a time, to show that the hunt and the comparison see them.
+
+/// The rules a call goes by: document 01's, or document 01's with one mistake.
+pub trait Rules: Copy {
+    fn has(self, mistake: Mistake) -> bool;
+}
+
+/// Document 01 as it stands. Every question about a mistake folds away.
+#[derive(Clone, Copy, Debug)]
+pub struct Correct;
+
+impl Rules for Correct {
+    #[inline(always)]
+    fn has(self, _: Mistake) -> bool {
+        false
+    }
+}
+
+impl Rules for Option<Mistake> {
+    fn has(self, mistake: Mistake) -> bool {
+        self == Some(mistake)
+    }
+}
+
+macro_rules! mistakes {
+    ($($variant:ident $name:literal $what:literal $blind:literal;)*) => {
+        #[derive(Clone, Copy, PartialEq, Eq, Debug)]
+        pub enum Mistake { $(#[doc = $what] $variant,)* }
+
+        impl Mistake {
+            pub const ALL: &'static [Mistake] = &[$(Mistake::$variant,)*];
+
+            pub fn name(self) -> &'static str {
+                match self { $(Mistake::$variant => $name,)* }
+            }
+
+            pub fn what(self) -> &'static str {
+                match self { $(Mistake::$variant => $what,)* }
+            }
+
+            /// Why demand 3 cannot see the mistake; empty if it can.
+            pub fn blind(self) -> &'static str {
+                match self { $(Mistake::$variant => $blind,)* }
+            }
+        }
+    };
+}
+
+mistakes! {
+    // Restart and recovery.
+    RestartKeepsMinView "restart-keeps-min-view" "reboot leaves min_view instead of raising it to the old limit" "";
+    RestartFromOne "restart-from-one" "reboot puts min_view back to 1" "";
+    RebootKeepsStored "reboot-keeps-stored" "reboot leaves the stored words" "nothing reads them before recover overwrites them";
+    RebootClearsDecided "reboot-clears-decided" "reboot clears the decided words" "";
+    RebootOldStep "reboot-old-step" "the limit grows by the old boot's step" "safety needs no certain step";
+    RebootRetiresAtLimit "reboot-retires-at-limit" "a limit of just 1,000,000 retires" "refuses more";
+    StepsCappedEarly "steps-capped-early" "boots past 6 use the step of boot 6" "safety needs no certain step";
+    ReserveStrict "reserve-strict" "reserve up to just 1,000,000 is refused" "refuses more";
+    ReserveRetired "reserve-retired" "a retired replica may reserve" "a retired replica signs nothing";
+    RequestLive "request-live" "a live replica may request" "recover still asks for a recovering replica";
+    ReplyKeepsMinView "reply-keeps-min-view" "a reply does not raise the replier's min_view" "";
+    ReplyClearsFlag "reply-clears-flag" "a reply clears the flag even where min_view stays" "";
+    ReplyLowersMinView "reply-lowers-min-view" "a reply sets min_view to the request's view, lower too" "";
+    ReplyRecovering "reply-recovering" "a recovering replica may reply" "";
+    ReplySelf "reply-self" "a replica may reply to itself" "it must be live then, and recover takes no reply of its own";
+    ReplyLimitStrict "reply-limit-strict" "reply needs the request's view below the limit" "refuses more";
+    ReplyNoLimit "reply-no-limit" "reply does not look at the limit" "min_view above the limit is wrong form: nothing is accepted any more";
+    RecoverEarlierBoot "recover-earlier-boot" "recover takes replies of an earlier boot (boot and view unread)" "";
+    RecoverIgnoresBoot "recover-ignores-boot" "recover does not look at the boot" "the view gives the boot";
+    RecoverIgnoresView "recover-ignores-view" "recover does not look at the view" "the boot gives the view";
+    RecoverOtherSubject "recover-other-subject" "recover takes replies to another replica" "the view is enough: repliers can no longer sign below it";
+    RecoverTakesOwn "recover-takes-own" "recover takes the replica's own reply" "no replica replies to itself";
+    RecoverSignerTwice "recover-signer-twice" "recover takes one signer's replies for several" "";
+    RecoverFirstReply "recover-first-reply" "recover heeds only the first reply" "";
+    RecoverTieLast "recover-tie-last" "recover takes the last of equal of-views" "equal of-views name one block";
+    RecoverNoRaise "recover-no-raise" "recover leaves min_view where g+1 is above it" "stored view not below min_view is wrong form: nothing is accepted any more";
+    RecoverNoLimit "recover-no-limit" "recover does not look at the limit" "min_view above the limit is wrong form: nothing is accepted any more";
+    // Checker.
+    PrepareIgnoresFlag "prepare-ignores-flag" "prepare does not look at its flag" "";
+    PrepareAnyLeader "prepare-any-leader" "prepare does not ask for the leader" "store asks again";
+    LeaderNowhere "leader-nowhere" "neither prepare nor store asks for the leader" "";
+    PrepareAnyParent "prepare-any-parent" "prepare does not look at the block's parent" "";
+    PrepareBlockZero "prepare-block-zero" "prepare takes block 0" "block 0 stands in every block's ancestry";
+    PrepareOtherAcc "prepare-other-acc" "prepare takes another replica's ACC" "an ACC is sound whoever signed it";
+    PrepareAboveMinView "prepare-above-min-view" "prepare passes where min_view is below w" "";
+    PrepareRecovering "prepare-recovering" "a recovering replica may prepare" "the flag it sets stays through recover";
+    PrepareLimitInclusive "prepare-limit-inclusive" "prepare tests the limit with <= instead of <" "";
+    StoreLimitInclusive "store-limit-inclusive" "store tests the limit with <= instead of <" "min_view above the limit is wrong form: nothing is accepted any more";
+    ViewLimitInclusive "view-limit-inclusive" "view tests the limit with <= instead of <" "no two proposals come of it, and a promise still binds after the cut";
+    StoreChangesNothing "store-changes-nothing" "store issues and changes no word of its replica" "";
+    StoreBelowMinView "store-below-min-view" "store takes views below min_view" "";
+    StoreAnyLeader "store-any-leader" "store does not ask that the signer leads" "prepare asked already";
+    StoreRecovering "store-recovering" "a recovering replica may store" "min_view rises above the stored view, and replies must match it";
+    ViewClearsFlag "view-clears-flag" "view clears the flag at an equal view" "";
+    ViewBelowMinView "view-below-min-view" "view may go below min_view" "";
+    ViewRecovering "view-recovering" "a recovering replica may ask for a view" "";
+    ViewPastLimit "view-past-limit" "view 1,000,001 and above give 8, not 2" "refused in any case";
+    // Lists.
+    AccumulateTakesLast "accumulate-takes-last" "accumulate takes the last message instead of the greatest of-view" "";
+    AccumulateTieLast "accumulate-tie-last" "accumulate takes the last of equal of-views" "equal of-views name one block";
+    AccumulateSignerTwice "accumulate-signer-twice" "accumulate takes one signer's messages for several" "";
+    AccumulateMixedViews "accumulate-mixed-views" "accumulate takes messages of different views" "";
+    AccumulateRecovering "accumulate-recovering" "a recovering replica may accumulate" "an ACC is sound whoever signed it";
+    CommitsSignerTwice "commits-signer-twice" "a commit quorum may name one signer twice" "";
+    CommitsAnyKind "commits-any-kind" "a commit quorum may hold any kind" "";
+    CommitsAnyView "commits-any-view" "a commit quorum may hold several views" "";
+    CommitsAnyBlock "commits-any-block" "a commit quorum may hold several blocks" "one view's commits name one block";
+    ListAnyLength "list-any-length" "a list may be longer than f+1" "more signers are no fewer";
+    DecideBlockZero "decide-block-zero" "decide names always block 0" "block 0 stands in every block's ancestry";
+    DecideShowsLower "decide-shows-lower" "decide shows a lower view's block too" "";
+    DecideShowsEqual "decide-shows-equal" "decide shows an equal view's block again" "one view's commits name one block";
+    // Certificate log and blocks.
+    RefuseAll "refuse-all" "every call but opening is refused" "refuses more";
+    NineTooEarly "nine-too-early" "9 with one slot of the log free" "refuses more";
+    NineWhereFound "nine-where-found" "9 in a full log for a certificate already issued" "refuses more";
+    NineBlocksEarly "nine-blocks-early" "9 with one slot of the blocks free" "refuses more";
+    CountStays "count-stays" "the issued count does not grow" "no certificate can be handed in";
+    BlockCountStays "block-count-stays" "the block count does not grow" "no block but 0 can be named";
+    FiledAgain "filed-again" "an equal certificate is added again" "a copy says nothing new";
+    OpenClearsLog "open-clears-log" "opening clears the log's words" "words past the count are not read";
+    // Form: each line drops one test. Two tests have no line, since others imply them: at least one block (a replica's
+    // stored block is added), and 1 <= min_view (the stored view is below it).
+    FormTableLonger "form-table-longer" "a longer table has sound form" "no list of calls reaches it";
+    FormLogSeven "form-log-seven" "a log of any length has sound form" "no list of calls reaches it";
+    FormLogLong "form-log-long" "a log of more than 4,096 slots has sound form" "no list of calls reaches it";
+    FormBlocksLong "form-blocks-long" "blocks of more than 4,096 slots have sound form" "no list of calls reaches it";
+    FormF "form-f" "f is not tested" "no list of calls reaches it";
+    FormIssued "form-issued" "the issued count is not tested" "no list of calls reaches it";
+    FormAdded "form-added" "the block count is not tested" "no list of calls reaches it";
+    FormRoot "form-root" "block 0's parent is not tested" "no list of calls reaches it";
+    FormParent "form-parent" "parents are not tested" "no list of calls reaches it";
+    FormParentEqual "form-parent-equal" "a block may be its own parent" "no list of calls reaches it";
+    FormStatus "form-status" "status is not tested" "no list of calls reaches it";
+    FormFlag "form-flag" "flag is not tested" "no list of calls reaches it";
+    FormBoot "form-boot" "boot is not tested" "no list of calls reaches it";
+    FormMinView "form-min-view" "min_view above the limit has sound form" "no list of calls reaches it";
+    FormViewLimit "form-view-limit" "the limit is not tested" "no list of calls reaches it";
+    FormStoredView "form-stored-view" "the stored view is not tested" "no list of calls reaches it";
+    FormStoredBlock "form-stored-block" "the stored block is not tested" "no list of calls reaches it";
+    FormDecidedView "form-decided-view" "the decided view is not tested" "no list of calls reaches it";
+    FormDecidedBlock "form-decided-block" "the decided block is not tested" "no list of calls reaches it";
+    FormLastReplica "form-last-replica" "the last replica is not tested" "no list of calls reaches it";
+    FormKind "form-kind" "a certificate's kind is not tested" "no list of calls reaches it";
+    FormKindZero "form-kind-zero" "kind 0 has sound form" "no list of calls reaches it";
+    FormSigner "form-signer" "a certificate's signer is not tested" "no list of calls reaches it";
+    FormView "form-view" "a certificate's view is not tested" "no list of calls reaches it";
+    FormBlock "form-block" "a certificate's block is not tested" "no list of calls reaches it";
+    FormOfView "form-of-view" "a certificate's of-view is not tested" "no list of calls reaches it";
+    FormSubject "form-subject" "a certificate's subject is not tested" "no list of calls reaches it";
+    FormCertificateBoot "form-certificate-boot" "a certificate's boot is not tested" "no list of calls reaches it";
+    FormLastCertificate "form-last-certificate" "the last certificate is not tested" "no list of calls reaches it";
+    // Text.
+    TextLeadingZero "text-leading-zero" "a field may have leading zeros" "a matter of text";
+    TextBlankField "text-blank-field" "a field of blanks reads as 0" "a matter of text";
+    TextUnused "text-unused" "unused fields are not looked at" "a matter of text";
+    TextLastLine "text-last-line" "a last line without its line feed is lost" "a matter of text";
+    TextCarriageReturn "text-carriage-return" "a carriage return before the line feed is dropped" "a matter of text";
+}
+
+impl Mistake {
+    pub fn named(name: &str) -> Option<Mistake> {
+        Mistake::ALL.iter().copied().find(|m| m.name() == name)
+    }
+
+    /// Demand 3 (no two conflicting decisions, no panel that falls) is broken by some list of calls.
+    pub fn breaks_agreement(self) -> bool {
+        self.blind().is_empty()
+    }
+}

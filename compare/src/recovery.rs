@@ -1,0 +1,153 @@
+//! Reboot, reserve, request, reply and recover.
+
+use crate::certificate::{Certificate, REPLY, REQ};
+use crate::form::well_formed;
+use crate::memory::*;
+use crate::mistake::{Mistake, Rules};
+
+fn counter_step<R: Rules>(rules: R, boot: u32) -> u32 {
+    let last = if rules.has(Mistake::StepsCappedEarly) { 6 } else { 7 };
+    COUNTER_STEPS[boot.min(last) as usize]
+}
+
+pub fn reboot<R: Rules>(rules: R, m: &mut Memory, replica: u32) -> Answer {
+    need(well_formed(rules, m), 1)?;
+    need(m.is_replica(replica), 2)?;
+    let mut r = m.replica(replica);
+    let boot = r.boot.saturating_add(1);
+    let stepped = if rules.has(Mistake::RebootOldStep) { r.boot } else { boot };
+    let view_limit = r.view_limit.saturating_add(counter_step(rules, stepped));
+    let strict = u32::from(rules.has(Mistake::RebootRetiresAtLimit));
+    if r.status == RETIRED || boot > LIMIT || view_limit > LIMIT - strict {
+        r.status = RETIRED;
+    } else {
+        r = restarted(rules, r, boot, view_limit);
+    }
+    m.set_replica(replica, r);
+    Ok((r.boot, r.min_view))
+}
+
+/// Flag and stored words 0, min_view the old limit; the decided words stay.
+fn restarted<R: Rules>(rules: R, old: Replica, boot: u32, view_limit: u32) -> Replica {
+    let mut r = old;
+    r.status = RECOVERING;
+    r.boot = boot;
+    r.view_limit = view_limit;
+    r.flag = 0;
+    if rules.has(Mistake::RestartFromOne) {
+        r.min_view = 1;
+    } else if !rules.has(Mistake::RestartKeepsMinView) {
+        r.min_view = old.view_limit;
+    }
+    if !rules.has(Mistake::RebootKeepsStored) {
+        r.stored_view = 0;
+        r.stored_block = 0;
+    }
+    if rules.has(Mistake::RebootClearsDecided) {
+        r.decided_view = 0;
+        r.decided_block = 0;
+    }
+    r
+}
+
+pub fn reserve<R: Rules>(rules: R, m: &mut Memory, replica: u32) -> Answer {
+    need(well_formed(rules, m), 1)?;
+    need(m.is_replica(replica), 2)?;
+    let mut r = m.replica(replica);
+    need(r.status != RETIRED || rules.has(Mistake::ReserveRetired), 4)?;
+    let view_limit = r.view_limit.saturating_add(counter_step(rules, r.boot));
+    need(view_limit <= LIMIT - u32::from(rules.has(Mistake::ReserveStrict)), 8)?;
+    r.view_limit = view_limit;
+    m.set_replica(replica, r);
+    Ok((view_limit, 0))
+}
+
+pub fn request<R: Rules>(rules: R, m: &mut Memory, replica: u32) -> Answer {
+    need(well_formed(rules, m), 1)?;
+    need(m.is_replica(replica), 2)?;
+    let r = m.replica(replica);
+    let let_in = rules.has(Mistake::RequestLive) && r.status == LIVE;
+    need(r.status == RECOVERING || let_in, 4)?;
+    let req = Certificate {
+        kind: REQ,
+        signer: replica,
+        view: r.min_view,
+        subject: replica,
+        boot: r.boot,
+        ..Certificate::default()
+    };
+    let slot = m.slot_for(rules, req)?;
+    Ok((m.file(rules, slot, req), 0))
+}
+
+pub fn reply<R: Rules>(rules: R, m: &mut Memory, replica: u32, number: u32) -> Answer {
+    need(well_formed(rules, m), 1)?;
+    need(m.is_replica(replica), 2)?;
+    need(m.is_issued(number), 3)?;
+    let r = m.replica(replica);
+    let let_in = rules.has(Mistake::ReplyRecovering) && r.status == RECOVERING;
+    need(r.status == LIVE || let_in, 4)?;
+    let req = m.certificate(number);
+    need(req.kind == REQ, 5)?;
+    need(req.signer != replica || rules.has(Mistake::ReplySelf), 5)?;
+    let equal = !rules.has(Mistake::ReplyLimitStrict) && req.view == r.view_limit;
+    need(req.view < r.view_limit || equal || rules.has(Mistake::ReplyNoLimit), 8)?;
+    let reply = Certificate {
+        kind: REPLY,
+        signer: replica,
+        view: req.view,
+        block: r.stored_block,
+        of_view: r.stored_view,
+        subject: req.signer,
+        boot: req.boot,
+    };
+    let slot = m.slot_for(rules, reply)?;
+    m.set_replica(replica, after_reply(rules, r, req.view));
+    Ok((m.file(rules, slot, reply), 0))
+}
+
+/// If min_view is below the request's view it rises to it and the flag is 0; else both stay.
+fn after_reply<R: Rules>(rules: R, old: Replica, view: u32) -> Replica {
+    let mut r = old;
+    let raised = r.min_view < view && !rules.has(Mistake::ReplyKeepsMinView);
+    if raised || rules.has(Mistake::ReplyLowersMinView) {
+        r.min_view = view;
+        r.flag = 0;
+    }
+    if rules.has(Mistake::ReplyClearsFlag) {
+        r.flag = 0;
+    }
+    r
+}
+
+/// A reply that recover may take: of this subject and boot, of its min_view, not of its own signing.
+fn takes<R: Rules>(rules: R, replica: u32, r: Replica, c: Certificate) -> bool {
+    let any_boot = rules.has(Mistake::RecoverEarlierBoot) || rules.has(Mistake::RecoverIgnoresBoot);
+    let any_view = rules.has(Mistake::RecoverEarlierBoot) || rules.has(Mistake::RecoverIgnoresView);
+    c.kind == REPLY
+        && (c.subject == replica || rules.has(Mistake::RecoverOtherSubject))
+        && (c.boot == r.boot || any_boot)
+        && (c.view == r.min_view || any_view)
+        && (c.signer != replica || rules.has(Mistake::RecoverTakesOwn))
+}
+
+pub fn recover<R: Rules>(rules: R, m: &mut Memory, replica: u32, list: &[u32]) -> Answer {
+    need(well_formed(rules, m), 1)?;
+    need(m.is_replica(replica) && m.is_list_length(rules, list), 2)?;
+    need(m.all_issued(list), 3)?;
+    let mut r = m.replica(replica);
+    need(r.status == RECOVERING, 4)?;
+    let different = rules.has(Mistake::RecoverSignerTwice) || m.different_signers(list);
+    need(m.all(list, |c| takes(rules, replica, r, c)) && different, 5)?;
+    let heeded = if rules.has(Mistake::RecoverFirstReply) { &list[..1] } else { list };
+    let latest = m.greatest(heeded, rules.has(Mistake::RecoverTieLast));
+    let raised = latest.of_view.saturating_add(1);
+    let min_view = if rules.has(Mistake::RecoverNoRaise) { r.min_view } else { r.min_view.max(raised) };
+    need(min_view <= r.view_limit || rules.has(Mistake::RecoverNoLimit), 8)?;
+    r.stored_view = latest.of_view;
+    r.stored_block = latest.block;
+    r.min_view = min_view;
+    r.status = LIVE;
+    m.set_replica(replica, r);
+    Ok((min_view, latest.of_view))
+}

@@ -1,0 +1,137 @@
+//! The script program: lines of eight-column fields in, line number, answer and both values out.
+
+use crate::call::{call, is_call, Outcome, OPEN};
+use crate::field::{read_number, write_number, COLUMNS, MAX_NUMBER, NO_NUMBER};
+use crate::memory::{table_length, Memory, CERTIFICATE_WORDS, MAX_F};
+use crate::mistake::{Mistake, Rules};
+
+pub const CERTIFICATE_SLOTS: usize = 2048;
+pub const BLOCK_SLOTS: usize = 1024;
+pub const MAX_FIELDS: usize = 34;
+const MAX_BYTES: usize = MAX_FIELDS * COLUMNS;
+
+/// The ledger, the line so far and the number of lines answered. Bytes may come in blocks of any size.
+pub struct Program<R: Rules> {
+    rules: R,
+    table: Vec<u32>,
+    log: Vec<u32>,
+    blocks: Vec<u32>,
+    /// f last opened; 0 before the first accepted opening, when no table is lent.
+    f: u32,
+    /// The line's bytes up to one more than a readable line has.
+    line: Vec<u8>,
+    lines: u32,
+}
+
+impl<R: Rules> Program<R> {
+    pub fn new(rules: R) -> Program<R> {
+        Program {
+            rules,
+            table: vec![0; table_length(MAX_F) as usize],
+            log: vec![0; CERTIFICATE_SLOTS * CERTIFICATE_WORDS],
+            blocks: vec![0; BLOCK_SLOTS],
+            f: 0,
+            line: Vec::with_capacity(MAX_BYTES + 1),
+            lines: 0,
+        }
+    }
+
+    /// Reading stops after line 99,999,999.
+    pub fn is_done(&self) -> bool {
+        self.lines == MAX_NUMBER
+    }
+
+    /// Counts lines as answered already, so that a test can come near the last one.
+    pub fn skip_lines(&mut self, lines: u32) {
+        self.lines = lines;
+    }
+
+    pub fn feed(&mut self, input: &[u8], out: &mut Vec<u8>) {
+        for piece in input.split_inclusive(|&byte| byte == b'\n') {
+            if self.is_done() {
+                return;
+            }
+            let (text, ended) = match piece.split_last() {
+                Some((b'\n', text)) => (text, true),
+                _ => (piece, false),
+            };
+            let room = MAX_BYTES + 1 - self.line.len();
+            self.line.extend_from_slice(&text[..text.len().min(room)]);
+            if ended {
+                self.answer_line(out);
+            }
+        }
+    }
+
+    /// A last line may lack its line feed.
+    pub fn finish(&mut self, out: &mut Vec<u8>) {
+        if !self.line.is_empty() && !self.is_done() && !self.rules.has(Mistake::TextLastLine) {
+            self.answer_line(out);
+        }
+    }
+
+    fn answer_line(&mut self, out: &mut Vec<u8>) {
+        if self.rules.has(Mistake::TextCarriageReturn) && self.line.last() == Some(&b'\r') {
+            self.line.pop();
+        }
+        let mut fields = [0; MAX_FIELDS];
+        let outcome = match read_fields(self.rules, &self.line, &mut fields) {
+            Some(count) => self.answer(&fields[..count]),
+            None => Outcome::from(Err(10)),
+        };
+        self.line.clear();
+        self.lines += 1;
+        write_line(self.lines, outcome, out);
+    }
+
+    /// Lends a table of the length for the f being opened, or else of the one last opened.
+    fn answer(&mut self, fields: &[u32]) -> Outcome {
+        let (code, replica, number, list) = (fields[0], fields[1], fields[2], &fields[3..]);
+        if !is_call(self.rules, code, replica, number, list) {
+            return Outcome::from(Err(10));
+        }
+        let opening = code == OPEN && (1..=MAX_F).contains(&replica);
+        let f = if opening { replica } else { self.f };
+        let lent = if f == 0 { 0 } else { table_length(f) as usize };
+        let mut memory = Memory { table: &mut self.table[..lent], log: &mut self.log, blocks: &mut self.blocks };
+        let outcome = call(self.rules, &mut memory, code, replica, number, list);
+        if opening && outcome.answer == 0 {
+            self.f = f;
+        }
+        outcome
+    }
+}
+
+/// The line's numbers: 3 to 34 fields of eight columns, or none if it is no such line.
+fn read_fields<R: Rules>(rules: R, line: &[u8], fields: &mut [u32; MAX_FIELDS]) -> Option<usize> {
+    let count = line.len() / COLUMNS;
+    if !line.len().is_multiple_of(COLUMNS) || !(3..=MAX_FIELDS).contains(&count) {
+        return None;
+    }
+    for (field, bytes) in fields.iter_mut().zip(line.chunks_exact(COLUMNS)) {
+        *field = read_number(rules, bytes);
+        if *field == NO_NUMBER {
+            return None;
+        }
+    }
+    Some(count)
+}
+
+/// Line number, answer and both values in eight columns each.
+pub fn write_line(line: u32, outcome: Outcome, out: &mut Vec<u8>) {
+    for number in [line, outcome.answer, outcome.first, outcome.second] {
+        let mut bytes = [b' '; COLUMNS];
+        write_number(number, &mut bytes);
+        out.extend_from_slice(&bytes);
+    }
+    out.push(b'\n');
+}
+
+/// A whole script's output.
+pub fn run<R: Rules>(rules: R, input: &[u8]) -> Vec<u8> {
+    let mut program = Program::new(rules);
+    let mut out = Vec::new();
+    program.feed(input, &mut out);
+    program.finish(&mut out);
+    out
+}

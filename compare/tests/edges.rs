@@ -1,0 +1,146 @@
+//! The cases that document 01 marks P, and the one it marks "run only".
+
+use judge::call::{call, Outcome};
+use judge::memory::{table_length, Memory, HEADER};
+use judge::mistake::Correct;
+
+struct Yard {
+    table: Vec<u32>,
+    log: Vec<u32>,
+    blocks: Vec<u32>,
+}
+
+impl Yard {
+    fn with_slots(f: u32, certificates: usize, blocks: usize) -> Yard {
+        let table = vec![9; table_length(f) as usize];
+        let mut yard = Yard { table, log: vec![9; 7 * certificates], blocks: vec![9; blocks] };
+        assert_eq!(yard.call(0, f, 0, &[]), (0, 2 * f + 1, 0));
+        yard
+    }
+
+    fn new(f: u32) -> Yard {
+        Yard::with_slots(f, 64, 8)
+    }
+
+    fn call(&mut self, code: u32, replica: u32, number: u32, list: &[u32]) -> (u32, u32, u32) {
+        let mut memory = Memory { table: &mut self.table, log: &mut self.log, blocks: &mut self.blocks };
+        let Outcome { answer, first, second } = call(Correct, &mut memory, code, replica, number, list);
+        (answer, first, second)
+    }
+
+    /// Document 01's script after its opening, each answer checked.
+    fn worked() -> Yard {
+        let mut yard = Yard::new(1);
+        assert_eq!(yard.call(5, 0, 1, &[]), (0, 0, 0));
+        assert_eq!(yard.call(5, 1, 1, &[]), (0, 1, 0));
+        assert_eq!(yard.call(6, 1, 0, &[0, 1]), (0, 2, 0));
+        assert_eq!(yard.call(1, 0, 0, &[]), (0, 1, 0));
+        assert_eq!(yard.call(2, 1, 1, &[2]), (0, 3, 0));
+        assert_eq!(yard.call(4, 0, 3, &[]), (0, 4, 0));
+        assert_eq!(yard.call(8, 1, 0, &[]), (0, 1, 64));
+        assert_eq!(yard.call(4, 1, 3, &[]), (4, 0, 0));
+        assert_eq!(yard.call(4, 2, 3, &[]), (0, 5, 0));
+        assert_eq!(yard.call(7, 0, 0, &[4, 5]), (0, 1, 1));
+        yard
+    }
+}
+
+#[test]
+fn the_script_and_its_continuation() {
+    let mut yard = Yard::worked();
+    assert_eq!(yard.call(10, 1, 0, &[]), (0, 6, 0));
+    assert_eq!(yard.call(11, 0, 6, &[]), (0, 7, 0));
+    assert_eq!(yard.call(11, 2, 6, &[]), (0, 8, 0));
+    assert_eq!(yard.call(12, 1, 0, &[7, 8]), (0, 64, 1));
+    assert_eq!(yard.call(5, 0, 64, &[]), (8, 0, 0));
+    assert_eq!(yard.call(9, 0, 0, &[]), (0, 128, 0));
+    assert_eq!(yard.call(5, 0, 64, &[]), (0, 9, 0));
+}
+
+#[test]
+fn f_from_1_to_30() {
+    for (f, answer) in [(0, 2), (1, 0), (30, 0), (31, 2), (99_999_999, 2), (u32::MAX, 2)] {
+        let mut yard = Yard { table: vec![7; table_length(f.clamp(1, 30)) as usize], log: vec![], blocks: vec![5] };
+        let given = yard.call(0, f, 0, &[]);
+        assert_eq!(given.0, answer);
+        assert_eq!(yard.blocks[0], if answer == 0 { 0 } else { 5 });
+    }
+}
+
+#[test]
+fn opening_tests_f_before_lengths() {
+    let mut yard = Yard { table: vec![1; 5], log: vec![1; 5], blocks: vec![] };
+    assert_eq!(yard.call(0, 31, 0, &[]), (2, 0, 0));
+    assert_eq!(yard.call(0, 1, 0, &[]), (1, 0, 0));
+}
+
+#[test]
+fn a_fresh_limit_of_64() {
+    let mut yard = Yard::new(1);
+    assert_eq!(yard.call(5, 0, 63, &[]), (0, 0, 0));
+    assert_eq!(yard.call(5, 0, 64, &[]), (8, 0, 0));
+}
+
+#[test]
+fn one_commit_twice() {
+    let mut yard = Yard::worked();
+    assert_eq!(yard.call(7, 0, 0, &[4, 4]), (5, 0, 0));
+    assert_eq!(yard.call(3, 2, 1, &[4, 4]), (5, 0, 0));
+}
+
+#[test]
+fn block_0_on_block_0() {
+    let mut yard = Yard::new(1);
+    assert_eq!(yard.call(5, 0, 1, &[]), (0, 0, 0));
+    assert_eq!(yard.call(5, 1, 1, &[]), (0, 1, 0));
+    assert_eq!(yard.call(6, 1, 0, &[0, 1]), (0, 2, 0));
+    assert_eq!(yard.call(2, 1, 0, &[2]), (6, 0, 0));
+}
+
+#[test]
+fn a_second_prepare_in_a_view() {
+    let mut yard = Yard::new(1);
+    for (code, replica, number, list) in
+        [(5, 0, 1, &[][..]), (5, 1, 1, &[]), (6, 1, 0, &[0, 1]), (1, 0, 0, &[]), (1, 0, 0, &[])]
+    {
+        assert_eq!(yard.call(code, replica, number, list).0, 0);
+    }
+    assert_eq!(yard.call(2, 1, 1, &[2]), (0, 3, 0));
+    assert_eq!(yard.call(2, 1, 2, &[2]), (7, 0, 0));
+    assert_eq!(yard.call(2, 1, 1, &[2]), (7, 0, 0));
+}
+
+#[test]
+fn a_full_log_answers_a_repeated_view() {
+    let mut yard = Yard::with_slots(1, 2, 1);
+    assert_eq!(yard.call(5, 0, 1, &[]), (0, 0, 0));
+    assert_eq!(yard.call(5, 1, 1, &[]), (0, 1, 0));
+    assert_eq!(yard.call(5, 2, 1, &[]), (9, 0, 0));
+    assert_eq!(yard.call(5, 0, 1, &[]), (0, 0, 0));
+    assert_eq!(yard.call(1, 0, 0, &[]), (9, 0, 0));
+}
+
+#[test]
+fn the_counter_ends_at_a_million() {
+    let mut yard = Yard::new(1);
+    yard.table[HEADER + 3] = 999_936;
+    assert_eq!(yard.call(9, 0, 0, &[]), (0, 1_000_000, 0));
+    assert_eq!(yard.call(9, 0, 0, &[]), (8, 0, 0));
+    let before = yard.table.clone();
+    assert_eq!(yard.call(8, 0, 0, &[]), (0, 0, 1));
+    assert_eq!(yard.table[HEADER], 2);
+    assert_eq!(yard.table[..HEADER], before[..HEADER]);
+    assert_eq!(yard.table[HEADER + 1..], before[HEADER + 1..]);
+    assert_eq!(yard.call(9, 0, 0, &[]), (4, 0, 0));
+}
+
+#[test]
+fn reserves_reach_a_million() {
+    let mut yard = Yard::new(1);
+    let mut last = (0, 0, 0);
+    for _ in 0..15_624 {
+        last = yard.call(9, 0, 0, &[]);
+    }
+    assert_eq!(last, (0, 1_000_000, 0));
+    assert_eq!(yard.call(9, 0, 0, &[]), (8, 0, 0));
+}

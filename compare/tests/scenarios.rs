@@ -1,0 +1,32 @@
+//! Every script of ../scenarios gives its expected output, and so do the 15,624 reserves.
+
+use judge::mistake::Correct;
+use judge::script::run;
+use std::path::Path;
+
+#[test]
+fn stored_scenarios() {
+    let directory = Path::new(env!("CARGO_MANIFEST_DIR")).join("../scenarios");
+    let mut count = 0;
+    for entry in std::fs::read_dir(directory).unwrap() {
+        let path = entry.unwrap().path();
+        if path.extension().is_some_and(|extension| extension == "txt") {
+            let expected = std::fs::read(path.with_extension("out")).unwrap();
+            assert!(run(Correct, &std::fs::read(&path).unwrap()) == expected, "{}", path.display());
+            count += 1;
+        }
+    }
+    assert!(count >= 15, "only {count} scenarios");
+}
+
+#[test]
+fn reserves() {
+    let mut input = "       0       1       0\n".to_string();
+    let mut expected = "       1       0       3       0\n".to_string();
+    for reserve in 1..=15_624 {
+        input += "       9       0       0\n";
+        expected += &format!("{:8}{:8}{:8}{:8}\n", reserve + 1, 0, 64 + 64 * reserve, 0);
+    }
+    assert!(run(Correct, input.as_bytes()) == expected.as_bytes());
+    assert!(expected.ends_with("   15625       0 1000000       0\n"));
+}

@@ -79,7 +79,8 @@ certificateFormed replicas added c =
     ∷ ltb (c .block) added
     ∷ [])
 
--- "Form", whole. Words past the counts are not read.
+-- "Form", whole. "Words past the counts are neither read nor changed, except where a new item goes. Every call but opening tests the form
+-- of the whole memory": it is the first need of each rule but opening's.
 unfoldable pub wellFormed : Memory → Bool
 wellFormed m =
     allHold

@@ -206,6 +206,8 @@ maxBlocks = 4096
 abbrev pub blockAt : ℕ → ℕ
 blockAt b = b
 
+-- "Block 0 has parent 0; any other has a parent below its own number." The form tests it.
+
 abbrev pub parent : Memory → ℕ → ℕ
 parent m b = getD (m .blocks) (blockAt b) 0
 

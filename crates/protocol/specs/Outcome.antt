@@ -60,7 +60,8 @@ unfoldable pub firstRefusal : List Need → ℕ
 firstRefusal [] = 0
 firstRefusal ((test else number) ∷ rest) = cond test (firstRefusal rest) number
 
--- The rule of a call: what it needs; its two values and the memory it leaves, where nothing is refused.
+-- The rule of a call: what it needs; its two values and the memory it leaves, where nothing is refused. "Values on success are two
+-- numbers".
 pub record Rule : Type 0 where
   pub needs : List Need
   pub first : ℕ

@@ -1,0 +1,31 @@
+use native.Mathlib.Omega.{arith}
+use borrow.Author.Needs.{needs}
+use Rattle.protocol.proofs.Tests.{tests}
+use Rattle.codes.proofs.Claims.{no-list, not-issued, claimed, no-count, past-log}
+use Rattle.codes.proofs.claimed_word.Statement.{statement}
+use Rattle.codes.proofs.claimed_word.Tie as tie
+
+returns : tie.Need-returns
+returns c = no-list _ _ _ (c .if1 .taken)
+
+returns-2 : tie.Need-returns-2
+returns-2 c = no-count _ _ _ (c .if2 .taken)
+
+returns-3 : tie.Need-returns-3
+returns-3 c = not-issued _ _ _ (omega (tests, c .if3 .taken))
+
+add-place : tie.Need-add-place
+add-place c = omega (arith, c .certificate-at .ensures, c .before .before .before .shared-slice-known4 .given 0, c .before .before .before .before .before .before .before .before .before .pre)
+
+returns-4 : tie.Need-returns-4
+returns-4 c =
+    past-log _ _ _ (c .before .before .before .before .before .before .if1 .left) (omega (tests, c .before .before .if3 .left)) (omega (arith, c .if4 .taken, c .before .certificate-at .ensures))
+
+returns-5 : tie.Need-returns-5
+returns-5 c = rw (c .before .before .certificate-at .ensures) (claimed _ _ _ (c .before .before .before .before .before .before .before .if1 .left) (omega (tests, c .before .before .before .if3 .left)))
+
+pub claimed-word-spec : {M : Type 1} → statement M
+claimed-word-spec =
+    tie.close
+    (tie.spec returns returns-2 (λ c. search needs) (λ c. search needs) returns-3 (λ c κs. search needs) add-place returns-4
+    (λ c. search needs) (λ c. search needs) returns-5)

@@ -1,0 +1,104 @@
+// Call codes, as script lines and the C interface have them: a code, a replica, a number and a list give a call, or are unreadable.
+ghost use mathlib.Core.Path.{_≡_};
+ghost use mathlib.Core.List.{[]};
+ghost use Prim.Native.Nat.{_<_};
+ghost use Rattle.protocol.specs.Memory.{memory, certificateWords};
+ghost use Rattle.codes.specs.Codes.{isPlain, isShort, claimedWord, when, codedCall};
+use protocol::Call;
+use protocol::Justification;
+
+// The most numbers that a list may have.
+const MAX_LIST: usize = 31;
+
+pub enum Coded {
+    Of(Call),
+    Unreadable,
+}
+
+// A call without a list, whose unused argument is 0.
+fn is_plain(unused: u32, list: &[u32]) -> bool
+    ensures { λ r. ⌜ r ≡ isPlain unused (now (list .entry)) ⌝ }
+{
+    (unused == 0) & (list.len() == 0)
+}
+
+// A call with a list, whose unused argument is 0.
+fn is_short(unused: u32, list: &[u32]) -> bool
+    ensures { λ r. ⌜ r ≡ isShort unused (now (list .entry)) ⌝ }
+{
+    (unused == 0) & (list.len() <= MAX_LIST)
+}
+
+fn coded_when(test: bool, call: Call) -> Coded
+    ensures { λ r. ⌜ r ≡ when test call ⌝ }
+{
+    if test {
+        Coded::Of(call)
+    } else {
+        Coded::Unreadable
+    }
+}
+
+// A word of the list's first certificate, where that is issued and there; else 0.
+fn claimed_word(table: &[u32], log: &[u32], list: &[u32], at: usize) -> u32
+    requires { ⌜ at < certificateWords ⌝ }
+    ensures { λ r. ⌜ r ≡ claimedWord (memory (now (table .entry)) (now (log .entry)) []) (now (list .entry)) at ⌝ }
+{
+    if list.len() == 0 {
+        return 0;
+    }
+    if table.len() <= layout::CERTIFICATE_COUNT_AT {
+        return 0;
+    }
+    let number = list[0];
+    if table[layout::CERTIFICATE_COUNT_AT] <= number {
+        return 0;
+    }
+    let place = layout::certificate_at(number) + at;
+    if log.len() <= place {
+        return 0;
+    }
+    log[place]
+}
+
+// The call of a code.
+pub fn coded_call(
+    table: &[u32],
+    log: &[u32],
+    code: u32,
+    replica: u32,
+    number: u32,
+    list: &[u32],
+) -> Coded
+    ensures { λ r. ⌜ r ≡ codedCall (memory (now (table .entry)) (now (log .entry)) []) code replica number (now (list .entry)) ⌝ }
+{
+    match code {
+        0 => coded_when(is_plain(number, list), Call::Open(replica)),
+        1 => coded_when(is_plain(replica, list), Call::Block(number)),
+        2 => {
+            if list.len() == 1 {
+                Coded::Of(Call::Prepare(replica, number, Justification::Acc(list[0])))
+            } else {
+                Coded::Unreadable
+            }
+        }
+        3 => {
+            let view = claimed_word(table, log, list, layout::VIEW_AT);
+            let block = claimed_word(table, log, list, layout::PROPOSED_BLOCK_AT);
+            coded_when(
+                is_short(0, list),
+                Call::Prepare(replica, number, Justification::Commits(view, block)),
+            )
+        }
+        4 => coded_when(is_plain(0, list), Call::Store(replica, number)),
+        5 => coded_when(is_plain(0, list), Call::View(replica, number)),
+        6 => coded_when(is_short(number, list), Call::Accumulate(replica)),
+        7 => coded_when(is_short(number, list), Call::Decide(replica)),
+        8 => coded_when(is_plain(number, list), Call::Reboot(replica)),
+        9 => coded_when(is_plain(number, list), Call::Reserve(replica)),
+        10 => coded_when(is_plain(number, list), Call::Request(replica)),
+        11 => coded_when(is_plain(0, list), Call::Reply(replica, number)),
+        12 => coded_when(is_short(number, list), Call::Recover(replica)),
+        _ => Coded::Unreadable,
+    }
+}

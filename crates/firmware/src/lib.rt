@@ -1,0 +1,51 @@
+// The C interface: include/yard.h.
+ghost use mathlib.Core.Path.{_≡_};
+ghost use Rattle.protocol.specs.Memory.{memory};
+ghost use Rattle.protocol.specs.Outcome.{left};
+ghost use Rattle.firmware.specs.Called.{called};
+ghost use Rattle.ledger.specs.Panel.{panelAnswer};
+use codes::Coded;
+
+// What a call returns whose arguments are no call.
+const UNREADABLE: u32 = 10;
+
+#[no_mangle]
+pub extern "C" fn yard_call(
+    code: u32,
+    replica: u32,
+    number: u32,
+    list: &[u32],
+    table: &mut [u32],
+    log: &mut [u32],
+    blocks: &mut [u32],
+    first: &mut u32,
+    second: &mut u32,
+) -> u32
+    ensures { λ r. ⌜ left (record { number = r; first = now (first .exit); second = now (second .exit) }) (now (table .exit)) (now (log .exit)) (now (blocks .exit)) ≡ called (memory (now (table .entry)) (now (log .entry)) (now (blocks .entry))) code replica number (now (list .entry)) ⌝ }
+{
+    let coded = codes::coded_call(table, log, code, replica, number, list);
+    let Coded::Of(call) = coded else {
+        *first = 0;
+        *second = 0;
+        return UNREADABLE;
+    };
+    let answer = ledger::invoke(table, log, blocks, call, list);
+    *first = answer.first;
+    *second = answer.second;
+    answer.number
+}
+
+#[no_mangle]
+pub extern "C" fn yard_panel(
+    table: &[u32],
+    log: &[u32],
+    blocks: &[u32],
+    replica: u32,
+    height: &mut u32,
+) -> u32
+    ensures { λ r. ⌜ record { number = r; first = now (height .exit); second = 0 } ≡ panelAnswer (memory (now (table .entry)) (now (log .entry)) (now (blocks .entry))) replica ⌝ }
+{
+    let answer = ledger::panel(table, log, blocks, replica);
+    *height = answer.first;
+    answer.number
+}

@@ -16,10 +16,10 @@ use Rattle.protocol.specs.Calls.{isBlock, numbersOf, isSized, proposalView, jus
 use Rattle.quorum.specs.Lists.{certificateIn, Listed}
 use Rattle.checks.specs.Needs.{replicaNeeds}
 use Rattle.checker.specs.Steps.{standingIn}
-use Rattle.checker.specs.declared.Standing.{Standing}
-use Rattle.checker.specs.declared.Ground.{Ground}
-use Rattle.checker.specs.declared.Given.{Given}
-use Rattle.checker.specs.declared.Given.the-variants.{By, Nothing}
+use Rattle.checker.specs.declared.words.Standing.{Standing}
+use Rattle.checker.specs.declared.ground.Ground.{Ground}
+use Rattle.checker.specs.declared.ground.Given.{Given}
+use Rattle.checker.specs.declared.ground.Given.the-variants.{By, Nothing}
 
 -- The form, the replica, the length of a list, then the certificates' numbers.
 unfoldable pub justificationNeeds : Memory → ℕ → Justification → List ℕ → List Need

@@ -4,7 +4,8 @@ use mathlib.Core.List.{List, [], _∷_}
 use lib.ListN.{length}
 use lib.Dec.{ltb, leb, eqb}
 use Rattle.protocol.specs.Memory.{Memory, Assignment, memory, ceiling, rowAt, replicaWords, replicaWord, certificateWord, live}
-use Rattle.protocol.specs.Memory.{statusAt, minViewAt, viewLimitAt, flagAt, kindAt, signerAt, viewAt, proposedBlockAt}
+use Rattle.protocol.specs.Memory.{_becomes_, statusAt, minViewAt, viewLimitAt, flagAt, storedViewAt, storedBlockAt, kindAt}
+use Rattle.protocol.specs.Memory.{signerAt, viewAt, proposedBlockAt}
 use Rattle.protocol.specs.Memory as Memory
 use Rattle.protocol.specs.Certificates.{PROP}
 use Rattle.protocol.specs.Leader.{leads}
@@ -12,8 +13,9 @@ use Rattle.protocol.specs.Outcome.{Outcome, Need, _else_, follow, outOfRange, w
 use Rattle.protocol.specs.Outcome.{counterLimit}
 use Rattle.protocol.specs.Calls.{issuing}
 use Rattle.certificates.specs.Filing.{LogFits}
-use Rattle.checker.specs.declared.Standing.{Standing}
-use Rattle.checker.specs.declared.Signed.{Signed}
+use Rattle.checker.specs.declared.words.Standing.{Standing}
+use Rattle.checker.specs.declared.words.Signed.{Signed}
+use Rattle.checker.specs.declared.Stored.{Stored}
 
 abbrev pub standingIn : List ℕ → ℕ → Standing
 standingIn table i =
@@ -23,6 +25,8 @@ standingIn table i =
       «min_view» = replicaWord m i minViewAt;
       «view_limit» = replicaWord m i viewLimitAt;
       flag = replicaWord m i flagAt;
+      «stored_view» = replicaWord m i storedViewAt;
+      «stored_block» = replicaWord m i storedBlockAt;
     }
 
 abbrev pub signedIn : List ℕ → ℕ → Signed
@@ -65,6 +69,15 @@ pub record Issuable (table log : List ℕ) (i : ℕ) : Type 0 where
 abbrev pub ofKind : ℕ → ℕ → ℕ → ℕ → ℕ → Memory.Certificate
 ofKind kind signer view block ofView =
     record { kind = kind; signer = signer; view = view; block = block; ofView = ofView; subject = 0; boot = 0 }
+
+-- What a replica keeps of a block that it stores.
+abbrev pub storedWords : Stored → List Assignment
+storedWords s =
+    storedViewAt becomes s .view
+    ∷ storedBlockAt becomes s .block
+    ∷ minViewAt becomes s .«min_view»
+    ∷ flagAt becomes s .flag
+    ∷ []
 
 -- What a call gives once its other needs hold.
 unfoldable pub issuance : Memory → ℕ → List Assignment → Memory.Certificate → Outcome

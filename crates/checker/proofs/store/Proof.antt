@@ -12,22 +12,23 @@ returns c =
     stops-first (storing _ _ _) (c .refused .ensures) (c .before .before .number-refusal .ensures)
     (omega (arith, c .before .if1 .taken))
 
+standing-of-requires : tie.Need-standing-of-requires
+standing-of-requires c κs =
+    row-within _ _
+    (ready-number _ _ _ (sym (c .before .before .number-refusal .ensures) ∙ c .before .if1 .left) .ready)
+
 signed-at-requires : tie.Need-signed-at-requires
 signed-at-requires c κs =
-    signed-within _ _ _ (ready-number _ _ _ (sym (c .before .before .number-refusal .ensures) ∙ c .before .if1 .left))
+    let after-number-refusal = c .before .before .before .before in
+    signed-within _ _ _
+    (ready-number _ _ _ (sym (after-number-refusal .number-refusal .ensures) ∙ c .before .before .before .if1 .left))
 
 slice-read-store-refusal : tie.Need-slice-read-store-refusal
 slice-read-store-refusal c =
-    let after-number-refusal = c .before .before .before .before in
+    let after-if1 = c .before .before .before .before .before in
     let z = ready-number _ _ _
-    (sym (after-number-refusal .number-refusal .ensures) ∙ c .before .before .before .if1 .left) .ready .sizes in
+    (sym (after-if1 .before .number-refusal .ensures) ∙ after-if1 .if1 .left) .ready .sizes in
     omega (arith, z)
-
-standing-of-requires : tie.Need-standing-of-requires
-standing-of-requires c κs =
-    let after-if1 = c .before .before .before .before in
-    row-within _ _
-    (ready-number _ _ _ (sym (after-if1 .before .number-refusal .ensures) ∙ after-if1 .if1 .left) .ready)
 
 store-refusal-requires : tie.Need-store-refusal-requires
 store-refusal-requires c κs =
@@ -37,35 +38,44 @@ store-refusal-requires c κs =
 
 returns-2 : tie.Need-returns-2
 returns-2 c =
-    let after-signed-at = c .before .before .before .before .before .before in
-    stops-further (storing _ _ _) (sym (after-signed-at .before .before .before .number-refusal .ensures)
-    ∙ after-signed-at .before .before .if1 .left) (c .refused2 .ensures) (rw
-    (c .before .before .before .standing-of .ensures, after-signed-at .signed-at .ensures)
+    let after-signed-at = c .before .before .before .before in
+    let after-if1 = after-signed-at .before .before .before .before in
+    stops-further (storing _ _ _) (sym (after-if1 .before .number-refusal .ensures) ∙ after-if1 .if1 .left)
+    (c .refused2 .ensures) (rw
+    (after-signed-at .before .before .standing-of .ensures, after-signed-at .signed-at .ensures)
     at (c .before .before .store-refusal .ensures)) (omega (arith, c .before .if2 .taken))
+
+add-t24 : tie.Need-add-t24
+add-t24 c =
+    let after-signed-at = c .before .before .before .before in
+    let after-if1 = after-signed-at .before .before .before .before in
+    let low = signed-view _ _ _
+    (ready-number _ _ _ (sym (after-if1 .before .number-refusal .ensures) ∙ after-if1 .if1 .left)) in
+    rw (after-signed-at .signed-at .ensures) (omega (arith, low))
 
 commit-requires : tie.Need-commit-requires
 commit-requires c κs =
-    let after-signed-at = c .before .before .before .before .before .before .before in
-    let h = ready-number _ _ _ (sym (after-signed-at .before .before .before .number-refusal .ensures)
-    ∙ after-signed-at .before .before .if1 .left) in
-    (issuable _ _ (h .ready), rw (after-signed-at .signed-at .ensures) (signed-view _ _ _ h))
+    let after-if1 = c .before .before .before .before .before .before .before .before .before .before .before in
+    issuable _ _ (ready-number _ _ _ (sym (after-if1 .before .number-refusal .ensures) ∙ after-if1 .if1 .left) .ready)
 
 returns-3 : tie.Need-returns-3
 returns-3 c =
     let after-commit = c .before .before .before .before in
-    let after-store-refusal = after-commit .before .before .before .before in
-    let after-signed-at = after-store-refusal .before .before .before .before in
-    let after-args = after-signed-at .before .before .before .before .before .before .before .before .before .before in
-    passes (storing _ _ _)
-    (sym (after-signed-at .before .before .before .number-refusal .ensures) ∙ after-signed-at .before .before .if1 .left)
-    (sym (rw (after-store-refusal .before .standing-of .ensures, after-signed-at .signed-at .ensures)
-    at (after-store-refusal .store-refusal .ensures)) ∙ after-commit .before .before .before .if2 .left)
-    (rw (after-signed-at .signed-at .ensures) at (after-commit .commit .ensures (after-args .args .blocks .now)))
+    let after-if2 = after-commit .before .before .before .before .before in
+    let after-signed-at = after-if2 .before .before .before in
+    let after-if1 = after-signed-at .before .before .before .before in
+    let after-args = after-if1 .before .before .before .before .before .before .before .before in
+    passes (storing _ _ _) (sym (after-if1 .before .number-refusal .ensures) ∙ after-if1 .if1 .left)
+    (sym (rw (after-signed-at .before .before .standing-of .ensures, after-signed-at .signed-at .ensures) at (after-if2 .before .store-refusal .ensures))
+    ∙ after-if2 .if2 .left) (rw
+    (after-commit .before .before .before .of-kind .ensures, after-signed-at .signed-at .ensures)
+    at (after-commit .commit .ensures (after-args .args .blocks .now)))
 
 pub store-spec : {M : Type 1} → statement M
 store-spec =
     tie.close
     (tie.spec (λ c κs. search needs) (λ c κs. search needs) (λ c. search needs) (λ c. search needs)
-    (λ c. search needs) returns signed-at-requires slice-read-store-refusal standing-of-requires
+    (λ c. search needs) returns standing-of-requires signed-at-requires slice-read-store-refusal
     store-refusal-requires (λ c κs. search needs) (λ c. search needs) (λ c. search needs) (λ c. search needs)
-    returns-2 commit-requires (λ c. search needs) (λ c. search needs) (λ c. search needs) returns-3)
+    returns-2 add-t24 (λ c κs. search needs) commit-requires (λ c. search needs) (λ c. search needs)
+    (λ c. search needs) returns-3)

@@ -24,40 +24,22 @@ returns-2 c =
     (rw (c .before .before .before .standing-of .ensures) at (c .before .before .view-refusal .ensures))
     (omega (arith, c .before .if2 .taken))
 
-replica-word-requires : tie.Need-replica-word-requires
-replica-word-requires c κs =
-    let after-if1 = c .before .before .before .before .before in
-    let w = row-within _ _ (ready _ _ (sym (after-if1 .before .replica-refusal .ensures) ∙ after-if1 .if1 .left)) in
-    omega (arith, w)
-
-replica-word-requires-2 : tie.Need-replica-word-requires-2
-replica-word-requires-2 c κs =
-    let after-if1 = c .before .before .before .before .before .before .before in
-    let w = row-within _ _ (ready _ _ (sym (after-if1 .before .replica-refusal .ensures) ∙ after-if1 .if1 .left)) in
-    omega (arith, w)
-
 enter-requires : tie.Need-enter-requires
 enter-requires c κs =
-    let after-if1 = c .before .before .before .before .before .before .before .before .before .before .before .before in
+    let after-if1 = c .before .before .before .before .before .before .before .before in
     issuable _ _ (ready _ _ (sym (after-if1 .before .replica-refusal .ensures) ∙ after-if1 .if1 .left))
 
 returns-3 : tie.Need-returns-3
 returns-3 c =
     let after-enter = c .before .before .before .before in
     let after-of-kind = after-enter .before .before .before .before in
-    let after-if2 = after-of-kind .before .before .before .before .before in
-    let after-standing-of = after-if2 .before .before in
+    let after-standing-of = after-of-kind .before .before .before in
     let after-args = after-standing-of .before .before .before .before .before .before .before .before .before .before in
-    passes (viewing _ _ _)
-    (sym (after-standing-of .before .before .before .replica-refusal .ensures) ∙ after-standing-of .before .before .if1 .left)
-    (sym (rw (after-standing-of .standing-of .ensures) at (after-if2 .before .view-refusal .ensures)) ∙ after-if2 .if2 .left)
-    (rw (
-      after-enter .before .flag-in .ensures,
-      after-standing-of .standing-of .ensures,
-      after-of-kind .of-kind .ensures,
-      after-of-kind .before .replica-word2 .ensures,
-      after-of-kind .before .before .before .replica-word .ensures,
-    )
+    passes (viewing _ _ _) (sym (after-standing-of .before .before .before .replica-refusal .ensures)
+    ∙ after-standing-of .before .before .if1 .left)
+    (sym (rw (after-standing-of .standing-of .ensures) at (after-of-kind .before .before .view-refusal .ensures))
+    ∙ after-of-kind .before .if2 .left) (rw
+    (after-enter .before .flag-in .ensures, after-of-kind .of-kind .ensures, after-standing-of .standing-of .ensures)
     at (after-enter .enter .ensures (after-args .args .blocks .now)))
 
 pub view-spec : {M : Type 1} → statement M
@@ -65,6 +47,5 @@ view-spec =
     tie.close
     (tie.spec (λ c κs. search needs) (λ c κs. search needs) (λ c. search needs) (λ c. search needs)
     (λ c. search needs) returns standing-of-requires (λ c κs. search needs) (λ c κs. search needs)
-    (λ c. search needs) (λ c. search needs) (λ c. search needs) returns-2 replica-word-requires
-    replica-word-requires-2 (λ c κs. search needs) (λ c κs. search needs) enter-requires (λ c. search needs)
-    (λ c. search needs) (λ c. search needs) returns-3)
+    (λ c. search needs) (λ c. search needs) (λ c. search needs) returns-2 (λ c κs. search needs)
+    (λ c κs. search needs) enter-requires (λ c. search needs) (λ c. search needs) (λ c. search needs) returns-3)

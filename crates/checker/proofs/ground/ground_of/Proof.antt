@@ -2,8 +2,8 @@ use mathlib.Core.Path.{sym, _∙_}
 use native.Mathlib.Omega.{arith}
 use borrow.Author.Needs.{needs}
 use Rattle.checker.proofs.Grounds.{acc-other-kind, acc-other-signer, acc-gives, no-quorum, quorum-gives, has-next}
-use Rattle.checker.proofs.ground_of.Statement.{statement}
-use Rattle.checker.proofs.ground_of.Tie as tie
+use Rattle.checker.proofs.ground.ground_of.Statement.{statement}
+use Rattle.checker.proofs.ground.ground_of.Tie as tie
 
 signed-at-requires : tie.Need-signed-at-requires
 signed-at-requires c κs =

@@ -1,6 +1,6 @@
 use borrow.Author.Needs.{needs}
-use Rattle.checker.proofs.signed_at.Statement.{statement}
-use Rattle.checker.proofs.signed_at.Tie as tie
+use Rattle.checker.proofs.words.signed_at.Statement.{statement}
+use Rattle.checker.proofs.words.signed_at.Tie as tie
 
 returns : tie.Need-returns
 returns c = cc

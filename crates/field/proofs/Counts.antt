@@ -8,7 +8,7 @@ use native.Mathlib.Numerals.{add-one}
 use lib.Dec.{ltb, leb}
 use Rattle.field.specs.Digits.{leastFrom, digitCount}
 use Rattle.field.specs.Field.{columns, maxNumber}
-use Rattle.field.specs.Theorems.{Least, CountIsLeast}
+use Rattle.field.specs.Theorems.{CountIsLeast}
 use Rattle.field.proofs.Tests.{tests, by-test}
 
 module _ (n : ℕ) where

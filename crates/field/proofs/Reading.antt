@@ -1,7 +1,7 @@
 -- Reading digits: what they make, how great it is, and that its digits are the bytes read.
 use Prim.Native.Nat.{ℕ, zero, suc, _+_, _-_, _*_, _≤_, _<_, _/_, _%_, _^_}
 use mathlib.Core.Path.{_≡_, refl, sym, ap, _∙_}
-use mathlib.Core.Bool.{Bool, true, false, cond, _&&_}
+use mathlib.Core.Bool.{true, false}
 use mathlib.Core.List.{List, [], _∷_, _++_, append-assoc, append-nil}
 use mathlib.Core.Logic.{_⊎_, inl, inr, ⊎-elim, _≢_}
 use native.Mathlib.Omega.{arith}
@@ -10,8 +10,8 @@ use native.Mathlib.Numerals.{add-one}
 use lib.Dec.{ltb, leb, eqb}
 use lib.ListN.{length, replicate, getD, take, drop, length-take, length-drop, drop-of-length-le}
 use lib.Seq.{drop-cons}
-use Rattle.field.specs.Digits.{digitZero, digitNine, isDigit, digits, digitCount}
-use Rattle.field.specs.Field.{columns, blank, maxNumber, noNumber, continued, isLeadingZero, unpadded, justified, readField}
+use Rattle.field.specs.Digits.{digitZero, digitNine, isDigit, digits}
+use Rattle.field.specs.Field.{columns, blank, maxNumber, noNumber, continued, unpadded, justified, readField}
 use Rattle.field.proofs.Tests.{tests, by-test}
 use Rattle.field.proofs.Counts.{next-power}
 
@@ -66,7 +66,7 @@ justified-digits zero n bs l h =
 justified-digits (suc k) n bs l h =
     let l' : 10 * 10 ^ k ≤ n = rw (pow-succ' 10 k) at l in
     let h' : n < 10 * 10 ^ suc k = rw (pow-succ' 10 (suc k)) at h in
-    rw append-assoc
+    rw (append-assoc (digits (suc k) (n / 10)) ((digitZero + n % 10) ∷ []) bs)
     (justified-digits k (n / 10) ((digitZero + n % 10) ∷ bs) (omega arith) (omega arith)
     ∙ (continued-digit (n / 10) (digitZero + n % 10) bs (omega arith) (omega arith) ∙ ap (λ x. continued x bs) (omega arith)))
 
@@ -136,9 +136,9 @@ pub reads-all : (l : List ℕ) (i v : ℕ) → length l ≤ i → continued v (d
 unfolding continued
 reads-all l i v h = rw (drop-of-length-le l h)
 
--- Eight digits stay below the power of ten.
-pub stays-small : (i v d : ℕ) → i < columns → v < 10 ^ i → d ≤ 9 → (10 * v + d < 10 ^ (i + 1)) × (10 * v + d ≤ maxNumber)
-stays-small i v d h l u =
+-- What i digits make is below the power of ten, and eight digits are no more than a field holds: one digit more.
+pub stays-small : (i v : ℕ) → i < columns → v < 10 ^ i → (10 * v + 9 < 10 ^ (i + 1)) × (10 * v + 9 ≤ maxNumber)
+stays-small i v h l =
     let e = next-power i in
     let m = pow-le-pow-right {n = 10} (omega arith) {i = i + 1} {j = columns} (omega arith) in
     (omega arith, omega arith)

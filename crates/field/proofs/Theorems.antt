@@ -1,16 +1,16 @@
 -- Reading undoes writing, writing undoes reading, and a read is bounded.
 use Prim.Native.Nat.{ℕ, zero, suc, _+_, _-_, _*_, _≤_, _<_, _/_, _^_}
-use mathlib.Core.Path.{_≡_, refl, sym, ap, _∙_}
-use mathlib.Core.Bool.{true, false, cond, _&&_}
+use mathlib.Core.Path.{_≡_, refl, _∙_}
+use mathlib.Core.Bool.{true, false}
 use mathlib.Core.List.{List, [], _∷_, _++_, append-nil}
 use mathlib.Core.Logic.{_⊎_, inl, inr, ⊎-elim}
 use native.Mathlib.Omega.{arith}
 use native.Mathlib.Nat.{pow-succ', mul-le-mul-right}
 use lib.Dec.{ltb, leb, eqb}
 use lib.ListN.{length, replicate, length-append, length-replicate}
-use Rattle.field.specs.Digits.{digitZero, digitCount, leastFrom, digits}
-use Rattle.field.specs.Field.{columns, blank, maxNumber, noNumber, fieldOf, writeField, continued, isLeadingZero, unpadded, justified}
-use Rattle.field.specs.Field.{readField}
+use Rattle.field.specs.Digits.{digitZero, digitCount, digits}
+use Rattle.field.specs.Field.{columns, blank, maxNumber, noNumber, fieldOf, writeField}
+use Rattle.field.specs.Field.{continued, isLeadingZero, unpadded, justified, readField}
 use Rattle.field.specs.Theorems.{WrittenReadsBack, ReadWritesBack, ReadIsBounded}
 use Rattle.field.proofs.Tests.{tests, by-test}
 use Rattle.field.proofs.Counts.{count-fits, count-of-zero, count-positive, below-power, count-is, first-digit}
@@ -68,7 +68,8 @@ count-of-read b bs z h =
     by-test (eqb b digitZero) (λ t. rw s (lone b bs t (rw t at z)))
     (λ t.
     let more : 1 * 10 ^ length bs ≤ (b - digitZero) * 10 ^ length bs = mul-le-mul-right _ (omega tests) in
-    ⊎-elim (λ high. rw s (count-is _ (length bs) (omega arith) (omega arith))) (λ e. absurd (omega arith)) (continued-high (b ∷ bs) 0)))
+    ⊎-elim (λ high. rw s (count-is _ (length bs) (omega arith) (omega arith))) (λ e. absurd (omega arith))
+    (continued-high (b ∷ bs) 0)))
     (λ t. absurd (let e = not-digit 0 b bs t in omega arith))
   where
     lone : (b : ℕ) (bs : List ℕ) → eqb b digitZero ≡ true → ltb 0 (length bs) ≡ false

@@ -1,12 +1,12 @@
 -- Writing from the last column to the first: a digit, then a blank.
 use Prim.Native.Nat.{ℕ, zero, suc, _+_, _-_, _≤_, _<_, _/_, _%_}
 use mathlib.Core.Path.{_≡_, refl, ap}
-use mathlib.Core.List.{List, [], _∷_, _++_, append-assoc, append-nil}
-use mathlib.Core.Bool.{true, false, cond, _&&_}
+use mathlib.Core.List.{List, _∷_, _++_, append-assoc, append-nil}
+use mathlib.Core.Bool.{true, false}
 use mathlib.Core.Logic.{_≢_}
 use native.Mathlib.Omega.{arith}
 use lib.Dec.{eqb, leb}
-use lib.ListN.{length, replicate, getD, drop, set, length-set, drop-of-length-le}
+use lib.ListN.{length, replicate, drop, set, length-set, drop-of-length-le}
 use lib.Seq.{drop-cons, getD-set-same, drop-set-lt}
 use Rattle.field.specs.Digits.{digitZero, digits, digitCount}
 use Rattle.field.specs.Field.{columns, blank, maxNumber, accepted, unwritable, fieldOf, written, writeField}

@@ -14,10 +14,11 @@ digitNine = 57
 abbrev pub isDigit : ℕ → Bool
 isDigit byte = leb digitZero byte && leb byte digitNine
 
--- The least count from k up whose power of ten is above the number, found in at most so many steps.
+-- The least count from k up whose power of ten is above the number, found in at most so many steps. (The `let` computes only the
+-- steps that are needed.)
 unfoldable pub leastFrom : ℕ → ℕ → ℕ → ℕ
 leastFrom zero k number = k
-leastFrom (suc steps) k number = cond (ltb number (10 ^ k)) k (leastFrom steps (suc k) number)
+leastFrom (suc steps) k number = let next = leastFrom steps (suc k) number in cond (ltb number (10 ^ k)) k next
 
 -- The digit count: the least count from 1 up whose power of ten is above the number. As many steps as the number says are enough.
 unfoldable pub digitCount : ℕ → ℕ

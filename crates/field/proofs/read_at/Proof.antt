@@ -18,7 +18,8 @@ returns-2 c =
 
 returns-3 : tie.Need-returns-3
 returns-3 c =
-    let eight : (c .before .before .before .before .before .args .at + columns) - c .before .before .before .before .before .args .at ≡ columns = omega arith in
+    let a = c .before .before .before .before .before .args in
+    let eight : (a .at + columns) - a .at ≡ columns = omega arith in
     rw eight at (c .read-number .ensures)
 
 pub read-at-spec : {M : Type 1} → statement M

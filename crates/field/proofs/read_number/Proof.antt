@@ -16,8 +16,7 @@ abbrev μ-loop : tie.MeasureT-loop
 μ-loop bytes i₀ i = columns - i
 
 returns : tie.Need-returns Inv-loop μ-loop
-returns c =
-    not-eight (c .before .before .args .bytes .now) (omega arith)
+returns c = not-eight (c .before .before .args .bytes .now) (omega arith)
 
 loop-holds : tie.Need-loop-holds Inv-loop μ-loop
 loop-holds c =
@@ -25,17 +24,20 @@ loop-holds c =
 
 returns-2 : tie.Need-returns-2 Inv-loop μ-loop
 returns-2 c =
+    let bytes = c .before .before .before .before .before .before .before .args .bytes .now in
     let l = c .before .before .before .before .loop in
-    c .read-digits .ensures ∙ (sym (after-last-blank (c .before .before .before .before .before .before .before .args .bytes .now) (l .i) (omega arith) (omega arith)) ∙ l .inv .2)
+    c .read-digits .ensures ∙ (sym (after-last-blank bytes (l .i) (omega arith) (omega arith)) ∙ l .inv .2)
 
 loop-again : tie.Need-loop-again Inv-loop μ-loop
 loop-again c =
+    let bytes = c .before .before .before .before .before .before .args .bytes .now in
     let l = c .before .before .before .loop in
-    (omega arith, l .inv .1, skips-blank (c .before .before .before .before .before .before .args .bytes .now) (l .i) (omega arith) (omega arith) ∙ l .inv .2)
+    (omega arith, l .inv .1, skips-blank bytes (l .i) (omega arith) (omega arith) ∙ l .inv .2)
 
 returns-3 : tie.Need-returns-3 Inv-loop μ-loop
 returns-3 c =
-    let l = c .before .loop in sym (only-blanks (c .before .before .before .before .args .bytes .now) (l .i) (omega arith)) ∙ l .inv .2
+    let l = c .before .loop in
+    sym (only-blanks (c .before .before .before .before .args .bytes .now) (l .i) (omega arith)) ∙ l .inv .2
 
 pub read-number-spec : {M : Type 1} → statement M
 read-number-spec =

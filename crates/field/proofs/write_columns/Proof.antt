@@ -1,6 +1,6 @@
--- The digits left of the rest, and the columns written, are the number's digits; then the blanks left and those columns its field.
-use Prim.Native.Nat.{_+_, _-_, _≤_, _<_}
-use mathlib.Core.Path.{_≡_, sym, _∙_}
+-- The digits left and the columns written are the number's digits; then the blanks left and those columns are its field.
+use Prim.Native.Nat.{_-_, _≤_}
+use mathlib.Core.Path.{_≡_, _∙_}
 use mathlib.Core.List.{_++_}
 use native.Mathlib.Omega.{arith}
 use borrow.Author.Needs.{needs}
@@ -29,23 +29,35 @@ abbrev μ-loop2 : tie.MeasureT-loop2
 
 cast-first : tie.Need-cast-first Inv-loop μ-loop Inv-loop2 μ-loop2
 cast-first c =
-    let l = count-fits (c .before .before .args .number) (c .before .before .pre .small) in omega (arith, c .digit-count .ensures)
+    let start = c .before .before in
+    omega (arith, c .digit-count .ensures, count-fits (start .args .number) (start .pre .small))
 
 sub-first : tie.Need-sub-first Inv-loop μ-loop Inv-loop2 μ-loop2
 sub-first c =
-    let l = count-fits (c .before .before .args .number) (c .before .before .pre .small) in omega (arith, c .digit-count .ensures)
+    let start = c .before .before in
+    omega (arith, c .digit-count .ensures, count-fits (start .args .number) (start .pre .small))
 
 loop-holds : tie.Need-loop-holds Inv-loop μ-loop Inv-loop2 μ-loop2
 loop-holds c =
     let start = c .before .before in
-    let u = count-fits (start .args .number) (start .pre .small) in
     let e = c .digit-count .ensures in
-    (omega arith, omega arith, start .pre .eight, omega arith, starts (start .args .bytes .now) _ _ (start .pre .eight) e (omega arith))
+    let u = count-fits (start .args .number) (start .pre .small) in (
+      omega arith,
+      omega arith,
+      start .pre .eight,
+      omega arith,
+      starts (start .args .bytes .now) _ _ (start .pre .eight) e (omega arith),
+    )
 
 loop-again : tie.Need-loop-again Inv-loop μ-loop Inv-loop2 μ-loop2
 loop-again c =
-    let l = c .before .loop in
-    (omega arith, omega arith, simp length-set (l .inv .2), l .inv .3, digit-written (l .bytes) _ (l .at) (l .rest) (c .loop-test .taken) (omega arith) ∙ l .inv .4)
+    let l = c .before .loop in (
+      omega arith,
+      omega arith,
+      simp length-set (l .inv .2),
+      l .inv .3,
+      digit-written (l .bytes) _ (l .at) (l .rest) (c .loop-test .taken) (omega arith) ∙ l .inv .4,
+    )
 
 loop2-holds : tie.Need-loop2-holds Inv-loop μ-loop Inv-loop2 μ-loop2
 loop2-holds c =
@@ -54,8 +66,11 @@ loop2-holds c =
 
 loop2-again : tie.Need-loop2-again Inv-loop μ-loop Inv-loop2 μ-loop2
 loop2-again c =
-    let l = c .before .loop2 in
-    (omega arith, simp length-set (l .inv .1), blank-written (l .bytes) (l .at) (c .loop2-test .taken) (omega arith) ∙ l .inv .2)
+    let l = c .before .loop2 in (
+      omega arith,
+      simp length-set (l .inv .1),
+      blank-written (l .bytes) (l .at) (c .loop2-test .taken) (omega arith) ∙ l .inv .2,
+    )
 
 returns : tie.Need-returns Inv-loop μ-loop Inv-loop2 μ-loop2
 returns c =

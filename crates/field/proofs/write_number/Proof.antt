@@ -11,11 +11,12 @@ returns c =
 
 returns-2 : tie.Need-returns-2
 returns-2 c =
-    let a = c .before .before .before .args in too-great (a .number) (a .bytes .now) (c .if2 .taken)
+    let a = c .before .before .before .args in too-great (a .number) (a .bytes .now) (omega arith)
 
 returns-3 : tie.Need-returns-3
 returns-3 c =
-    let a = c .before .before .before .before .before .before .before .args in is-written (a .number) (a .bytes .now) _ (omega arith) (omega arith) (c .before .before .write-columns .ensures)
+    let a = c .before .before .before .before .before .before .before .args in
+    is-written (a .number) (a .bytes .now) _ (omega arith) (omega arith) (c .before .before .write-columns .ensures)
 
 pub write-number-spec : {M : Type 1} → statement M
 write-number-spec =

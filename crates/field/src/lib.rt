@@ -1,0 +1,138 @@
+// The eight-column number: reading and writing one field (document 01, "Script program").
+ghost use Prim.Native.Nat.{_≤_, _<_};
+ghost use mathlib.Core.Path.{_≡_};
+ghost use lib.ListN.{length, take, drop};
+ghost use Rattle.field.specs.Digits.{digitCount};
+ghost use Rattle.field.specs.Field.{
+  columns,
+  maxNumber,
+  fieldOf,
+  written,
+  writeField,
+  Writable,
+  unpadded,
+  readField,
+};
+
+const COLUMNS: usize = 8;
+
+const LAST_COLUMN: usize = 7;
+
+const BLANK: u8 = 32;
+
+const DIGIT_ZERO: u8 = 48;
+
+const DIGIT_NINE: u8 = 57;
+
+const MAX_NUMBER: u32 = 99_999_999;
+
+// What a read gives for bytes that are no field.
+const NO_NUMBER: u32 = 4_294_967_295;
+
+const ACCEPTED: u32 = 0;
+
+// What a write gives where nothing is written.
+const UNWRITABLE: u32 = 10;
+
+// How many digits a number has.
+fn digit_count(number: u32) -> u32
+    requires { ⌜ number ≤ maxNumber ⌝ }
+    ensures { λ r. ⌜ r ≡ digitCount number ⌝ }
+{
+    let mut count = 1;
+    let mut power = 10;
+    while power <= number {
+        power = power * 10;
+        count += 1;
+    }
+    count
+}
+
+// From the last column to the first: the digits, then the blanks.
+fn write_columns(number: u32, bytes: &mut [u8])
+    requires { ⌜ Writable number (now bytes) ⌝ }
+    ensures { λ r. ⌜ now (bytes .exit) ≡ fieldOf number ⌝ }
+{
+    let first = COLUMNS - digit_count(number) as usize;
+    let mut rest = number;
+    let mut at = COLUMNS;
+    while first < at {
+        at -= 1;
+        bytes[at] = DIGIT_ZERO + (rest % 10) as u8;
+        rest = rest / 10;
+    }
+    while 0 < at {
+        at -= 1;
+        bytes[at] = BLANK;
+    }
+}
+
+// Writes the field of a number; the answer is 0, or 10 with the bytes untouched.
+pub fn write_number(number: u32, bytes: &mut [u8]) -> u32
+    ensures { λ r. ⌜ written r (now (bytes .exit)) ≡ writeField number (now (bytes .entry)) ⌝ }
+{
+    if bytes.len() != COLUMNS {
+        return UNWRITABLE;
+    }
+    if MAX_NUMBER < number {
+        return UNWRITABLE;
+    }
+    write_columns(number, bytes);
+    ACCEPTED
+}
+
+// The number whose digits go from a column to the last.
+fn read_digits(bytes: &[u8], first: usize) -> u32
+    requires { ⌜ (length (now bytes) ≡ columns) × (first < columns) ⌝ }
+    ensures { λ r. ⌜ r ≡ unpadded (drop first (now (bytes .entry))) ⌝ }
+{
+    if bytes[first] == DIGIT_ZERO {
+        if first < LAST_COLUMN {
+            return NO_NUMBER;
+        }
+    }
+    let mut number: u32 = 0;
+    let mut i = first;
+    while i < COLUMNS {
+        let byte = bytes[i];
+        if byte < DIGIT_ZERO {
+            return NO_NUMBER;
+        }
+        if DIGIT_NINE < byte {
+            return NO_NUMBER;
+        }
+        number = 10 * number + (byte - DIGIT_ZERO) as u32;
+        i += 1;
+    }
+    number
+}
+
+// The number in a field, or 4,294,967,295 for bytes that are none.
+pub fn read_number(bytes: &[u8]) -> u32
+    ensures { λ r. ⌜ r ≡ readField (now (bytes .entry)) ⌝ }
+{
+    if bytes.len() != COLUMNS {
+        return NO_NUMBER;
+    }
+    let mut i = 0;
+    while i < COLUMNS {
+        if bytes[i] != BLANK {
+            return read_digits(bytes, i);
+        }
+        i += 1;
+    }
+    NO_NUMBER
+}
+
+// The same for the field that starts at a column of a longer line; none starts where fewer than eight are left.
+pub fn read_at(bytes: &[u8], at: usize) -> u32
+    ensures { λ r. ⌜ r ≡ readField (take columns (drop at (now (bytes .entry)))) ⌝ }
+{
+    if bytes.len() < COLUMNS {
+        return NO_NUMBER;
+    }
+    if bytes.len() - COLUMNS < at {
+        return NO_NUMBER;
+    }
+    read_number(&bytes[at..at + COLUMNS])
+}

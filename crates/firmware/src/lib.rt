@@ -4,6 +4,7 @@ ghost use Rattle.protocol.specs.Memory.{memory};
 ghost use Rattle.protocol.specs.Outcome.{left};
 ghost use Rattle.firmware.specs.Called.{called};
 ghost use Rattle.ledger.specs.Panel.{panelAnswer};
+ghost use Rattle.field.specs.Field.{readField, written, writeField};
 use codes::Coded;
 
 // What a call returns whose arguments are no call.
@@ -48,4 +49,20 @@ pub extern "C" fn yard_panel(
     let answer = ledger::panel(table, log, blocks, replica);
     *height = answer.first;
     answer.number
+}
+
+// The number of eight columns, or 4294967295 for bytes that are no such field.
+#[no_mangle]
+pub extern "C" fn yard_read_number(bytes: &[u8]) -> u32
+    ensures { λ r. ⌜ r ≡ readField (now (bytes .entry)) ⌝ }
+{
+    field::read_number(bytes)
+}
+
+// 0, or 10 with the bytes untouched where there are not eight or the number has more digits.
+#[no_mangle]
+pub extern "C" fn yard_write_number(number: u32, bytes: &mut [u8]) -> u32
+    ensures { λ r. ⌜ written r (now (bytes .exit)) ≡ writeField number (now (bytes .entry)) ⌝ }
+{
+    field::write_number(number, bytes)
 }

@@ -1,0 +1,30 @@
+/* The agreement core of a ledger box: four functions of the archive that `rt staticlib firmware` writes.
+ *
+ * What a caller owes: each pointer with its true length, and slices that do not overlap one another or the two values. Nothing else: any
+ * contents of the slices and any numbers are answered, and a refused call changes no word. */
+#ifndef YARD_H
+#define YARD_H
+
+#include <stddef.h>
+#include <stdint.h>
+
+/* The number that eight columns hold, or 4294967295 for bytes that are no such field. */
+uint32_t yard_read_number(const uint8_t *bytes, size_t length);
+
+/* Writes a number right-justified into eight columns: 0; or 10 with nothing written where the length is not eight or the number is above
+ * 99999999. */
+uint32_t yard_write_number(uint32_t number, uint8_t *bytes, size_t length);
+
+/* A call: 0, or the number of its refusal with no word changed. Codes, unused arguments and list lengths are those of a script line: 0 open
+ * (f as replica), 1 block (parent as number), 2 prepare on an ACC (block as number, the ACC as the one list number), 3 prepare on commits,
+ * 4 store, 5 view, 6 accumulate, 7 decide, 8 reboot, 9 reserve, 10 request, 11 reply, 12 recover. A code above 12, a list where none
+ * belongs, one of more than 31 numbers or an unused argument that is not 0 gives 10. Both values are always written. */
+uint32_t yard_call(uint32_t code, uint32_t replica, uint32_t number, const uint32_t *list, size_t list_length, uint32_t *table,
+                   size_t table_length, uint32_t *log, size_t log_length, uint32_t *blocks, size_t blocks_length, uint32_t *first,
+                   uint32_t *second);
+
+/* The height of a replica's decided block: 0, or 1 for wrong form and 2 for a replica out of range with a height of 0. */
+uint32_t yard_panel(const uint32_t *table, size_t table_length, const uint32_t *log, size_t log_length, const uint32_t *blocks,
+                    size_t blocks_length, uint32_t replica, uint32_t *height);
+
+#endif

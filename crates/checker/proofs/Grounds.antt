@@ -20,11 +20,10 @@ use Rattle.protocol.proofs.Formed.{Formed, formed, sizes}
 use Rattle.layout.proofs.Within.{certificate-bounds}
 use Rattle.quorum.specs.Lists.{certificatesIn}
 use Rattle.quorum.proofs.Accepted.{listed, some-listed, every-at, commits}
-use Rattle.checks.specs.Needs.{replicaNeeds, numberNeeds, listNeeds}
+use Rattle.checks.specs.Needs.{numberNeeds, listNeeds}
 use Rattle.checks.proofs.Ready.{Ready}
 use Rattle.checker.specs.declared.words.Signed.{Signed}
 use Rattle.checker.specs.declared.ground.Ground.{Ground}
-use Rattle.checker.specs.declared.ground.Given.{Given}
 use Rattle.checker.specs.declared.ground.Given.the-variants.{By, Nothing}
 use Rattle.checker.specs.Steps.{standingIn, signedIn}
 use Rattle.checker.specs.Grounds.{justificationNeeds, CommitsIn, Grounded, groundFrom, groundOf, proposalTests}

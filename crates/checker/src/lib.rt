@@ -141,15 +141,9 @@ pub fn prepare(
     let Given::By(ground) = given else {
         return refused(WRONG_CERTIFICATE);
     };
+    let f = table[FAULT_BOUND_AT];
     let parent = layout::parent(blocks, block);
-    let refusal = proposal_refusal(
-        table[FAULT_BOUND_AT],
-        replica,
-        block,
-        parent,
-        standing,
-        ground,
-    );
+    let refusal = proposal_refusal(f, replica, block, parent, standing, ground);
     if refusal != 0 {
         return refused(refusal);
     }
@@ -231,10 +225,11 @@ pub fn store(
     if refusal != 0 {
         return refused(refusal);
     }
+    let next_view = proposal.view + 1;
     let stored = Stored {
         view: proposal.view,
         block: proposal.block,
-        min_view: proposal.view + 1,
+        min_view: next_view,
         flag: LOWERED,
     };
     let c = of_kind(COMMIT, replica, proposal.view, proposal.block, 0);

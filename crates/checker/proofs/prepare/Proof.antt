@@ -34,7 +34,8 @@ standing-of-requires c κs =
 
 returns-3 : tie.Need-returns-3
 returns-3 c =
-    let after-if2 = c .before .before .before .before .before in
+    let after-before = c .before .before .before .before in
+    let after-if2 = after-before .before in
     stops-further (preparing _ _ _ _ _)
     (sym (after-if2 .before .before .before .justification-refusal .ensures) ∙ after-if2 .before .before .if1 .left)
     (c .refused3 .ensures) (not-live _ _ _ _ _ (omega (tests, after-if2 .if2 .left))
@@ -42,13 +43,16 @@ returns-3 c =
 
 ground-of-requires : tie.Need-ground-of-requires
 ground-of-requires c κs =
-    let after-if1 = c .before .before .before .before .before .before .before in
+    let after-before = c .before .before .before .before .before in
+    let after-before = after-before .before in
+    let after-if1 = after-before .before in
     ready-justification _ _ _ _
     (sym (after-if1 .before .justification-refusal .ensures) ∙ after-if1 .if1 .left) .grounded
 
 returns-4 : tie.Need-returns-4
 returns-4 c =
-    let after-if3 = c .before .before .before .before .before in
+    let after-before = c .before .before .before .before in
+    let after-if3 = after-before .before in
     let after-if2 = after-if3 .before .before .before .before in
     stops-further (preparing _ _ _ _ _)
     (sym (after-if2 .before .before .before .justification-refusal .ensures) ∙ after-if2 .before .before .if1 .left)
@@ -56,45 +60,50 @@ returns-4 c =
     (rw (after-if3 .before .before .standing-of .ensures) at (after-if3 .if3 .left))
     (sym (c .before .enum-told .given .1) ∙ c .before .before .before .ground-of .ensures)) (omega arith)
 
-parent-requires : tie.Need-parent-requires
-parent-requires c κs =
-    let after-if2 = c .before .before .before .before .before .before .before .before .before .before in
-    let z = ready-justification _ _ _ _ (sym (after-if2 .before .before .before .justification-refusal .ensures)
-    ∙ after-if2 .before .before .if1 .left) .ready .sizes in
-    omega (arith, z, after-if2 .if2 .left)
-
-slice-read-proposal-refusal : tie.Need-slice-read-proposal-refusal
-slice-read-proposal-refusal c =
-    let middle = c .before .before .before .before .before .before .before in
-    let after-if1 = middle .before .before .before .before .before .before .before in
+slice-read-f : tie.Need-slice-read-f
+slice-read-f c =
+    let middle = c .before .before .before .before .before .before in
+    let after-if1 = middle .before .before .before .before .before .before in
     let z = ready-justification _ _ _ _
     (sym (after-if1 .before .justification-refusal .ensures) ∙ after-if1 .if1 .left) .ready .sizes in
     omega (arith, z)
 
+parent-requires : tie.Need-parent-requires
+parent-requires c κs =
+    let after-if2 = c .before .before .before .before .before .before .before .before .before .before .before in
+    let z = ready-justification _ _ _ _ (sym (after-if2 .before .before .before .justification-refusal .ensures)
+    ∙ after-if2 .before .before .if1 .left) .ready .sizes in
+    omega (arith, z, after-if2 .if2 .left)
+
 proposal-refusal-requires : tie.Need-proposal-refusal-requires
 proposal-refusal-requires c κs =
-    let middle = c .before .before .before .before .before .before .before in
+    let after-before = c .before .before .before .before .before in
+    let after-before = after-before .before in
+    let middle = after-before .before in
     let after-if1 = middle .before .before .before .before .before .before .before in
     ready-justification _ _ _ _
     (sym (after-if1 .before .justification-refusal .ensures) ∙ after-if1 .if1 .left) .ready .sizes .faultsHigh
 
 returns-5 : tie.Need-returns-5
 returns-5 c =
-    let after-parent = c .before .before .before .before in
-    let after-ground-of = after-parent .before .before .before .before .before in
-    let after-standing-of = after-ground-of .before .before .before .before in
+    let after-given = c .before .before .before .before .before .before .before in
+    let after-if3 = after-given .before .before .before .before in
+    let after-standing-of = after-if3 .before .before in
     let after-if1 = after-standing-of .before .before .before .before in
+    let given = sym (after-given .given .given .1) ∙ after-given .before .before .ground-of .ensures in
+    let tested = rw (c .before .before .before .parent .ensures, after-standing-of .standing-of .ensures)
+    at (c .before .before .proposal-refusal .ensures) in
     stops-further (preparing _ _ _ _ _)
     (sym (after-if1 .before .justification-refusal .ensures) ∙ after-if1 .if1 .left) (c .refused5 .ensures)
     (on-ground _ _ _ _ _ (omega (tests, after-standing-of .before .before .if2 .left))
-    (rw (after-standing-of .standing-of .ensures) at (after-ground-of .before .before .if3 .left))
-    (sym (after-parent .before .before .before .given .given .1) ∙ after-ground-of .ground-of .ensures)
-    (rw (after-parent .parent .ensures, after-standing-of .standing-of .ensures)
-    at (c .before .before .proposal-refusal .ensures))) (omega (arith, c .before .if4 .taken))
+    (rw (after-standing-of .standing-of .ensures) at (after-if3 .if3 .left)) given tested)
+    (omega (arith, c .before .if4 .taken))
 
 propose-requires : tie.Need-propose-requires
 propose-requires c κs =
-    let middle = c .before .before .before .before .before .before .before .before .before in
+    let after-before = c .before .before .before .before .before .before .before in
+    let after-before = after-before .before in
+    let middle = after-before .before in
     let after-if1 = middle .before .before .before .before .before .before .before .before .before in
     issuable _ _ (ready-justification _ _ _ _
     (sym (after-if1 .before .justification-refusal .ensures) ∙ after-if1 .if1 .left) .ready)
@@ -109,11 +118,11 @@ returns-6 c =
     let after-if1 = after-standing-of .before .before .before .before in
     let after-args = after-if1 .before .before .before .before .before .before .before .before .before in
     let given = sym (after-given .given .given .1) ∙ after-given .before .before .ground-of .ensures in
+    let tested = rw (after-proposal-refusal .before .parent .ensures, after-standing-of .standing-of .ensures)
+    at (after-proposal-refusal .proposal-refusal .ensures) in
     passes (preparing _ _ _ _ _) (sym (after-if1 .before .justification-refusal .ensures) ∙ after-if1 .if1 .left)
     (sym (on-ground _ _ _ _ _ (omega (tests, after-standing-of .before .before .if2 .left))
-    (rw (after-standing-of .standing-of .ensures) at (after-if3 .if3 .left)) given
-    (rw (after-proposal-refusal .before .before .parent .ensures, after-standing-of .standing-of .ensures)
-    at (after-proposal-refusal .proposal-refusal .ensures)))
+    (rw (after-standing-of .standing-of .ensures) at (after-if3 .if3 .left)) given tested)
     ∙ after-propose .before .before .before .if4 .left)
     (rw (given-by _ _ _ given .1) at (after-propose .propose .ensures (after-args .args .blocks .now)))
 
@@ -124,7 +133,7 @@ prepare-spec =
     (λ c. search needs) returns slice-read-if2 (λ c κs. search needs) (λ c. search needs) (λ c. search needs)
     (λ c. search needs) returns-2 standing-of-requires (λ c κs. search needs) (λ c. search needs)
     (λ c. search needs) (λ c. search needs) returns-3 ground-of-requires (λ c. search needs) (λ c. search needs)
-    (λ c κs. search needs) (λ c. search needs) (λ c. search needs) (λ c. search needs) returns-4 parent-requires
-    slice-read-proposal-refusal proposal-refusal-requires (λ c κs. search needs) (λ c. search needs)
-    (λ c. search needs) (λ c. search needs) returns-5 propose-requires (λ c. search needs) (λ c. search needs)
-    (λ c. search needs) returns-6)
+    (λ c κs. search needs) (λ c. search needs) (λ c. search needs) (λ c. search needs) returns-4 slice-read-f
+    parent-requires proposal-refusal-requires (λ c κs. search needs) (λ c. search needs) (λ c. search needs)
+    (λ c. search needs) returns-5 propose-requires (λ c. search needs) (λ c. search needs) (λ c. search needs)
+    returns-6)

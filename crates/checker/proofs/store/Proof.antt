@@ -41,12 +41,12 @@ returns-2 c =
     let after-signed-at = c .before .before .before .before in
     let after-if1 = after-signed-at .before .before .before .before in
     stops-further (storing _ _ _) (sym (after-if1 .before .number-refusal .ensures) ∙ after-if1 .if1 .left)
-    (c .refused2 .ensures) (rw
-    (after-signed-at .before .before .standing-of .ensures, after-signed-at .signed-at .ensures)
+    (c .refused2 .ensures)
+    (rw (after-signed-at .before .before .standing-of .ensures, after-signed-at .signed-at .ensures)
     at (c .before .before .store-refusal .ensures)) (omega (arith, c .before .if2 .taken))
 
-add-t24 : tie.Need-add-t24
-add-t24 c =
+add-next-view : tie.Need-add-next-view
+add-next-view c =
     let after-signed-at = c .before .before .before .before in
     let after-if1 = after-signed-at .before .before .before .before in
     let low = signed-view _ _ _
@@ -66,9 +66,9 @@ returns-3 c =
     let after-if1 = after-signed-at .before .before .before .before in
     let after-args = after-if1 .before .before .before .before .before .before .before .before in
     passes (storing _ _ _) (sym (after-if1 .before .number-refusal .ensures) ∙ after-if1 .if1 .left)
-    (sym (rw (after-signed-at .before .before .standing-of .ensures, after-signed-at .signed-at .ensures) at (after-if2 .before .store-refusal .ensures))
-    ∙ after-if2 .if2 .left) (rw
-    (after-commit .before .before .before .of-kind .ensures, after-signed-at .signed-at .ensures)
+    (sym (rw (after-signed-at .before .before .standing-of .ensures, after-signed-at .signed-at .ensures)
+    at (after-if2 .before .store-refusal .ensures)) ∙ after-if2 .if2 .left)
+    (rw (after-commit .before .before .before .of-kind .ensures, after-signed-at .signed-at .ensures)
     at (after-commit .commit .ensures (after-args .args .blocks .now)))
 
 pub store-spec : {M : Type 1} → statement M
@@ -77,5 +77,5 @@ store-spec =
     (tie.spec (λ c κs. search needs) (λ c κs. search needs) (λ c. search needs) (λ c. search needs)
     (λ c. search needs) returns standing-of-requires signed-at-requires slice-read-store-refusal
     store-refusal-requires (λ c κs. search needs) (λ c. search needs) (λ c. search needs) (λ c. search needs)
-    returns-2 add-t24 (λ c κs. search needs) commit-requires (λ c. search needs) (λ c. search needs)
+    returns-2 add-next-view (λ c κs. search needs) commit-requires (λ c. search needs) (λ c. search needs)
     (λ c. search needs) returns-3)

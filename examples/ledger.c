@@ -1,0 +1,59 @@
+/* A ledger of three boxes in C: open it, decide a block, cut one replica's power, recover it. Ends with 1 at the first wrong answer. */
+#include "../include/yard.h"
+
+#include <stdio.h>
+
+enum { REPLICAS = 3, TABLE = 3 + 9 * REPLICAS, CERTIFICATES = 16, BLOCKS = 4 };
+
+enum { OPEN, BLOCK, PREPARE, PREPARE_ON_COMMITS, STORE, VIEW, ACCUMULATE, DECIDE, REBOOT, RESERVE, REQUEST, REPLY, RECOVER };
+
+static uint32_t table[TABLE], log_words[7 * CERTIFICATES], blocks[BLOCKS];
+
+static int wrong;
+
+/* Makes a call and holds its answer against what it should be. */
+static void call(uint32_t code, uint32_t replica, uint32_t number, const uint32_t *list, size_t length, uint32_t answer, uint32_t one,
+                 uint32_t two) {
+    uint32_t first, second;
+    uint32_t got =
+        yard_call(code, replica, number, list, length, table, TABLE, log_words, 7 * CERTIFICATES, blocks, BLOCKS, &first, &second);
+    int right = got == answer && first == one && second == two;
+    printf("%2u %u %2u: %u %u %u%s\n", code, replica, number, got, first, second, right ? "" : "  WRONG");
+    if (!right)
+        wrong = 1;
+}
+
+static void panel(uint32_t replica, uint32_t height) {
+    uint32_t shown = 0;
+    uint32_t got = yard_panel(table, TABLE, log_words, 7 * CERTIFICATES, blocks, BLOCKS, replica, &shown);
+    printf("panel of %u: %u\n", replica, shown);
+    if (got != 0 || shown != height)
+        wrong = 1;
+}
+
+int main(void) {
+    const uint32_t views[] = {0, 1}, acc[] = {2}, commits[] = {4, 5}, replies[] = {7, 8};
+    uint8_t columns[8];
+    call(OPEN, 1, 0, NULL, 0, 0, 3, 0);
+    call(VIEW, 0, 1, NULL, 0, 0, 0, 0);
+    call(VIEW, 1, 1, NULL, 0, 0, 1, 0);
+    call(ACCUMULATE, 1, 0, views, 2, 0, 2, 0);
+    call(BLOCK, 0, 0, NULL, 0, 0, 1, 0);
+    call(PREPARE, 1, 1, acc, 1, 0, 3, 0);
+    call(STORE, 0, 3, NULL, 0, 0, 4, 0);
+    call(REBOOT, 1, 0, NULL, 0, 0, 1, 64);
+    call(STORE, 1, 3, NULL, 0, 4, 0, 0);
+    call(STORE, 2, 3, NULL, 0, 0, 5, 0);
+    call(DECIDE, 0, 0, commits, 2, 0, 1, 1);
+    panel(0, 1);
+    panel(1, 0);
+    call(REQUEST, 1, 0, NULL, 0, 0, 6, 0);
+    call(REPLY, 0, 6, NULL, 0, 0, 7, 0);
+    call(REPLY, 2, 6, NULL, 0, 0, 8, 0);
+    call(RECOVER, 1, 0, replies, 2, 0, 64, 1);
+    call(13, 0, 0, NULL, 0, 10, 0, 0);
+    if (yard_write_number(64, columns, 8) != 0 || yard_read_number(columns, 8) != 64)
+        wrong = 1;
+    puts(wrong ? "wrong" : "right");
+    return wrong;
+}

@@ -117,14 +117,14 @@ module _ (m : Memory) (ws : List ℕ) (whole : length ws ≡ certificateWords) w
   unfolding appendCertificate
   append-lengths =
       record {
-        table = length-set (m .table) certificateCountAt (certificateCount m + 1);
+        table = simp length-set;
         log = length-sets (m .log) (certificateAt (certificateCount m)) ws;
         blocks = refl;
       }
 
   pub append-table : (k : ℕ) → k ≢ certificateCountAt → getD (appendCertificate m ws .table) k 0 ≡ getD (m .table) k 0
   unfolding appendCertificate
-  append-table k q = getD-set-other (m .table) certificateCountAt k (certificateCount m + 1) 0 q
+  append-table k q = getD-set-other (m .table) certificateCountAt k _ 0 q
 
   pub append-count : certificateCountAt < length (m .table) → certificateCount (appendCertificate m ws) ≡ certificateCount m + 1
   unfolding appendCertificate

@@ -6,13 +6,14 @@ use mathlib.Core.Logic.{inl, inr, ⊎-elim}
 use mathlib.Core.List.{List, [], _∷_}
 use native.Mathlib.Omega.{arith}
 use lib.Dec.{ltb}
-use Rattle.protocol.specs.Memory.{Memory, Replica, Certificate, Assignment, _becomes_, minViewAt, flagAt, lowered}
-use Rattle.protocol.specs.Memory.{replica, certificate, raised, update}
+use Rattle.protocol.specs.Memory.{Memory, Replica, Certificate, Assignment}
+use Rattle.protocol.specs.Memory.{replica, certificate, live, raised, update}
 use Rattle.protocol.specs.Form.{replicaFormed}
-use Rattle.protocol.specs.Certificates.{NEWVIEW, REPLY}
+use Rattle.protocol.specs.Certificates.{NEWVIEW, REPLY, replyOf}
 use Rattle.protocol.specs.Quorum.{certificatesOf, signers, firstOf, isCommitQuorum, isNewViewQuorum, isReplyQuorum}
 use Rattle.protocol.specs.Calls.{isReplica, isAhead, retires, decisionWords, store, view, accumulate, decide, reboot}
-use Rattle.protocol.specs.Calls.{reserve, request, reply, recover}
+use Rattle.protocol.specs.Calls.{hasStatus, issuing, reserve, request, reply, recover}
+use Rattle.protocol.specs.Outcome.{Need}
 use Rattle.protocol.proofs.Tests.{tests, by-cond, each}
 use Rattle.protocol.proofs.Needs.{Holds}
 use Rattle.protocol.proofs.Words.{withinRow}
@@ -146,21 +147,39 @@ record Raises (r : Replica) (w : ℕ) (cs : List Assignment) : Type 0 where
   keeps : Keeps r (changed cs r)
   low : w ≤ changed cs r .minView
 
+reply-goes : (m : Memory) (needs : List Need) (i number subject boot : ℕ) (cs : List Assignment)
+    → Raises (replica m i) (certificate m number .view) cs
+    → isReplica m i ≡ true → hasStatus m i live ≡ true → Safe m
+    → (let out = issuing m needs i cs (replyOf i (certificate m number .view) (replica m i .storedBlock) (replica m i .storedView) subject boot) in
+    Holds (out .needs) → Formed (out .after) → GoesOn m (out .after))
+reply-goes m needs i number subject boot cs raises own lives safe hold leaves =
+    let row = safe .rows i (omega tests) in
+    let acts = issuing-acts m _ i _ _ hold (safe .formed) own (raises .within) in
+    let mv = moves m _ i _ _ acts (raises .advances) (λ k. absurd (omega arith)) in
+    let low = ap (λ (r : Replica). r .minView) (acts .own) in
+    goes-on m _ i _ _ acts safe leaves mv
+    (record {
+      low = omega (arith, low, raises .low);
+      origin = origin-after m _ mv (row .stored);
+      covers =
+          λ v l x ch.
+          row .covers (omega tests) v (committed-same m _ i _ _ acts (λ k. omega arith) x) (choosable-before m _ mv ch);
+    })
+    (replica-kept m _ i _ _ acts mv (λ k. omega arith) (replica m i) (raises .keeps) row)
+    (λ k. absurd (omega arith)) (raises .keeps .decidedView) (raises .keeps .decidedBlock)
+
 pub reply-safe : (m : Memory) (i number : ℕ) → Holds (reply m i number .needs) → Safe m → GoesOn m (reply m i number .after)
 unfolding reply
 reply-safe m i number hold safe =
     let h = issuing-needs m _ i _ _ hold .0 in
     let r = replica m i in
     let w = certificate m number .view in
-    let row = safe .rows i (omega tests) in
-    let raises =
-    by-cond (Raises r w) (ltb (r .minView) w)
-    {x = minViewAt becomes w ∷ flagAt becomes lowered ∷ []}
-    {y = []}
+    reply-goes m _ i number _ _ _
+    (by-cond (Raises r w) (ltb (r .minView) w)
     (λ e.
     record {
       within = refl;
-      advances = record { low = omega tests; limit = omega arith; flag = λ a s x. absurd (omega tests) };
+      advances = record { low = omega tests; limit = omega arith; flag = λ a s x. omega tests };
       keeps = record { storedView = refl; storedBlock = refl; decidedView = refl; decidedBlock = refl; status = λ e. e };
       low = omega arith;
     })
@@ -170,20 +189,8 @@ reply-safe m i number hold safe =
       advances = record { low = omega arith; limit = omega arith; flag = λ a e x. x };
       keeps = record { storedView = refl; storedBlock = refl; decidedView = refl; decidedBlock = refl; status = λ e. e };
       low = omega tests;
-    }) in
-    let acts = issuing-acts m _ i _ _ hold (safe .formed) (h .1 .0) (raises .within) in
-    let mv = moves m _ i _ _ acts (raises .advances) (λ k. absurd (omega arith)) in
-    let low = ap (λ (r : Replica). r .minView) (acts .own) in
-    goes-on m _ i _ _ acts safe (reply-leaves m i number hold) mv
-    (record {
-      low = omega (arith, low, raises .low);
-      origin = origin-after m _ mv (row .stored);
-      covers =
-          λ v l x ch.
-          row .covers (omega tests) v (committed-same m _ i _ _ acts (λ k. omega arith) x) (choosable-before m _ mv ch);
-    })
-    (replica-kept m _ i _ _ acts mv (λ k. omega arith) r (raises .keeps) row)
-    (λ k. absurd (omega arith)) (raises .keeps .decidedView) (raises .keeps .decidedBlock)
+    }))
+    (h .1 .0) (h .1 .1 .1 .0) safe hold (reply-leaves m i number hold)
 
 -- ---- the calls that issue nothing
 

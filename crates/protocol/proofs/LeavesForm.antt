@@ -92,7 +92,7 @@ decide-leaves m i list h =
     (λ e. update-keeps m i _ z (h .1 .0) (record { within = refl; row = all-hold _ (omega tests) }))
 
 -- A reboot that does not retire the replica stays within 1,000,000.
-in-range : (m : Memory) (i : ℕ) → retires m i ≡ false
+pub in-range : (m : Memory) (i : ℕ) → retires m i ≡ false
     → (replica m i .boot + 1 ≤ ceiling) × (replica m i .viewLimit + counterStep m (replica m i .boot + 1) ≤ ceiling)
 in-range m i e =
     let a = or-false (eqb (replica m i .status) retired || ltb ceiling (replica m i .boot + 1)) _ e in

@@ -13,6 +13,7 @@ pub mod LeavesForm
 pub mod Frame
 pub mod Alike
 pub mod Unread
+pub mod Values
 pub mod Line
 pub mod Meeting
 pub mod Safety

@@ -1,19 +1,20 @@
 -- What holds of the rules, for every call and any contents of the memory: what a refused call leaves, what an accepted one leaves and
--- may change, what is not read, and which refusal is returned. Each type here is a statement, proved in proofs/ under the same name in
--- lower case with hyphens.
+-- may change, what is not read, which refusal is returned, and how large an answer is. Each type here is a statement, proved in proofs/
+-- under the same name in lower case with hyphens.
 use Prim.Native.Nat.{ℕ, zero, suc, _+_, _≤_, _<_}
 use mathlib.Core.Path.{_≡_}
 use mathlib.Core.Bool.{Bool, true, false}
 use mathlib.Core.List.{List, [], _∷_, _++_, map, List·Memᴰ}
 use lib.ListN.{length, getD}
+use Rattle.protocol.specs.declared.Answer.{Answer}
 use Rattle.protocol.specs.declared.Call.{Call}
 use Rattle.protocol.specs.declared.Call.the-variants.{Open, Block, Prepare, Store, View, Accumulate, Decide, Reboot}
 use Rattle.protocol.specs.declared.Call.the-variants.{Reserve, Request, Reply, Recover}
 use Rattle.protocol.specs.Memory.{Memory, certificateCountAt, blockCountAt, certificateCount, blockCount, rowAt, statusAt}
 use Rattle.protocol.specs.Memory.{bootAt, minViewAt, viewLimitAt, flagAt, storedViewAt, storedBlockAt, decidedViewAt}
-use Rattle.protocol.specs.Memory.{decidedBlockAt, certificateWords, certificateAt, blockAt}
+use Rattle.protocol.specs.Memory.{decidedBlockAt, certificateWords, certificateAt, blockAt, ceiling}
 use Rattle.protocol.specs.Form.{isFaultBound, wellFormed}
-use Rattle.protocol.specs.Outcome.{Outcome, _else_, Rule, outOfRange}
+use Rattle.protocol.specs.Outcome.{Outcome, _else_, Rule, outOfRange, noRoom}
 use Rattle.protocol.specs.Runs.{ruleOf, step}
 
 -- A call is accepted: its number is 0.
@@ -142,3 +143,13 @@ LowestWins =
 unfoldable pub OpeningTestsFaultsFirst : Type 0
 OpeningTestsFaultsFirst =
     (m : Memory) (f : ℕ) (list : List ℕ) → isFaultBound f ≡ false → step m (Open f) list .answer .number ≡ outOfRange
+
+-- ---- A call's number is at most 9, since 10 is the program's alone, and its values are at most 1,000,000.
+
+pub record Fits (a : Answer) : Type 0 where
+  pub number : a .number ≤ noRoom
+  pub first : a .first ≤ ceiling
+  pub second : a .second ≤ ceiling
+
+unfoldable pub ValuesFit : Type 0
+ValuesFit = (m : Memory) (call : Call) (list : List ℕ) → Fits (step m call list .answer)

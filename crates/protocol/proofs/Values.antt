@@ -1,0 +1,114 @@
+-- A call's number is at most 9 and its values are at most 1,000,000.
+use Prim.Native.Nat.{ℕ, zero, suc, _≤_}
+use mathlib.Core.Path.{_≡_, refl}
+use mathlib.Core.Bool.{Bool, true, false, _&&_}
+use mathlib.Core.List.{List, [], _∷_}
+use native.Mathlib.Omega.{arith}
+use lib.Dec.{ltb, leb}
+use Rattle.protocol.specs.declared.Call.{Call}
+use Rattle.protocol.specs.declared.Call.the-variants.{Open, Block, Prepare, Store, View, Accumulate, Decide, Reboot}
+use Rattle.protocol.specs.declared.Call.the-variants.{Reserve, Request, Reply, Recover}
+use Rattle.protocol.specs.Memory.{Memory, Certificate, ceiling, certificateCount, blockCount}
+use Rattle.protocol.specs.Form.{lengthsFit, countsFit, replicaFormed, certificateFormed, wellFormed}
+use Rattle.protocol.specs.Certificates.{firstBelow, hasWords, numberFor}
+use Rattle.protocol.specs.Outcome.{Need, _else_, Rule, noRoom, firstRefusal, answered, follow}
+use Rattle.protocol.specs.Calls.{issuing, retires, opening, block, prepare, store, view, accumulate, decide, reboot}
+use Rattle.protocol.specs.Calls.{reserve, request, reply, recover}
+use Rattle.protocol.specs.Runs.{ruleOf, step}
+use Rattle.protocol.specs.Theorems.{Fits, ValuesFit}
+use Rattle.protocol.proofs.Tests.{tests, by-test, by-cond, and-true, each}
+use Rattle.protocol.proofs.Needs.{Holds}
+use Rattle.protocol.proofs.Rules.{needs-hold}
+use Rattle.protocol.proofs.Formed.{formed}
+use Rattle.protocol.proofs.Lists.{all-named, first-named}
+use Rattle.protocol.proofs.LeavesForm.{in-range}
+
+-- ---- numbers
+
+-- No number of a list of needs is above 9.
+abbrev upToNoRoom : List Need → Bool
+upToNoRoom [] = true
+upToNoRoom ((t else n) ∷ rest) = leb n noRoom && upToNoRoom rest
+
+refusal-fits : (ns : List Need) → upToNoRoom ns ≡ true → firstRefusal ns ≤ noRoom
+unfolding firstRefusal
+refusal-fits [] e = omega arith
+refusal-fits ((true else n) ∷ rest) e = refusal-fits rest (and-true (leb n noRoom) (upToNoRoom rest) e .1)
+refusal-fits ((false else n) ∷ rest) e = let h = and-true (leb n noRoom) (upToNoRoom rest) e in omega tests
+
+-- ---- values
+
+-- Two values are at most 1,000,000.
+abbrev Small : ℕ → ℕ → Type 0
+Small first second = (first ≤ ceiling) × (second ≤ ceiling)
+
+counts-small : (m : Memory) → wellFormed m ≡ true → Small (certificateCount m) (blockCount m)
+unfolding lengthsFit countsFit
+counts-small m e =
+    let z = formed m e in
+    let l = each _ (z .lengths) in
+    let c = each _ (z .counts) in
+    omega tests
+
+first-below : (k : ℕ) (test : ℕ → Bool) → firstBelow k test ≤ k
+unfolding firstBelow
+first-below zero test = omega arith
+first-below (suc k) test =
+    let before = first-below k test in
+    by-cond (λ (x : ℕ). x ≤ suc k) (ltb (firstBelow k test) k) (λ e. omega arith)
+    (λ e. by-cond (λ (x : ℕ). x ≤ suc k) (test k) (λ e. omega arith) (λ e. omega arith))
+
+issued-small : (m : Memory) (ws : List ℕ) → wellFormed m ≡ true → Small (numberFor m ws) 0
+unfolding numberFor
+issued-small m ws e =
+    let counts = counts-small m e in
+    let number = first-below (certificateCount m) (hasWords m ws) in
+    omega arith
+
+-- ---- the calls
+
+-- What a rule may refuse with, and its values where it does not refuse.
+abbrev RuleFits : Rule → Type 0
+RuleFits rule = (upToNoRoom (rule .needs) ≡ true) × (Holds (rule .needs) → Small (rule .first) (rule .second))
+
+rule-fits : (m : Memory) (call : Call) (list : List ℕ) → RuleFits (ruleOf m call list)
+unfolding ruleOf issuing opening block prepare store view accumulate decide reboot reserve request reply recover replicaFormed certificateFormed
+rule-fits m (Open f) list = (refl, λ h. let range = each _ (h .0) in omega tests)
+rule-fits m (Block p) list = (refl, λ h. let counts = counts-small m (h .0) in omega arith)
+rule-fits m (Prepare i b justification) list = (refl, λ h. issued-small m _ (h .0))
+rule-fits m (Store i number) list = (refl, λ h. issued-small m _ (h .0))
+rule-fits m (View i w) list = (refl, λ h. issued-small m _ (h .0))
+rule-fits m (Accumulate i) list = (refl, λ h. issued-small m _ (h .0))
+rule-fits m (Decide i) list = (
+  refl,
+  λ h.
+      let small : Certificate → Type 0 = λ c. Small (c .block) (c .view) in
+      let counts = counts-small m (h .0) in
+      first-named small m list (h .1 .1 .0)
+      (all-named small m list (h .1 .1 .1 .0) (λ k l. let c = each _ (formed m (h .0) .log k l) in omega tests)),
+)
+rule-fits m (Reboot i) list = (
+  refl,
+  λ h.
+      let r = each _ (formed m (h .0) .rows i (omega tests)) in
+      by-test (retires m i) (λ e. rw e (omega tests)) (λ e. let fits = in-range m i e in rw e (omega tests)),
+)
+rule-fits m (Reserve i) list = (refl, λ h. omega tests)
+rule-fits m (Request i) list = (refl, λ h. issued-small m _ (h .0))
+rule-fits m (Reply i number) list = (refl, λ h. issued-small m _ (h .0))
+rule-fits m (Recover i) list = (refl, λ h. let r = each _ (formed m (h .0) .rows i (omega tests)) in omega tests)
+
+answer-fits : (m : Memory) (rule : Rule) → firstRefusal (rule .needs) ≤ noRoom
+    → (firstRefusal (rule .needs) ≡ 0 → Small (rule .first) (rule .second)) → Fits (follow m rule .answer)
+unfolding follow answered
+answer-fits m rule number values = go (firstRefusal (rule .needs)) number values
+  where
+    go : (n : ℕ) → n ≤ noRoom → (n ≡ 0 → Small (rule .first) (rule .second)) → Fits (answered n m rule .answer)
+    go zero le values = let both = values refl in omega arith
+    go (suc n) le values = omega arith
+
+pub values-fit : ValuesFit
+unfolding ValuesFit step
+values-fit m call list =
+    let good = rule-fits m call list in
+    answer-fits m (ruleOf m call list) (refusal-fits _ (good .0)) (λ e. good .1 (needs-hold m call list e))

@@ -1,0 +1,2 @@
+-- The line reader (document 01, "Script program").
+pub mod Reading

@@ -1,0 +1,4 @@
+-- A script line and its answer (document 01, "Script program").
+pub mod Lines
+pub mod Session
+pub mod Text

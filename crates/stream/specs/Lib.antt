@@ -1,0 +1,4 @@
+-- The script program as a whole: what text comes out for what bytes (document 01, "Script program").
+pub mod Output
+pub mod Stream
+pub mod Theorems

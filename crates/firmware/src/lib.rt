@@ -2,13 +2,9 @@
 ghost use mathlib.Core.Path.{_≡_};
 ghost use Rattle.protocol.specs.Memory.{memory};
 ghost use Rattle.protocol.specs.Outcome.{left};
-ghost use Rattle.firmware.specs.Called.{called};
+ghost use Rattle.ledger.specs.Called.{called};
 ghost use Rattle.ledger.specs.Panel.{panelAnswer};
 ghost use Rattle.field.specs.Field.{readField, written, writeField};
-use codes::Coded;
-
-// What a call returns whose arguments are no call.
-const UNREADABLE: u32 = 10;
 
 #[no_mangle]
 pub extern "C" fn yard_call(
@@ -24,13 +20,7 @@ pub extern "C" fn yard_call(
 ) -> u32
     ensures { λ r. ⌜ left (record { number = r; first = now (first .exit); second = now (second .exit) }) (now (table .exit)) (now (log .exit)) (now (blocks .exit)) ≡ called (memory (now (table .entry)) (now (log .entry)) (now (blocks .entry))) code replica number (now (list .entry)) ⌝ }
 {
-    let coded = codes::coded_call(table, log, code, replica, number, list);
-    let Coded::Of(call) = coded else {
-        *first = 0;
-        *second = 0;
-        return UNREADABLE;
-    };
-    let answer = ledger::invoke(table, log, blocks, call, list);
+    let answer = ledger::call_by_code(table, log, blocks, code, replica, number, list);
     *first = answer.first;
     *second = answer.second;
     answer.number

@@ -3,12 +3,17 @@ ghost use mathlib.Core.Path.{_≡_};
 ghost use Rattle.protocol.specs.Memory.{memory};
 ghost use Rattle.protocol.specs.Outcome.{left};
 ghost use Rattle.protocol.specs.Runs.{step};
+ghost use Rattle.ledger.specs.Called.{called};
 ghost use Rattle.ledger.specs.Panel.{panelAnswer};
 use checks::accepted;
 use checks::refused;
+use codes::Coded;
 use layout::DECIDED_BLOCK_AT;
 use protocol::Answer;
 use protocol::Call;
+
+// What is returned where a code and what is beside it are no call.
+const UNREADABLE: u32 = 10;
 
 // One of the twelve calls, with the list beside it.
 pub fn invoke(
@@ -42,6 +47,25 @@ pub fn invoke(
         Call::Reply(replica, number) => recovery::reply(table, log, blocks, replica, number),
         Call::Recover(replica) => recovery::recover(table, log, blocks, replica, list),
     }
+}
+
+// A call by its code.
+pub fn call_by_code(
+    table: &mut [u32],
+    log: &mut [u32],
+    blocks: &mut [u32],
+    code: u32,
+    replica: u32,
+    number: u32,
+    list: &[u32],
+) -> Answer
+    ensures { λ r. ⌜ left r (now (table .exit)) (now (log .exit)) (now (blocks .exit)) ≡ called (memory (now (table .entry)) (now (log .entry)) (now (blocks .entry))) code replica number (now (list .entry)) ⌝ }
+{
+    let coded = codes::coded_call(table, log, code, replica, number, list);
+    let Coded::Of(call) = coded else {
+        return refused(UNREADABLE);
+    };
+    invoke(table, log, blocks, call, list)
 }
 
 // What the front panel of a replica's box shows: the height of its decided block.

@@ -13,7 +13,7 @@ pub record Outcome : Type 0 where
 abbrev pub left : Answer → List ℕ → List ℕ → List ℕ → Outcome
 left a t l b = record { answer = a; memory = memory t l b }
 
--- The column "Returned" of the table. 0 is "accepted"; 10, "script line unreadable", is the program's alone.
+-- The column "Returned" of the table. 0 is "accepted".
 -- "lengths or form wrong (opening: lengths only)"
 abbrev pub wrongForm : ℕ
 wrongForm = 1
@@ -49,6 +49,10 @@ counterLimit = 8
 -- "no free place for a new block or certificate"
 abbrev pub noRoom : ℕ
 noRoom = 9
+
+-- "script line unreadable (program only [..])": no call returns it.
+abbrev pub unreadable : ℕ
+unreadable = 10
 
 -- A test that a call makes, and what it returns where the test fails.
 pub data Need : Type 0 where

@@ -4,17 +4,18 @@ use mathlib.Core.Bool.{cond}
 use mathlib.Core.List.{List}
 use lib.Dec.{leb}
 use lib.ListN.{take, drop}
+use Rattle.protocol.specs.Outcome.{unreadable}
 use Rattle.field.specs.Field.{columns, maxNumber, readField}
-use Rattle.reader.specs.declared.Field.{Field}
-use Rattle.reader.specs.declared.Field.the-variants.{Number, Refused}
+use Rattle.reader.specs.declared.Read.{Read}
+use Rattle.reader.specs.declared.Read.the-variants.{Number, Refused}
 
--- The number of a script line that cannot be read.
-abbrev pub unreadable : ℕ
-unreadable = 10
-
-unfoldable pub given : ℕ → Field
+unfoldable pub given : ℕ → Read
 given number = cond (leb number maxNumber) (Number number) (Refused unreadable)
 
 -- The field that starts at a column: eight columns from there on.
-unfoldable pub fieldAt : List ℕ → ℕ → Field
+unfoldable pub fieldAt : List ℕ → ℕ → Read
 fieldAt line column = given (readField (take columns (drop column line)))
+
+abbrev pub refusalOf : Read → ℕ
+refusalOf (Number number) = 0
+refusalOf (Refused refusal) = refusal

@@ -1,6 +1,6 @@
 // The line reader: the bytes of a line and the column reached (document 01, "Script program").
 ghost use mathlib.Core.Path.{_≡_};
-ghost use Rattle.reader.specs.Reading.{fieldAt};
+ghost use Rattle.reader.specs.Reading.{fieldAt, refusalOf};
 
 // The greatest number of eight digits.
 const MAX_NUMBER: u32 = 99_999_999;
@@ -13,34 +13,44 @@ pub struct Reader<'a> {
     pub column: usize,
 }
 
-// A field's number, or the refusal that a caller hands up.
-pub enum Field {
+// What reading gives: a number, or the refusal that a caller hands up.
+pub enum Read {
     Number(u32),
     Refused(u32),
 }
 
 // The field that starts at a column of a line.
-fn field_at(line: &[u8], column: usize) -> Field
+fn field_at(line: &[u8], column: usize) -> Read
     ensures { λ r. ⌜ r ≡ fieldAt (now (line .entry)) column ⌝ }
 {
     let number = field::read_at(line, column);
     if number <= MAX_NUMBER {
-        Field::Number(number)
+        Read::Number(number)
     } else {
-        Field::Refused(UNREADABLE)
+        Read::Refused(UNREADABLE)
     }
 }
 
 // The field at the column reached.
-pub fn next<'a>(reader: Reader<'a>) -> Field
+pub fn next<'a>(reader: Reader<'a>) -> Read
     ensures { λ r. ⌜ r ≡ fieldAt (now (reader .entry .line)) (reader .entry .column) ⌝ }
 {
     field_at(reader.line, reader.column)
 }
 
 // The same for a line and a column: a caller of this one makes no reader, so its proof has no walk.
-pub fn read(line: &[u8], column: usize) -> Field
+pub fn read_field(line: &[u8], column: usize) -> Read
     ensures { λ r. ⌜ r ≡ fieldAt (now (line .entry)) column ⌝ }
 {
     next(Reader { line, column })
+}
+
+// The refusal that a caller hands up, 0 where a number was read.
+pub fn refusal_of(read: Read) -> u32
+    ensures { λ r. ⌜ r ≡ refusalOf read ⌝ }
+{
+    match read {
+        Read::Number(_) => 0,
+        Read::Refused(refusal) => refusal,
+    }
 }

@@ -1,34 +1,21 @@
--- The fields of a line, and the call that they make.
+-- The fields of a line and their numbers.
 use Prim.Native.Nat.{ℕ, zero, suc, _*_, _/_}
 use mathlib.Core.Bool.{Bool, cond}
 use mathlib.Core.List.{List, [], _∷_, _++_}
 use lib.Dec.{leb, eqb}
-use lib.ListN.{length, take, drop, getD}
-use Rattle.protocol.specs.Memory.{Memory}
+use lib.ListN.{length, take, drop}
 use Rattle.protocol.specs.Form.{allHold, allBelow}
-use Rattle.codes.specs.declared.Coded.{Coded}
-use Rattle.codes.specs.declared.Coded.the-variants.{Unreadable}
-use Rattle.codes.specs.Codes.{codedCall}
+use Rattle.protocol.specs.Outcome.{unreadable}
 use Rattle.field.specs.Field.{columns, maxNumber, readField}
+use Rattle.reader.specs.declared.Read.{Read}
+use Rattle.reader.specs.declared.Read.the-variants.{Number, Refused}
 
--- "A line has 3 to 34 fields: call code, box, number, list."
+-- "A line has 3 to 34 fields"
 abbrev pub minFields : ℕ
 minFields = 3
 
 abbrev pub maxFields : ℕ
 maxFields = 34
-
-abbrev pub codeField : ℕ
-codeField = 0
-
-abbrev pub replicaField : ℕ
-replicaField = 1
-
-abbrev pub numberField : ℕ
-numberField = 2
-
-abbrev pub listField : ℕ
-listField = 3
 
 abbrev pub fieldCount : List ℕ → ℕ
 fieldCount line = length line / columns
@@ -55,15 +42,6 @@ isReadable line =
     ∷ allBelow (fieldCount line) (isNumber line)
     ∷ [])
 
--- The list that stands in a line of these numbers.
-abbrev pub listIn : List ℕ → List ℕ
-listIn given = drop listField given
-
--- The call that these numbers make.
-abbrev pub codedNumbers : Memory → List ℕ → Coded
-codedNumbers m given =
-    codedCall m (getD given codeField 0) (getD given replicaField 0) (getD given numberField 0) (listIn given)
-
--- The call of a line. "Anything else, an empty line included, returns 10."
-unfoldable pub codedLine : Memory → List ℕ → Coded
-codedLine m line = cond (isReadable line) (codedNumbers m (numbers line (fieldCount line))) Unreadable
+-- How many numbers are read, or the refusal.
+unfoldable pub countOf : List ℕ → Read
+countOf line = cond (isReadable line) (Number (fieldCount line)) (Refused unreadable)

@@ -1,21 +1,15 @@
--- The ledger that a script works on: what is lent to a call, and what a line's call gives.
+-- The ledger that a script works on: what is lent to a line's call, and what the line gives.
 use Prim.Native.Nat.{ℕ}
 use mathlib.Core.Bool.{cond}
 use mathlib.Core.List.{List, _++_}
 use lib.Dec.{eqb}
-use lib.ListN.{take, drop}
+use lib.ListN.{take, drop, getD}
 use Rattle.protocol.specs.declared.Answer.{Answer}
-use Rattle.protocol.specs.declared.Call.{Call}
-use Rattle.protocol.specs.declared.Call.the-variants.{Open, Block, Prepare, Store, View, Accumulate, Decide, Reboot}
-use Rattle.protocol.specs.declared.Call.the-variants.{Reserve, Request, Reply, Recover}
 use Rattle.protocol.specs.Memory.{Memory, memory, maxFaultBound, tableLength}
 use Rattle.protocol.specs.Form.{isFaultBound}
-use Rattle.protocol.specs.Outcome.{Outcome}
-use Rattle.protocol.specs.Runs.{step}
-use Rattle.codes.specs.declared.Coded.{Coded}
-use Rattle.codes.specs.declared.Coded.the-variants.{Of, Unreadable}
-use Rattle.reader.specs.Reading.{unreadable}
-use Rattle.script.specs.Lines.{fieldCount, numbers, listIn, codedLine}
+use Rattle.protocol.specs.Outcome.{Outcome, unreadable}
+use Rattle.ledger.specs.Called.{called}
+use Rattle.script.specs.Lines.{fieldCount, numbers, isReadable}
 
 -- f as last opened, 0 before the first accepted opening; and the words, the table's as many as the largest f needs.
 pub record Session : Type 0 where
@@ -35,51 +29,58 @@ lentLength f = cond (isFaultBound f) (tableLength f) 0
 abbrev pub lent : ℕ → Memory → Memory
 lent f m = memory (take (lentLength f) (m .table)) (m .log) (m .blocks)
 
--- What a call gives on the memory that is lent for f. The table's other words stay.
-unfoldable pub lending : ℕ → Memory → Call → List ℕ → Outcome
-lending f m call list =
-    let o = step (lent f m) call list in
+-- "call code, box, number, list. Codes: 0 open (f as box)"
+abbrev pub codeField : ℕ
+codeField = 0
+
+abbrev pub replicaField : ℕ
+replicaField = 1
+
+abbrev pub numberField : ℕ
+numberField = 2
+
+abbrev pub listField : ℕ
+listField = 3
+
+abbrev pub listIn : List ℕ → List ℕ
+listIn given = drop listField given
+
+abbrev pub openCode : ℕ
+openCode = 0
+
+-- "f being the one being opened or else the one last opened"
+abbrev pub faultBoundFor : ℕ → ℕ → ℕ → ℕ
+faultBoundFor inUse code replica = cond (eqb code openCode) replica inUse
+
+-- What a line of these numbers gives on the memory that is lent for f. The table's other words stay.
+unfoldable pub lending : ℕ → Memory → List ℕ → Outcome
+lending f m given =
+    let o = called (lent f m) (getD given codeField 0) (getD given replicaField 0) (getD given numberField 0) (listIn given) in
     record {
       answer = o .answer;
       memory = memory (o .memory .table ++ drop (lentLength f) (m .table)) (o .memory .log) (o .memory .blocks);
     }
 
--- "f being the one being opened or else the one last opened"
-unfoldable pub faultBoundFor : ℕ → Call → ℕ
-faultBoundFor inUse (Open f) = f
-faultBoundFor inUse (Block p) = inUse
-faultBoundFor inUse (Prepare i b justification) = inUse
-faultBoundFor inUse (Store i number) = inUse
-faultBoundFor inUse (View i w) = inUse
-faultBoundFor inUse (Accumulate i) = inUse
-faultBoundFor inUse (Decide i) = inUse
-faultBoundFor inUse (Reboot i) = inUse
-faultBoundFor inUse (Reserve i) = inUse
-faultBoundFor inUse (Request i) = inUse
-faultBoundFor inUse (Reply i number) = inUse
-faultBoundFor inUse (Recover i) = inUse
-
--- An answer, and the session it leaves.
+-- An answer, and the session that it leaves.
 pub record Answered : Type 0 where
   pub answer : Answer
   pub session : Session
 
--- A refused opening leaves the f in use.
-unfoldable pub perform : Session → Call → List ℕ → Answered
-perform s call list =
-    let f = faultBoundFor (s .faultBound) call in
-    let o = lending f (s .memory) call list in
+abbrev pub leaves : Answer → ℕ → List ℕ → List ℕ → List ℕ → Answered
+leaves a f t l b = record { answer = a; session = session f t l b }
+
+-- The f in use changes with an accepted opening alone.
+unfoldable pub answerNumbers : Session → List ℕ → Answered
+answerNumbers s given =
+    let f = faultBoundFor (s .faultBound) (getD given codeField 0) (getD given replicaField 0) in
+    let o = lending f (s .memory) given in
     record {
       answer = o .answer;
       session = record { faultBound = cond (eqb (o .answer .number) 0) f (s .faultBound); memory = o .memory };
     }
 
--- "10, 0, 0: script line unreadable"; then all is as before.
-unfoldable pub answerCoded : Coded → Session → List ℕ → Answered
-answerCoded (Of call) s list = perform s call list
-answerCoded Unreadable s list = record { answer = record { number = unreadable; first = 0; second = 0 }; session = s }
-
--- What a line gives.
+-- What a line gives. "Anything else, an empty line included, returns 10": then the session is as before.
 unfoldable pub answerLine : Session → List ℕ → Answered
 answerLine s line =
-    answerCoded (codedLine (lent (s .faultBound) (s .memory)) line) s (listIn (numbers line (fieldCount line)))
+    cond (isReadable line) (answerNumbers s (numbers line (fieldCount line)))
+    (record { answer = record { number = unreadable; first = 0; second = 0 }; session = s })

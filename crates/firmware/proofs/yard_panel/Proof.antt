@@ -1,5 +1,5 @@
 use borrow.Author.Needs.{needs}
-use Rattle.firmware.proofs.Calling.{one-value}
+use Rattle.firmware.proofs.Panel.{one-value}
 use Rattle.firmware.proofs.yard_panel.Statement.{statement}
 use Rattle.firmware.proofs.yard_panel.Tie as tie
 

@@ -44,11 +44,11 @@ use denote.Triple.Clauses.{ensured, lasts}
 use denote.Exit.{yes}
 use Rattle.reader.specs.Reading.{fieldAt}
 use Rattle.reader.specs.declared.Reader.{Reader}
-use Rattle.reader.specs.declared.Field.{Field}
+use Rattle.reader.specs.declared.Read.{Read}
 use Rattle.reader.proofs.Reader as R
 use Rattle.reader.proofs.Reader.Laws as R′
-use Rattle.reader.proofs.Field as F
-use Rattle.reader.proofs.Field.Laws as F′
+use Rattle.reader.proofs.Read as F
+use Rattle.reader.proofs.Read.Laws as F′
 use Rattle.reader.proofs.field_at as field
 use Rattle.reader.proofs.field_at.Symbol as field-def
 use Rattle.reader.proofs.field_at.Symbol.{name as #field-at}
@@ -88,7 +88,7 @@ module _ {M : Type 1} (𝓤 : URA M) (H : Heap 𝓤) (A : Atoms 𝓤) (W : Given
   abbrev v : Val
   v = sliceVal (d .line .ptr) (length (d .line .now))
 
-  abbrev found : Field
+  abbrev found : Read
   found = fieldAt (now (d .line)) (d .column)
 
   abbrev Token : Fml
@@ -117,7 +117,7 @@ module _ {M : Type 1} (𝓤 : URA M) (H : Heap 𝓤) (A : Atoms 𝓤) (W : Given
   abbrev Asked : SProp 𝓤
   Asked = FieldAt 𝓤 H A mem run .pre to
 
-  abbrev Ensured : Field → SProp 𝓤
+  abbrev Ensured : Read → SProp 𝓤
   Ensured r = ensured 𝓤 H A field.ended (field.clauses 𝓤 H A mem run) κs parts tt r
 
   asked : ent 𝓤 (onEntry 𝓤 H A field.signature κs (q, tt) parts passed) Asked
@@ -135,10 +135,10 @@ module _ {M : Type 1} (𝓤 : URA M) (H : Heap 𝓤) (A : Atoms 𝓤) (W : Given
       learn ! (λ _. move ! (2 ∷ 0 ∷ []) $ use2 W (raw Asked) asked $ frame ! $ done !)
 
   -- The callee takes no `&mut`: of what it ensures, only the clause counts.
-  said : (r : Field) → ent 𝓤 (Ensured r) (fact 𝓤 (r ≡ found))
+  said : (r : Read) → ent 𝓤 (Ensured r) (fact 𝓤 (r ≡ found))
   said r = exE 𝓤 _ (λ ws. snd∗ 𝓤 (sem 𝓤 H A (lasts field.ended κs parts ws)) (fact 𝓤 (r ≡ found)))
 
-  exits : (r : Field) (u : Val) → r ≡ found
+  exits : (r : Read) (u : Val) → r ≡ found
       → ent 𝓤 (⋆ 𝓤 H A (‵ (F.the-row .own r (u ∷ [])) ∷ (‵ Token ⊛ ‵ ftrue) ∷ ‵ Own ∷ [])) (Post u)
   exits r u e =
       qed W (‵ (F.the-row .own r (u ∷ [])) ∷ (‵ Token ⊛ ‵ ftrue) ∷ ‵ Own ∷ []) ∵
@@ -161,7 +161,7 @@ module _ {M : Type 1} (𝓤 : URA M) (H : Heap 𝓤) (A : Atoms 𝓤) (W : Given
         calls-at ! fm (FieldAt 𝓤 H A mem run) known to
         (and-then ! (load ! (from ! (stop !)) (look ! 4 refl)) (and-then ! (load ! (from ! (stop !)) (look ! 2 refl)) (no-more !)))
         (λ u.
-        use1 W (later (some (λ (r : Field). ((‵ Token ⊛ ‵ ftrue) ⊛ ‵ (F.the-row .own r (u ∷ []))) ⊛ raw (Ensured r)))) (id⊢ 𝓤 _) $
+        use1 W (later (some (λ (r : Read). ((‵ Token ⊛ ‵ ftrue) ⊛ ‵ (F.the-row .own r (u ∷ []))) ⊛ raw (Ensured r)))) (id⊢ 𝓤 _) $
         await ! tt $ pick ! (λ r. split ! $ move ! (1 ∷ []) $
         use1 W (raw (fact 𝓤 (r ≡ found))) (said r) $ heard ! (r ≡ found) (λ e. split ! $ move ! (1 ∷ []) $
         -- [the result; the token; what the reader owns; _3; …; _2; …; _1; …; room for _0; …]

@@ -1,4 +1,4 @@
--- `read`: a walk of its MIR by hand. A reader is made of the line and the column in a local, and `next` is called on it.
+-- `read_field`: a walk of its MIR by hand. A reader is made of the line and the column in a local, and `next` is called on it.
 -- A `&[u8]` is Copy: one copy of what the line owns is kept for the exit; the other is what the reader's line owns.
 use mathlib.Core.Path.{_≡_, refl}
 use mathlib.Core.List.{List, [], _∷_}
@@ -43,19 +43,19 @@ use denote.Triple.Clauses.{ensured, lasts}
 use denote.Exit.{yes}
 use Rattle.reader.specs.Reading.{fieldAt}
 use Rattle.reader.specs.declared.Reader.{Reader}
-use Rattle.reader.specs.declared.Field.{Field}
+use Rattle.reader.specs.declared.Read.{Read}
 use Rattle.reader.proofs.Reader as R
 use Rattle.reader.proofs.Reader.Laws as R′
-use Rattle.reader.proofs.Field as F
-use Rattle.reader.proofs.Field.Laws as F′
+use Rattle.reader.proofs.Read as F
+use Rattle.reader.proofs.Read.Laws as F′
 use Rattle.reader.proofs.next as next
 use Rattle.reader.proofs.next.Symbol as next-def
 use Rattle.reader.proofs.next.Symbol.{name as #next}
 use Rattle.reader.proofs.next.Met as next-thm
-use Rattle.reader.proofs.read as read
-use Rattle.reader.proofs.read.Key.{name as #read}
-use Rattle.reader.proofs.read.Statement as stated
-use Rattle.reader.proofs.read.Code as code
+use Rattle.reader.proofs.read_field as read
+use Rattle.reader.proofs.read_field.Key.{name as #read}
+use Rattle.reader.proofs.read_field.Statement as stated
+use Rattle.reader.proofs.read_field.Code as code
 
 abbrev stayed : Stays (read.ended .signature .params) (read.ended .kept)
 stayed = (stay-none-slice (0 ∷ []) tt (plain (λ _. u8)) yes, (stay-none (λ _. usize) yes, tt))
@@ -86,7 +86,7 @@ module _ {M : Type 1} (𝓤 : URA M) (H : Heap 𝓤) (A : Atoms 𝓤) (W : Given
   abbrev m : Val
   m = R′.lowered made
 
-  abbrev found : Field
+  abbrev found : Read
   found = fieldAt (now s) n
 
   abbrev Token : Fml
@@ -95,7 +95,7 @@ module _ {M : Type 1} (𝓤 : URA M) (H : Heap 𝓤) (A : Atoms 𝓤) (W : Given
   abbrev Own : Fml
   Own = Line .own s (v ∷ [])
 
-  -- What `read` is given, and what it leaves.
+  -- What `read_field` is given, and what it leaves.
   abbrev at : Vals read.signature κs
   at = (v ∷ [], (vint w64 n ∷ [], tt))
 
@@ -112,7 +112,7 @@ module _ {M : Type 1} (𝓤 : URA M) (H : Heap 𝓤) (A : Atoms 𝓤) (W : Given
   abbrev Asked : SProp 𝓤
   Asked = Next 𝓤 H A mem run .pre to
 
-  abbrev Ensured : Field → SProp 𝓤
+  abbrev Ensured : Read → SProp 𝓤
   Ensured r = ensured 𝓤 H A next.ended (next.clauses 𝓤 H A mem run) κs (made, tt) tt r
 
   asked : ent 𝓤 (onEntry 𝓤 H A next.signature κs (q, tt) (made, tt) (m ∷ [], tt)) Asked
@@ -130,10 +130,10 @@ module _ {M : Type 1} (𝓤 : URA M) (H : Heap 𝓤) (A : Atoms 𝓤) (W : Given
       nothing ! $ move ! (1 ∷ 0 ∷ []) $ fjoin ! $ move ! (2 ∷ 0 ∷ []) $ use2 W (raw Asked) asked $ frame ! $ done !
 
   -- The callee takes no `&mut`: of what it ensures, only the clause counts.
-  said : (r : Field) → ent 𝓤 (Ensured r) (fact 𝓤 (r ≡ found))
+  said : (r : Read) → ent 𝓤 (Ensured r) (fact 𝓤 (r ≡ found))
   said r = exE 𝓤 _ (λ ws. snd∗ 𝓤 (sem 𝓤 H A (lasts next.ended κs (made, tt) ws)) (fact 𝓤 (r ≡ found)))
 
-  exits : n < 2 ^ 64 → (r : Field) (u : Val) → r ≡ found
+  exits : n < 2 ^ 64 → (r : Read) (u : Val) → r ≡ found
       → ent 𝓤 (⋆ 𝓤 H A (‵ (F.the-row .own r (u ∷ [])) ∷ (‵ Token ⊛ ‵ ftrue) ∷ ‵ Own ∷ [])) (Post u)
   exits fits r u e =
       qed W (‵ (F.the-row .own r (u ∷ [])) ∷ (‵ Token ⊛ ‵ ftrue) ∷ ‵ Own ∷ []) ∵
@@ -156,7 +156,7 @@ module _ {M : Type 1} (𝓤 : URA M) (H : Heap 𝓤) (A : Atoms 𝓤) (W : Given
         (from ! (stop !)) (init ! 0 refl (tt, (typed .1, (record { fits = fits }, tt)))) $
         move ! (8 ∷ []) $ use1 W (raw Asked ⊛ ‵ Own) (together fits) $ split ! $
         calls-at ! fm (Next 𝓤 H A mem run) known to (and-then ! (load ! (from ! (stop !)) (look ! 2 refl)) (no-more !)) (λ u.
-        use1 W (later (some (λ (r : Field). ((‵ Token ⊛ ‵ ftrue) ⊛ ‵ (F.the-row .own r (u ∷ []))) ⊛ raw (Ensured r)))) (id⊢ 𝓤 _) $
+        use1 W (later (some (λ (r : Read). ((‵ Token ⊛ ‵ ftrue) ⊛ ‵ (F.the-row .own r (u ∷ []))) ⊛ raw (Ensured r)))) (id⊢ 𝓤 _) $
         await ! tt $ pick ! (λ r. split ! $ move ! (1 ∷ []) $
         use1 W (raw (fact 𝓤 (r ≡ found))) (said r) $ heard ! (r ≡ found) (λ e. split ! $ move ! (1 ∷ []) $
         -- [the result; the token; what the line owns; _3; …; _2; …; _1; …; room for _0; …]
@@ -183,9 +183,9 @@ module _ {M : Type 1} (𝓤 : URA M) (H : Heap 𝓤) (A : Atoms 𝓤) (W : Given
       (read.clauses 𝓤 H A mem run) (WpFn 𝓤 H (𝓣 .C) (𝓣 .Λ) code.function) (WpFn-mono 𝓤 H (W .laws) 𝓣 code.function)
       (walks (𝓣 .C) (𝓣 .Λ) (fmOf 𝓤 H (W .laws) 𝓣) known)
 
-pub read-spec : {M : Type 1} → stated.statement M
+pub read-field-spec : {M : Type 1} → stated.statement M
 unfolding code.routine tablesOf
-read-spec 𝓤 H 𝓜 𝓖 𝓡 =
+read-field-spec 𝓤 H 𝓜 𝓖 𝓡 =
     entered 𝓤 H (tripleOf 𝓤 H (𝓖 .A) read.signature (read.spec 𝓤 H (𝓖 .A) (𝓜 .mem) (𝓡 .run)))
     (tables 𝓤 H 𝓜 𝓡 code.env .C) (tables 𝓤 H 𝓜 𝓡 code.env .Λ) #read code.function (code.unfolded 𝓤 H 𝓜 𝓡)
     (meets 𝓤 H (𝓖 .A) (givenOf 𝓤 H 𝓜 𝓖) (𝓜 .mem) (𝓡 .run) (tablesOf 𝓤 H 𝓜 (tables 𝓤 H 𝓜 𝓡 code.env))

@@ -1,15 +1,12 @@
--- What the C interface's call gives: 10 and nothing changed where the arguments are no call, and else what the call gives.
+-- A call by its code, as a script line or the C interface has it: 10 and nothing changed where these are no call, and else what the call gives.
 use Prim.Native.Nat.{ℕ}
 use mathlib.Core.List.{List}
 use Rattle.protocol.specs.Memory.{Memory}
-use Rattle.protocol.specs.Outcome.{Outcome}
+use Rattle.protocol.specs.Outcome.{Outcome, unreadable}
 use Rattle.protocol.specs.Runs.{step}
 use Rattle.codes.specs.declared.Coded.{Coded}
 use Rattle.codes.specs.declared.Coded.the-variants.{Of, Unreadable}
 use Rattle.codes.specs.Codes.{codedCall}
-
-abbrev pub unreadable : ℕ
-unreadable = 10
 
 unfoldable pub calledBy : Coded → Memory → List ℕ → Outcome
 calledBy (Of call) m list = step m call list

@@ -1,0 +1,20 @@
+-- The code gives a call, or none.
+use borrow.Author.Needs.{needs}
+use Rattle.ledger.proofs.Calling.{not-called, is-called}
+use Rattle.ledger.proofs.call_by_code.Statement.{statement}
+use Rattle.ledger.proofs.call_by_code.Tie as tie
+
+returns : tie.Need-returns
+returns c =
+    not-called _ _ _ _ _ _ _ _ (c .before .before .before .coded-call .ensures) (c .before .enum-told .given .1) (c .refused .ensures)
+
+returns-2 : tie.Need-returns-2
+returns-2 c =
+    is-called _ _ _ _ _ _ _ _ (c .before .before .before .before .before .before .before .before .before .before .before .before .before .coded-call .ensures)
+    (c .before .before .before .before .before .before .before .before .before .before .before .coded .given .1) (c .before .before .before .before .before .before .invoke .ensures)
+
+pub call-by-code-spec : {M : Type 1} → statement M
+call-by-code-spec =
+    tie.close
+    (tie.spec (λ c κs. search needs) (λ c. search needs) (λ c. search needs) (λ c κs. search needs) (λ c. search needs)
+    (λ c. search needs) returns (λ c κs. search needs) (λ c. search needs) (λ c. search needs) (λ c. search needs) returns-2)

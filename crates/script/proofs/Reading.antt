@@ -1,0 +1,74 @@
+-- The ways that reading a line's numbers goes.
+use Prim.Native.Nat.{ℕ, _+_, _*_, _<_, _≤_}
+use mathlib.Core.Path.{_≡_, refl, sym, ap, _∙_}
+use mathlib.Core.Bool.{true, false}
+use mathlib.Core.List.{List, [], _∷_, _++_}
+use lib.ListN.{length, take, set}
+use lib.Seq.{take-suc-set}
+use native.Mathlib.Numerals.{unary-clauses}
+use Rattle.protocol.proofs.Tests.{tests, by-test, each, all-hold, at-below}
+use Rattle.protocol.specs.Form.{allBelow}
+use Rattle.protocol.specs.Outcome.{unreadable}
+use Rattle.field.specs.Field.{columns}
+use Rattle.reader.specs.declared.Read.{Read}
+use Rattle.reader.specs.declared.Read.the-variants.{Number, Refused}
+use Rattle.reader.specs.Reading.{given, fieldAt}
+use Rattle.script.specs.Lines.{minFields, maxFields, fieldCount, numberAt, numbers, isNumber, isReadable, countOf}
+
+pub clash : {n x : ℕ} → Number n ≡ Refused x → ⊥
+clash e = let no : _≡_ {A = ℕ} 0 1 = cc in omega (tests, no)
+
+pub same : {n x : ℕ} → Number n ≡ Number x → n ≡ x
+same e = cc
+
+no-such : true ≡ false → ⊥
+no-such e = let no : _≡_ {A = ℕ} 0 1 = cc in omega (tests, no)
+
+module _ (line : List ℕ) where
+  pub record Readable : Type 0 where
+    pub whole : columns * fieldCount line ≡ length line
+    pub enough : minFields ≤ fieldCount line
+    pub few : fieldCount line ≤ maxFields
+    pub all : allBelow (fieldCount line) (isNumber line) ≡ true
+
+  pub readable : isReadable line ≡ true → Readable
+  unfolding isReadable
+  readable t =
+      let e = each _ t in
+      record { whole = omega (tests, e .0); enough = omega (tests, e .1 .0); few = omega (tests, e .1 .1 .0); all = e .1 .1 .1 .0 }
+
+  pub is-readable : Readable → isReadable line ≡ true
+  unfolding isReadable
+  is-readable r = all-hold _ (omega (tests, r .whole), (omega (tests, r .enough), (omega (tests, r .few), (r .all, tt))))
+
+  -- A line that fails a test.
+  pub not-read : {A : Type 0} → (Readable → ⊥) → (Refused unreadable ≡ countOf line) × (isReadable line ≡ true → A)
+  unfolding countOf
+  not-read n = (by-test (isReadable line) (λ t. absurd (n (readable t))) (λ e. rw e refl), λ t. absurd (n (readable t)))
+
+  -- A field that is no number.
+  pub refused-at : (i : ℕ) {r : Read} {refusal : ℕ} → i < fieldCount line → r ≡ fieldAt line (columns * i) → r ≡ Refused refusal
+      → {A : Type 0} → (r ≡ countOf line) × (isReadable line ≡ true → A)
+  unfolding fieldAt given
+  refused-at i {r} {refusal} h e u =
+      by-test (isNumber line i) (λ t. absurd (clash (rw t at (sym e ∙ u))))
+      (λ f. let no = not-read (λ (d : Readable). no-such (sym (at-below _ _ (d .all) i h) ∙ f)) in ((rw f at e) ∙ no .0, no .1))
+
+  -- A field that is one.
+  pub number-at : (i : ℕ) {r : Read} {n : ℕ} → r ≡ fieldAt line (columns * i) → r ≡ Number n
+      → (isNumber line i ≡ true) × (n ≡ numberAt line i)
+  unfolding fieldAt given
+  number-at i {r} {n} e u =
+      by-test (isNumber line i) (λ t. (t, same (sym u ∙ rw t at e))) (λ f. absurd (clash (sym u ∙ rw f at e)))
+
+  pub one-more : (held : List ℕ) (i n : ℕ) → i < length held → n ≡ numberAt line i → take i held ≡ numbers line i
+      → take (i + 1) (set held i n) ≡ numbers line (i + 1)
+  unfolding numbers
+  one-more held i n h e u = simp (unary-clauses, e) (take-suc-set held i (numberAt line i) h ∙ ap (λ (l : List ℕ). l ++ (numberAt line i ∷ [])) u)
+
+  -- Every field has a number.
+  pub all-read : (held : List ℕ) {i : ℕ} → i ≡ fieldCount line → Readable
+      → take i held ≡ numbers line i
+      → (Number (fieldCount line) ≡ countOf line) × (isReadable line ≡ true → take (fieldCount line) held ≡ numbers line (fieldCount line))
+  unfolding countOf
+  all-read held e r u = (rw (is-readable r) refl, λ t. rw e at u)

@@ -1,0 +1,38 @@
+-- The numbers are read, or there is a refusal to hand up.
+use mathlib.Core.Path.{sym}
+use native.Mathlib.Omega.{arith}
+use lib.Seq.{length-take-le}
+use Rattle.script.proofs.Answering.{count, line-refused, line-answered}
+use borrow.Author.Needs.{needs}
+use Rattle.script.proofs.answer_line.Statement.{statement}
+use Rattle.script.proofs.answer_line.Tie as tie
+
+returns : tie.Need-returns
+returns c =
+    line-refused _ (c .before .before .before .before .before .read-numbers .ensures .0) _ (c .before .before .enum-told .given .1) (c .before .refusal-of .ensures) (c .refused .ensures)
+
+array-share-prefix-given : tie.Need-array-share-prefix-given
+array-share-prefix-given c =
+    omega (arith, count _ (c .before .before .before .before .before .before .before .before .read-numbers .ensures .0) (c .before .before .before .before .before .read .given .1))
+
+slice-aggregate-answer-numbers : tie.Need-slice-aggregate-answer-numbers
+slice-aggregate-answer-numbers c =
+    let n = count _ (c .before .before .before .before .before .before .before .before .before .read-numbers .ensures .0) (c .before .before .before .before .before .before .read .given .1) in
+    sym (length-take-le _ (c .before .before .before .before .before .before .before .before .before .read-numbers .last .1 .0) (omega (arith, n, c .before .before .before .before .before .before .before .before .given2 .given)))
+
+answer-numbers-requires : tie.Need-answer-numbers-requires
+answer-numbers-requires c κs =
+    let n = count _ (c .before .before .before .before .before .before .before .before .before .read-numbers .ensures .0) (c .before .before .before .before .before .before .read .given .1) in
+    (c .before .before .before .before .before .before .before .before .before .before .before .before .before .before .before .pre, omega (arith, n, length-take-le (c .before .before .before .before .before .before .read .given .0 .0) (c .before .before .before .before .before .before .before .before .before .read-numbers .last .1 .0) (omega (arith, n, c .before .before .before .before .before .before .before .before .given2 .given))))
+
+returns-2 : tie.Need-returns-2
+returns-2 c =
+    line-answered _ (c .before .before .before .before .before .before .before .before .before .before .before .before .before .before .before .before .read-numbers .ensures .0) _ _ (c .before .before .before .before .before .before .before .before .before .before .before .before .before .read .given .1) (c .before .before .before .before .before .before .before .before .before .before .before .before .before .before .before .before .read-numbers .ensures .1) (c .before .before .before .before .before .before .answer-numbers .ensures)
+
+pub answer-line-spec : {M : Type 1} → statement M
+answer-line-spec =
+    tie.close
+    (tie.spec (λ c. search needs) (λ c κs. search needs) (λ c. search needs) (λ c. search needs)
+    (λ c κs. search needs) (λ c κs. search needs) returns (λ c. search needs) array-share-prefix-given
+    slice-aggregate-answer-numbers answer-numbers-requires (λ c. search needs) (λ c. search needs)
+    (λ c. search needs) returns-2)

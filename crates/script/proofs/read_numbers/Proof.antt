@@ -1,0 +1,93 @@
+-- So far every field has a number, and these stand at the front.
+use Prim.Native.Nat.{_-_, _≤_}
+use mathlib.Core.Path.{_≡_, refl, sym, _∙_}
+use mathlib.Core.Bool.{true}
+use native.Mathlib.Omega.{arith}
+use borrow.Author.Needs.{needs}
+use lib.ListN.{length, take, length-set}
+use Rattle.protocol.specs.Form.{allBelow}
+use Rattle.layout.proofs.Below.{next}
+use Rattle.script.specs.Lines.{maxFields, fieldCount, numbers, isNumber}
+use Rattle.script.proofs.Reading.{not-read, refused-at, number-at, one-more, all-read}
+use Rattle.script.proofs.read_numbers.Statement.{statement}
+use Rattle.script.proofs.read_numbers.Tie as tie
+
+abbrev Inv-loop : tie.InvT-loop
+Inv-loop line given₀ count i₀ given i =
+    (i ≤ count) × (length given ≡ maxFields) × (allBelow i (isNumber line) ≡ true) × (take i given ≡ numbers line i)
+
+abbrev μ-loop : tie.MeasureT-loop
+μ-loop line given₀ count i₀ given i = count - i
+
+mul-if1 : tie.Need-mul-if1 Inv-loop μ-loop
+mul-if1 c = omega (arith, c .before .before .good)
+
+returns : tie.Need-returns Inv-loop μ-loop
+returns c = not-read _ (λ r. omega (arith, r .whole, c .if1 .taken))
+
+returns-2 : tie.Need-returns-2 Inv-loop μ-loop
+returns-2 c = not-read _ (λ r. omega (arith, r .enough, c .if2 .taken))
+
+returns-3 : tie.Need-returns-3 Inv-loop μ-loop
+returns-3 c = not-read _ (λ r. omega (arith, r .few, c .if3 .taken))
+
+loop-holds : tie.Need-loop-holds Inv-loop μ-loop
+unfolding allBelow numbers
+loop-holds c = (omega arith, c .before .before .before .before .before .pre, refl, refl)
+
+mul-read-field : tie.Need-mul-read-field Inv-loop μ-loop
+mul-read-field c = omega (arith, c .before .loop .inv .0)
+
+same-length : tie.Need-same-length Inv-loop μ-loop
+same-length c = (c .before .before .before .before .loop .inv .1) ∙ sym (c .before .before .before .before .before .before .before .before .before .before .pre)
+
+returns-4 : tie.Need-returns-4 Inv-loop μ-loop
+returns-4 c = refused-at _ (c .before .before .before .before .loop .i) (c .before .before .before .loop-test .taken) (c .before .before .read-field .ensures) (c .enum-told .given .1)
+
+mul-given : tie.Need-mul-given Inv-loop μ-loop
+mul-given c = omega arith
+
+slice-write-given : tie.Need-slice-write-given Inv-loop μ-loop
+slice-write-given c = omega arith
+
+add-i : tie.Need-add-i Inv-loop μ-loop
+add-i c = omega arith
+
+loop-less : tie.Need-loop-less Inv-loop μ-loop
+loop-less c = omega arith
+
+loop-again : tie.Need-loop-again Inv-loop μ-loop
+loop-again c =
+    let l = c .before .before .before .before .before .loop in
+    let read = number-at _ (l .i) (c .before .before .before .read-field .ensures) (c .before .read .given .1) in (
+      omega (arith, c .before .before .before .before .loop-test .taken),
+      simp length-set (l .inv .1),
+      next _ (l .i) (l .inv .2) (read .0),
+      one-more _ (l .given) (l .i) _ (omega (arith, l .inv .1)) (read .1) (l .inv .3),
+    )
+
+cast-t13 : tie.Need-cast-t13 Inv-loop μ-loop
+cast-t13 c = omega (arith, c .before .before .if3 .left)
+
+same-length-2 : tie.Need-same-length-2 Inv-loop μ-loop
+same-length-2 c = c .before .loop .inv .1 ∙ sym (c .before .before .before .before .before .before .before .pre)
+
+returns-5 : tie.Need-returns-5 Inv-loop μ-loop
+returns-5 c =
+    let l = c .before .loop in
+    let end : l .i ≡ fieldCount (c .before .before .before .before .before .before .before .args .line .now) = omega (arith, l .inv .0, c .loop-test .left) in
+    all-read _ (l .given) end
+    (record {
+      whole = omega (arith, c .before .before .before .before .if1 .left);
+      enough = omega (arith, c .before .before .before .if2 .left);
+      few = omega (arith, c .before .before .if3 .left);
+      all = rw end at (l .inv .2);
+    })
+    (l .inv .3)
+
+pub read-numbers-spec : {M : Type 1} → statement M
+read-numbers-spec =
+    tie.close
+    (tie.spec Inv-loop μ-loop mul-if1 returns returns-2 returns-3 loop-holds mul-read-field
+    (λ c κs. search needs) (λ c. search needs) (λ c. search needs) same-length returns-4 mul-given
+    slice-write-given add-i loop-less loop-again cast-t13 same-length-2 returns-5)

@@ -2,3 +2,4 @@
 pub mod Output
 pub mod Stream
 pub mod Theorems
+pub mod Cases

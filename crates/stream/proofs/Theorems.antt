@@ -9,7 +9,7 @@ use lib.Seq.{take-nil}
 use Rattle.protocol.proofs.Tests.{tests, by-test}
 use Rattle.script.specs.Text.{lineFeed}
 use Rattle.stream.specs.Output.{linesFrom, answersTo, maxLines, output}
-use Rattle.stream.specs.Stream.{Stream, heldPlaces, fed, finished, newStream}
+use Rattle.stream.specs.Stream.{Stream, heldPlaces, endLine, fed, finished, newStream}
 use Rattle.stream.specs.Theorems.{joined, BlocksDoNotMatter}
 use Rattle.stream.proofs.Fed.{begun, answered, line-ended, at-feed, at-other, fed-stopped}
 use Rattle.stream.proofs.Front.{written-at-once}
@@ -31,18 +31,18 @@ module _ (s : Stream) (high : ltb (s .lines) maxLines ≡ false) where
 
   nothing-more : (bytes : List ℕ) (lines : List (List ℕ)) → finished (fed s bytes) .text ≡ s .text ++ answers s lines
   unfolding finished
-  nothing-more bytes lines = rw (fed-stopped s bytes high, high, no-answers lines, append-nil)
+  nothing-more bytes lines = rw (fed-stopped s bytes (omega tests), high, no-answers lines, append-nil)
 
 module _ (s : Stream) (low : ltb (s .lines) maxLines ≡ true) where
   first-answer : (line : List ℕ) (lines : List (List ℕ))
       → s .text ++ answers s (line ∷ lines) ≡ answered s line .text ++ answers (answered s line) lines
-  unfolding answersTo
+  unfolding answersTo endLine
   first-answer line lines =
       let m : maxLines - s .lines ≡ suc (maxLines - suc (s .lines)) = omega tests in rw (m, append-assoc)
 
   at-end : (line : List ℕ) → finished (begun s line) .text ≡ s .text ++ answers s (linesFrom line [])
   unfolding finished linesFrom answersTo
-  at-end [] = rw (low, take-nil, append-nil)
+  at-end [] = rw (low, take-nil (maxLines - s .lines), append-nil)
   at-end (b ∷ line) =
       let p : ltb 0 (length (take heldPlaces (b ∷ line))) ≡ true = omega tests in
       rw (low, p, line-ended s (b ∷ line), first-answer (b ∷ line) [], take-nil, append-nil)
@@ -50,14 +50,14 @@ module _ (s : Stream) (low : ltb (s .lines) maxLines ≡ true) where
 -- What comes out for bytes after those of a line that has begun.
 all-answers : (bytes : List ℕ) (s : Stream) (line : List ℕ)
     → finished (fed (begun s line) bytes) .text ≡ s .text ++ answers s (linesFrom line bytes)
-unfolding fed
+unfolding fed endLine
 all-answers [] s line = by-test (ltb (s .lines) maxLines) (λ low. at-end s low line) (λ high. nothing-more (begun s line) high [] _)
 all-answers (byte ∷ bytes) s line =
     by-test (ltb (s .lines) maxLines)
     (λ low.
     by-test (eqb byte lineFeed)
     (λ f.
-    rw (at-feed s line low byte f, lines-next, f, first-answer s low line (linesFrom [] bytes))
+    rw (at-feed s line low byte f, line-ended s line, lines-next, f, first-answer s low line (linesFrom [] bytes))
     (all-answers bytes (answered s line) []))
     (λ f. rw (at-other s line low byte f, lines-next, f) (all-answers bytes s (line ++ (byte ∷ [])))))
     (λ high. nothing-more (begun s line) high (byte ∷ bytes) _)

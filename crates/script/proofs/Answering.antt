@@ -9,18 +9,18 @@ use Rattle.protocol.proofs.Tests.{tests, by-test}
 use Rattle.reader.specs.declared.Read.{Read}
 use Rattle.reader.specs.declared.Read.the-variants.{Number, Refused}
 use Rattle.reader.specs.Reading.{refusalOf}
-use Rattle.script.specs.Lines.{minFields, maxFields, fieldCount, numbers, isReadable, countOf}
+use Rattle.script.specs.Lines.{minFields, maxFields, fieldCount, numbers, hasNumbers, countOf}
 use Rattle.script.specs.Session.{Session, Answered, answerNumbers, answerLine}
 use Rattle.script.proofs.Reading.{clash, same, readable}
 
 module _ (line : List ℕ) {r : Read} (e : r ≡ countOf line) where
-  pub not-readable : {refusal : ℕ} → r ≡ Refused refusal → isReadable line ≡ false
+  pub not-readable : {refusal : ℕ} → r ≡ Refused refusal → hasNumbers line ≡ false
   unfolding countOf
-  not-readable u = by-test (isReadable line) (λ t. absurd (clash (rw t at (sym e ∙ u)))) (λ f. f)
+  not-readable u = by-test (hasNumbers line) (λ t. absurd (clash (rw t at (sym e ∙ u)))) (λ f. f)
 
-  pub is-read : {n : ℕ} → r ≡ Number n → isReadable line ≡ true
+  pub is-read : {n : ℕ} → r ≡ Number n → hasNumbers line ≡ true
   unfolding countOf
-  is-read u = by-test (isReadable line) (λ t. t) (λ f. absurd (clash (rw f at (sym u ∙ e))))
+  is-read u = by-test (hasNumbers line) (λ t. t) (λ f. absurd (clash (rw f at (sym u ∙ e))))
 
   pub count : {n : ℕ} → r ≡ Number n → (n ≡ fieldCount line) × (minFields ≤ n) × (n ≤ maxFields)
   unfolding countOf
@@ -39,7 +39,7 @@ module _ (line : List ℕ) {r : Read} (e : r ≡ countOf line) where
         rw (f, y, x, (rw f at e)) refl
 
     pub line-answered : {n : ℕ} (held : List ℕ) {o : Answered} → r ≡ Number n
-        → (isReadable line ≡ true → take (fieldCount line) held ≡ numbers line (fieldCount line)) → o ≡ answerNumbers s (take n held) → o ≡ answerLine s line
+        → (hasNumbers line ≡ true → take (fieldCount line) held ≡ numbers line (fieldCount line)) → o ≡ answerNumbers s (take n held) → o ≡ answerLine s line
     unfolding answerLine
     line-answered {n} held {o} u h x =
         let t = is-read u in

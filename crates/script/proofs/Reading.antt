@@ -13,7 +13,7 @@ use Rattle.field.specs.Field.{columns}
 use Rattle.reader.specs.declared.Read.{Read}
 use Rattle.reader.specs.declared.Read.the-variants.{Number, Refused}
 use Rattle.reader.specs.Reading.{given, fieldAt}
-use Rattle.script.specs.Lines.{minFields, maxFields, fieldCount, numberAt, numbers, isNumber, isReadable, countOf}
+use Rattle.script.specs.Lines.{minFields, maxFields, fieldCount, numberAt, numbers, isNumber, hasNumbers, countOf}
 
 pub clash : {n x : ℕ} → Number n ≡ Refused x → ⊥
 clash e = let no : _≡_ {A = ℕ} 0 1 = cc in omega (tests, no)
@@ -31,24 +31,24 @@ module _ (line : List ℕ) where
     pub few : fieldCount line ≤ maxFields
     pub all : allBelow (fieldCount line) (isNumber line) ≡ true
 
-  pub readable : isReadable line ≡ true → Readable
-  unfolding isReadable
+  pub readable : hasNumbers line ≡ true → Readable
+  unfolding hasNumbers
   readable t =
       let e = each _ t in
       record { whole = omega (tests, e .0); enough = omega (tests, e .1 .0); few = omega (tests, e .1 .1 .0); all = e .1 .1 .1 .0 }
 
-  pub is-readable : Readable → isReadable line ≡ true
-  unfolding isReadable
+  pub is-readable : Readable → hasNumbers line ≡ true
+  unfolding hasNumbers
   is-readable r = all-hold _ (omega (tests, r .whole), (omega (tests, r .enough), (omega (tests, r .few), (r .all, tt))))
 
   -- A line that fails a test.
-  pub not-read : {A : Type 0} → (Readable → ⊥) → (Refused unreadable ≡ countOf line) × (isReadable line ≡ true → A)
+  pub not-read : {A : Type 0} → (Readable → ⊥) → (Refused unreadable ≡ countOf line) × (hasNumbers line ≡ true → A)
   unfolding countOf
-  not-read n = (by-test (isReadable line) (λ t. absurd (n (readable t))) (λ e. rw e refl), λ t. absurd (n (readable t)))
+  not-read n = (by-test (hasNumbers line) (λ t. absurd (n (readable t))) (λ e. rw e refl), λ t. absurd (n (readable t)))
 
   -- A field that is no number.
   pub refused-at : (i : ℕ) {r : Read} {refusal : ℕ} → i < fieldCount line → r ≡ fieldAt line (columns * i) → r ≡ Refused refusal
-      → {A : Type 0} → (r ≡ countOf line) × (isReadable line ≡ true → A)
+      → {A : Type 0} → (r ≡ countOf line) × (hasNumbers line ≡ true → A)
   unfolding fieldAt given
   refused-at i {r} {refusal} h e u =
       by-test (isNumber line i) (λ t. absurd (clash (rw t at (sym e ∙ u))))
@@ -69,6 +69,6 @@ module _ (line : List ℕ) where
   -- Every field has a number.
   pub all-read : (held : List ℕ) {i : ℕ} → i ≡ fieldCount line → Readable
       → take i held ≡ numbers line i
-      → (Number (fieldCount line) ≡ countOf line) × (isReadable line ≡ true → take (fieldCount line) held ≡ numbers line (fieldCount line))
+      → (Number (fieldCount line) ≡ countOf line) × (hasNumbers line ≡ true → take (fieldCount line) held ≡ numbers line (fieldCount line))
   unfolding countOf
   all-read held e r u = (rw (is-readable r) refl, λ t. rw e at u)

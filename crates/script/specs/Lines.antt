@@ -33,8 +33,8 @@ abbrev pub isNumber : List ℕ → ℕ → Bool
 isNumber line i = leb (numberAt line i) maxNumber
 
 -- The line is whole fields, 3 to 34 of them, and a number stands in each.
-unfoldable pub isReadable : List ℕ → Bool
-isReadable line =
+unfoldable pub hasNumbers : List ℕ → Bool
+hasNumbers line =
     allHold
     (eqb (columns * fieldCount line) (length line)
     ∷ leb minFields (fieldCount line)
@@ -44,4 +44,4 @@ isReadable line =
 
 -- How many numbers are read, or the refusal.
 unfoldable pub countOf : List ℕ → Read
-countOf line = cond (isReadable line) (Number (fieldCount line)) (Refused unreadable)
+countOf line = cond (hasNumbers line) (Number (fieldCount line)) (Refused unreadable)

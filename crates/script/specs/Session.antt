@@ -9,7 +9,7 @@ use Rattle.protocol.specs.Memory.{Memory, memory, maxFaultBound, tableLength}
 use Rattle.protocol.specs.Form.{isFaultBound}
 use Rattle.protocol.specs.Outcome.{Outcome, unreadable}
 use Rattle.ledger.specs.Called.{called}
-use Rattle.script.specs.Lines.{fieldCount, numbers, isReadable}
+use Rattle.script.specs.Lines.{fieldCount, numbers, hasNumbers}
 
 -- f as last opened, 0 before the first accepted opening; and the words, the table's as many as the largest f needs.
 pub record Session : Type 0 where
@@ -82,5 +82,5 @@ answerNumbers s given =
 -- What a line gives. "Anything else, an empty line included, returns 10": then the session is as before.
 unfoldable pub answerLine : Session → List ℕ → Answered
 answerLine s line =
-    cond (isReadable line) (answerNumbers s (numbers line (fieldCount line)))
+    cond (hasNumbers line) (answerNumbers s (numbers line (fieldCount line)))
     (record { answer = record { number = unreadable; first = 0; second = 0 }; session = s })

@@ -7,7 +7,7 @@ ghost use lib.ListN.{length, take};
 ghost use Rattle.protocol.specs.Memory.{memory};
 ghost use Rattle.protocol.specs.Outcome.{left};
 ghost use Rattle.field.specs.Field.{columns, maxNumber, fieldOf};
-ghost use Rattle.script.specs.Lines.{minFields, maxFields, fieldCount, numbers, isReadable, countOf};
+ghost use Rattle.script.specs.Lines.{minFields, maxFields, fieldCount, numbers, hasNumbers, countOf};
 ghost use Rattle.script.specs.Session.{
   session,
   leaves,
@@ -50,7 +50,7 @@ const LINE_FEED: u8 = 10;
 fn read_numbers(line: &[u8], given: &mut [u32]) -> Read
     requires { ⌜ length (now given) ≡ maxFields ⌝ }
     ensures { λ r. ⌜ r ≡ countOf (now (line .entry)) ⌝ }
-    ensures { λ r. ⌜ (isReadable (now (line .entry)) ≡ true → take (fieldCount (now (line .entry))) (now (given .exit)) ≡ numbers (now (line .entry)) (fieldCount (now (line .entry)))) ⌝ }
+    ensures { λ r. ⌜ (hasNumbers (now (line .entry)) ≡ true → take (fieldCount (now (line .entry))) (now (given .exit)) ≡ numbers (now (line .entry)) (fieldCount (now (line .entry)))) ⌝ }
 {
     let count = line.len() / COLUMNS;
     if COLUMNS * count != line.len() {

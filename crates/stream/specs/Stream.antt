@@ -42,7 +42,7 @@ hold s byte = record { session = s .session; lines = s .lines; held = holding (s
 unfoldable pub byteIn : Stream → ℕ → Stream
 byteIn s byte = cond (ltb (s .lines) maxLines) (cond (eqb byte lineFeed) (endLine s) (hold s byte)) s
 
--- A block of bytes.
+-- A chunk of bytes.
 unfoldable pub fed : Stream → List ℕ → Stream
 fed s [] = s
 fed s (byte ∷ bytes) = fed (byteIn s byte) bytes
@@ -58,7 +58,7 @@ emptied s = record { session = s .session; lines = s .lines; held = s .held; tex
 abbrev pub newStream : Stream
 newStream = record { session = newSession; lines = 0; held = []; text = [] }
 
--- All that is written where the input comes in these blocks, after each block its text.
+-- All that is written where the input comes in these chunks, after each chunk its text.
 unfoldable pub written : Stream → List (List ℕ) → List ℕ
 written s [] = finished (emptied s) .text
-written s (block ∷ blocks) = let next = fed (emptied s) block in next .text ++ written next blocks
+written s (chunk ∷ chunks) = let next = fed (emptied s) chunk in next .text ++ written next chunks

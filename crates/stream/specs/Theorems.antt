@@ -5,11 +5,11 @@ use Prim.Native.Nat.{ℕ}
 use Rattle.stream.specs.Output.{output}
 use Rattle.stream.specs.Stream.{newStream, written}
 
--- The bytes of blocks one after the other.
+-- The bytes of chunks one after the other.
 unfoldable pub joined : List (List ℕ) → List ℕ
 joined [] = []
-joined (block ∷ blocks) = block ++ joined blocks
+joined (chunk ∷ chunks) = chunk ++ joined chunks
 
--- What is written is the output for the bytes, in whatever blocks they come.
-unfoldable pub BlocksDoNotMatter : Type 0
-BlocksDoNotMatter = (blocks : List (List ℕ)) → written newStream blocks ≡ output (joined blocks)
+-- What is written is the output for the bytes, in whatever chunks they come.
+unfoldable pub ChunksDoNotMatter : Type 0
+ChunksDoNotMatter = (chunks : List (List ℕ)) → written newStream chunks ≡ output (joined chunks)

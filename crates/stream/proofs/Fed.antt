@@ -10,6 +10,7 @@ use Rattle.protocol.proofs.Tests.{tests, by-test}
 use Rattle.script.specs.Text.{lineFeed}
 use Rattle.stream.specs.Output.{maxLines}
 use Rattle.stream.specs.Stream.{Stream, heldPlaces, holding, endLine, hold, byteIn, fed}
+use Rattle.stream.specs.Progress.{withHeld, begun}
 use Rattle.stream.proofs.Long.{held-answer}
 
 pub fed-append : (s : Stream) (xs ys : List ℕ) → fed s (xs ++ ys) ≡ fed (fed s xs) ys
@@ -22,14 +23,6 @@ pub fed-stopped : (s : Stream) (bytes : List ℕ) → maxLines ≤ s .lines → 
 unfolding fed byteIn
 fed-stopped s [] h = refl
 fed-stopped s (byte ∷ bytes) h = let t : ltb (s .lines) maxLines ≡ false = omega tests in rw t (fed-stopped s bytes h)
-
--- The stream with these bytes held.
-abbrev pub withHeld : Stream → List ℕ → Stream
-withHeld s bytes = record { session = s .session; lines = s .lines; held = bytes; text = s .text }
-
--- The stream where a line has begun with these bytes.
-abbrev pub begun : Stream → List ℕ → Stream
-begun s line = withHeld s (take heldPlaces line)
 
 -- The stream after the answer to a line.
 abbrev pub answered : Stream → List ℕ → Stream

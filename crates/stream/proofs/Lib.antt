@@ -4,6 +4,8 @@ pub mod Fed
 pub mod Feeds
 pub mod Holding
 pub mod Runs
+pub mod Answers
+pub mod Feeding
 pub mod Front
 pub mod Theorems
 pub mod Cases

@@ -12,7 +12,8 @@ use Rattle.script.specs.Text.{lineFeed}
 use Rattle.stream.specs.Output.{maxLines}
 use Rattle.stream.specs.Stream.{Stream, heldPlaces, endLine, fed}
 use Rattle.stream.specs.Feeds.{feedFrom}
-use Rattle.stream.proofs.Fed.{begun, at-feed, at-other}
+use Rattle.stream.specs.Progress.{begun}
+use Rattle.stream.proofs.Fed.{at-feed, at-other}
 
 -- The bytes before the first line feed.
 abbrev pub beforeFeed : List ℕ → List ℕ

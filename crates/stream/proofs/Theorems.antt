@@ -11,7 +11,8 @@ use Rattle.script.specs.Text.{lineFeed}
 use Rattle.stream.specs.Output.{linesFrom, answersTo, maxLines, output}
 use Rattle.stream.specs.Stream.{Stream, heldPlaces, endLine, fed, finished, newStream}
 use Rattle.stream.specs.Theorems.{joined, ChunksDoNotMatter}
-use Rattle.stream.proofs.Fed.{begun, answered, line-ended, at-feed, at-other, fed-stopped}
+use Rattle.stream.specs.Progress.{begun}
+use Rattle.stream.proofs.Fed.{answered, line-ended, at-feed, at-other, fed-stopped}
 use Rattle.stream.proofs.Front.{written-at-once}
 
 lines-next : (line : List ℕ) (byte : ℕ) (bytes : List ℕ)

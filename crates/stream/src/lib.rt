@@ -1,8 +1,12 @@
 // Bytes to lines to answers (document 01, "Script program").
-ghost use Prim.Native.Nat.{_+_, _≤_, min};
+ghost use Prim.Native.Nat.{ℕ, _+_, _≤_, min};
 ghost use mathlib.Core.Path.{_≡_};
 ghost use lib.Dec.{ltb};
-ghost use lib.ListN.{length, drop};
+ghost use lib.ListN.{length, take, drop};
+ghost use mathlib.Core.List.{List};
+ghost use Rattle.script.specs.Text.{answerBytes};
+ghost use Rattle.stream.specs.Stream.{heldPlaces, endLine, fed, finished};
+ghost use Rattle.stream.specs.Progress.{streamOf, withHeld, begun, Room, OneMore, Ready, Within};
 ghost use Rattle.stream.specs.Holding.{Holdable, lineSoFar, Held};
 ghost use Rattle.stream.specs.Feeds.{feedFrom, feedStep};
 
@@ -12,6 +16,20 @@ const FEED_STEP: usize = 16;
 
 // One more byte than a readable line can have.
 const HELD_PLACES: usize = 273;
+
+// Reading stops after this line.
+const MAX_LINES: u32 = 99_999_999;
+
+// Four fields and a line feed.
+const ANSWER_BYTES: usize = 33;
+
+// Where a stream stands: the f in use, how many lines were answered, how many bytes of a line are held, how many are to be written.
+pub struct Progress {
+    pub faults: u32,
+    pub lines: u32,
+    pub held: usize,
+    pub written: usize,
+}
 
 // Whether one of sixteen bytes is a line feed. One caller, and tests joined by `|` alone: so it is inlined, and vectors compare.
 fn has_feed(chunk: &[u8], at: usize) -> bool
@@ -75,4 +93,113 @@ fn hold(line: &mut [u8], held: usize, chunk: &[u8], from: usize, end: usize) -> 
         i += 1;
     }
     held + count
+}
+
+// Answers a line, and puts the answer after what is to be written.
+fn answer(
+    table: &mut [u32],
+    log: &mut [u32],
+    blocks: &mut [u32],
+    text: &mut [u8],
+    p: Progress,
+    line: &[u8],
+) -> Progress
+    requires { ⌜ Room p (now table) (now text) ⌝ }
+    ensures { λ r. ⌜ ((places : List ℕ) → streamOf r (now (table .exit)) (now (log .exit)) (now (blocks .exit)) places (now (text .exit)) ≡ endLine (withHeld (streamOf p (now (table .entry)) (now (log .entry)) (now (blocks .entry)) places (now (text .entry))) (now (line .entry)))) ⌝ }
+    ensures { λ r. ⌜ OneMore p r ⌝ }
+{
+    let mut faults = p.faults;
+    let answer = script::answer_line(table, log, blocks, &mut faults, line);
+    let lines = p.lines + 1;
+    let written = p.written;
+    script::put_answer(text, written, lines, answer);
+    Progress {
+        faults,
+        lines,
+        held: 0,
+        written: written + ANSWER_BYTES,
+    }
+}
+
+// Answers the line that ends at a place of a chunk: straight from the chunk, where nothing of it is held.
+fn answer_from(
+    table: &mut [u32],
+    log: &mut [u32],
+    blocks: &mut [u32],
+    line: &mut [u8],
+    text: &mut [u8],
+    p: Progress,
+    chunk: &[u8],
+    from: usize,
+    end: usize,
+) -> Progress
+    requires { ⌜ Room p (now table) (now text) ⌝ }
+    requires { ⌜ Holdable (now line) (p .held) (now chunk) from end ⌝ }
+    ensures { λ r. ⌜ streamOf r (now (table .exit)) (now (log .exit)) (now (blocks .exit)) (now (line .exit)) (now (text .exit)) ≡ endLine (begun (streamOf p (now (table .entry)) (now (log .entry)) (now (blocks .entry)) (now (line .entry)) (now (text .entry))) (lineSoFar (now (line .entry)) (p .held) (now (chunk .entry)) from end)) ⌝ }
+    ensures { λ r. ⌜ OneMore p r ⌝ }
+{
+    if p.held == 0 {
+        return answer(table, log, blocks, text, p, &chunk[from..end]);
+    }
+    let held = hold(line, p.held, chunk, from, end);
+    answer(table, log, blocks, text, p, &line[..held])
+}
+
+// Takes a chunk of the input. The text of the answers is then to be written.
+pub fn feed(
+    table: &mut [u32],
+    log: &mut [u32],
+    blocks: &mut [u32],
+    line: &mut [u8],
+    text: &mut [u8],
+    start: Progress,
+    chunk: &[u8],
+) -> Progress
+    requires { ⌜ Ready start (now table) (now line) (now text) (length (now chunk)) ⌝ }
+    ensures { λ r. ⌜ streamOf r (now (table .exit)) (now (log .exit)) (now (blocks .exit)) (now (line .exit)) (now (text .exit)) ≡ fed (streamOf start (now (table .entry)) (now (log .entry)) (now (blocks .entry)) (now (line .entry)) (now (text .entry))) (now (chunk .entry)) ⌝ }
+    ensures { λ r. ⌜ Within r (now (text .entry)) ⌝ }
+{
+    let mut p = start;
+    let mut at = 0;
+    while at < chunk.len() {
+        if MAX_LINES <= p.lines {
+            return p;
+        }
+        let end = line_end(chunk, at);
+        if end == chunk.len() {
+            let held = hold(line, p.held, chunk, at, end);
+            return Progress {
+                faults: p.faults,
+                lines: p.lines,
+                held,
+                written: p.written,
+            };
+        }
+        p = answer_from(table, log, blocks, line, text, p, chunk, at, end);
+        at = end + 1;
+    }
+    p
+}
+
+// The end of the input: a last line may lack its line feed.
+pub fn finish(
+    table: &mut [u32],
+    log: &mut [u32],
+    blocks: &mut [u32],
+    line: &[u8],
+    text: &mut [u8],
+    p: Progress,
+) -> Progress
+    requires { ⌜ Ready p (now table) (now line) (now text) 1 ⌝ }
+    ensures { λ r. ⌜ streamOf r (now (table .exit)) (now (log .exit)) (now (blocks .exit)) (now (line .entry)) (now (text .exit)) ≡ finished (streamOf p (now (table .entry)) (now (log .entry)) (now (blocks .entry)) (now (line .entry)) (now (text .entry))) ⌝ }
+    ensures { λ r. ⌜ Within r (now (text .entry)) ⌝ }
+{
+    let held = p.held;
+    if held == 0 {
+        return p;
+    }
+    if MAX_LINES <= p.lines {
+        return p;
+    }
+    answer(table, log, blocks, text, p, &line[..held])
 }

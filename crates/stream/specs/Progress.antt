@@ -1,0 +1,51 @@
+-- What the program has of a stream: some numbers, the ledger's words, places for a line and for text.
+use Prim.Native.Nat.{ℕ, _+_, _*_, _≤_, _<_}
+use mathlib.Core.Path.{_≡_}
+use mathlib.Core.List.{List}
+use lib.ListN.{length, take}
+use Rattle.script.specs.Session.{session, maxTable}
+use Rattle.script.specs.Text.{answerBytes}
+use Rattle.stream.specs.declared.Progress.{Progress}
+use Rattle.stream.specs.Output.{maxLines}
+use Rattle.stream.specs.Stream.{Stream, heldPlaces}
+
+abbrev pub streamOf : Progress → List ℕ → List ℕ → List ℕ → List ℕ → List ℕ → Stream
+streamOf p t l b line text =
+    record {
+      session = session (p .faults) t l b;
+      lines = p .lines;
+      held = take (p .held) line;
+      text = take (p .written) text;
+    }
+
+-- The stream with these bytes held.
+abbrev pub withHeld : Stream → List ℕ → Stream
+withHeld s bytes = record { session = s .session; lines = s .lines; held = bytes; text = s .text }
+
+-- The stream where a line has begun with these bytes.
+abbrev pub begun : Stream → List ℕ → Stream
+begun s line = withHeld s (take heldPlaces line)
+
+-- A further line can be answered.
+pub record Room (p : Progress) (words places : List ℕ) : Type 0 where
+  pub table : length words ≡ maxTable
+  pub lines : p .lines < maxLines
+  pub text : p .written + answerBytes ≤ length places
+
+-- The answer to a line follows the text, and nothing is held.
+pub record OneMore (p r : Progress) : Type 0 where
+  pub held : r .held ≡ 0
+  pub written : r .written ≡ p .written + answerBytes
+
+-- Nothing is to be written yet, and there is room for the answers to a chunk's lines.
+pub record Ready (p : Progress) (words linePlaces places : List ℕ) (bytes : ℕ) : Type 0 where
+  pub table : length words ≡ maxTable
+  pub line : length linePlaces ≡ heldPlaces
+  pub held : p .held ≤ heldPlaces
+  pub written : p .written ≡ 0
+  pub text : answerBytes * bytes ≤ length places
+
+-- What is to be written, and what is held, lies within its places.
+pub record Within (r : Progress) (places : List ℕ) : Type 0 where
+  pub held : r .held ≤ heldPlaces
+  pub written : r .written ≤ length places

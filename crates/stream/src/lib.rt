@@ -15,13 +15,13 @@ const LINE_FEED: u8 = 10;
 const FEED_STEP: usize = 16;
 
 // One more byte than a readable line can have.
-const HELD_PLACES: usize = 273;
+pub const HELD_PLACES: usize = 273;
 
 // Reading stops after this line.
-const MAX_LINES: u32 = 99_999_999;
+pub const MAX_LINES: u32 = 99_999_999;
 
 // Four fields and a line feed.
-const ANSWER_BYTES: usize = 33;
+pub const ANSWER_BYTES: usize = 33;
 
 // Where a stream stands: the f in use, how many lines were answered, how many bytes of a line are held, how many are to be written.
 pub struct Progress {

@@ -1,0 +1,59 @@
+-- Between two turns all text is written. The turns run out.
+use Prim.Native.Nat.{ℕ}
+use mathlib.Core.Path.{_≡_, refl, sym, subst, _∙_}
+use native.Mathlib.Omega.{arith}
+use lib.ListN.{length}
+use Rattle.stream.specs.declared.Progress.{Progress}
+use Rattle.yard.specs.declared.Turn.{Turn}
+use Rattle.yard.specs.declared.Turn.the-variants.{More}
+use Rattle.yard.specs.Turns.{chunkBytes, textBytes, Flushed, Goes}
+use borrow.Author.Needs.{needs}
+use Rattle.yard.proofs.main.Statement.{statement}
+use Rattle.yard.proofs.main.Tie as tie
+
+goes-on : {r : Turn} {p : Progress} → r ≡ More p → Goes r → Flushed p
+goes-on e g = subst Goes e g
+
+abbrev Inv-loop : tie.InvT-loop
+Inv-loop table₀ log₀ blocks₀ line₀ text₀ chunk₀ p₀ turns₀ table log blocks line text chunk p turns =
+    (length text ≡ textBytes) × (length chunk ≡ chunkBytes) × Flushed p
+
+abbrev μ-loop : tie.MeasureT-loop
+μ-loop table₀ log₀ blocks₀ line₀ text₀ chunk₀ p₀ turns₀ table log blocks line text chunk p turns = turns
+
+loop-holds : tie.Need-loop-holds Inv-loop μ-loop
+loop-holds c = (refl, refl, record { held = omega arith; written = refl })
+
+sub-turns : tie.Need-sub-turns Inv-loop μ-loop
+sub-turns c = omega arith
+
+slice-aggregate-take-turn : tie.Need-slice-aggregate-take-turn Inv-loop μ-loop
+slice-aggregate-take-turn c = sym (c .before .before .before .before .before .before .loop .inv .0)
+
+slice-aggregate-take-turn-2 : tie.Need-slice-aggregate-take-turn-2 Inv-loop μ-loop
+slice-aggregate-take-turn-2 c = sym (c .before .before .before .before .before .before .before .loop .inv .1)
+
+take-turn-requires : tie.Need-take-turn-requires Inv-loop μ-loop
+take-turn-requires c κs =
+    let l = c .before .before .before .before .before .before .before .loop in
+    ((l .inv .0, l .inv .1), l .inv .2)
+
+returns : tie.Need-returns Inv-loop μ-loop
+returns c = tt
+
+loop-less : tie.Need-loop-less Inv-loop μ-loop
+loop-less c = omega arith
+
+loop-again : tie.Need-loop-again Inv-loop μ-loop
+loop-again c =
+    let l = c .before .before .before .before .before .before .before .before .before .before .before .before .before .loop in
+    (c .before .before .before .before .text2 .given, c .before .before .before .chunk2 .given, goes-on (c .before .next .given .1) (c .before .before .before .before .before .take-turn .ensures))
+
+returns-2 : tie.Need-returns-2 Inv-loop μ-loop
+returns-2 c = tt
+
+pub main-spec : {M : Type 1} → statement M
+main-spec =
+    tie.close
+    (tie.spec Inv-loop μ-loop loop-holds sub-turns slice-aggregate-take-turn slice-aggregate-take-turn-2
+    take-turn-requires (λ c. search needs) (λ c. search needs) returns loop-less loop-again returns-2)

@@ -1,0 +1,134 @@
+// yard: reads a script from standard input, and writes the answers to standard output (document 01, "Script program").
+ghost use mathlib.Core.Path.{_≡_};
+ghost use lib.ListN.{length};
+ghost use Rattle.yard.specs.Turns.{chunkBytes, textBytes, Flushed, Goes};
+use libc::STDIN_FILENO;
+use libc::STDOUT_FILENO;
+use stream::MAX_LINES;
+use stream::Progress;
+
+// How often a read or a write that fails is tried again: a signal may have come in between.
+const TRIES: u32 = 64;
+
+// How many bytes are read at once, and as many answers as these can ask for.
+const CHUNK_BYTES: usize = 8192;
+
+const TEXT_BYTES: usize = 270_336;
+
+// The words that are lent: a table for the largest f, 2,048 certificates, 1,024 blocks.
+const TABLE_WORDS: usize = 552;
+
+const LOG_WORDS: usize = 14_336;
+
+const BLOCK_WORDS: usize = 1024;
+
+// Where a turn leaves the program.
+enum Turn {
+    More(Progress),
+    End,
+}
+
+// Reads once, and again where that fails. Gives how many bytes came, 0 at the end of the input, or -1.
+fn read_chunk(chunk: &mut [u8]) -> isize {
+    let mut tries = TRIES;
+    while 0 < tries {
+        let got = libc::read(STDIN_FILENO, chunk);
+        if 0 <= got {
+            return got;
+        }
+        tries -= 1;
+    }
+    -1
+}
+
+// Writes a text, in several parts where need be. Gives whether all of it was written.
+fn write_text(text: &[u8]) -> bool {
+    let mut sent = 0;
+    let mut tries = TRIES;
+    while 0 < tries {
+        if sent == text.len() {
+            return true;
+        }
+        let rest = &text[sent..];
+        let put = io::count(libc::write(STDOUT_FILENO, rest), rest);
+        if put == 0 {
+            tries -= 1;
+        } else {
+            sent += put;
+        }
+    }
+    false
+}
+
+// Reads a chunk, and writes the answers to the lines that end in it. After a read that fails nothing more is answered.
+fn take_turn(
+    table: &mut [u32; TABLE_WORDS],
+    log: &mut [u32; LOG_WORDS],
+    blocks: &mut [u32; BLOCK_WORDS],
+    line: &mut [u8; stream::HELD_PLACES],
+    text: &mut [u8],
+    chunk: &mut [u8],
+    p: Progress,
+) -> Turn
+    requires { ⌜ (length (now text) ≡ textBytes) × (length (now chunk) ≡ chunkBytes) ⌝ }
+    requires { ⌜ Flushed p ⌝ }
+    ensures { λ r. ⌜ Goes r ⌝ }
+{
+    let got = read_chunk(chunk);
+    if got < 0 {
+        return Turn::End;
+    }
+    let n = io::count(got, chunk);
+    if n == 0 {
+        let last = stream::finish(table, log, blocks, line, text, p);
+        let written = last.written;
+        write_text(&text[..written]);
+        return Turn::End;
+    }
+    let next = stream::feed(table, log, blocks, line, text, p, &chunk[..n]);
+    let written = next.written;
+    if !write_text(&text[..written]) {
+        return Turn::End;
+    }
+    if next.lines == MAX_LINES {
+        return Turn::End;
+    }
+    Turn::More(Progress {
+        faults: next.faults,
+        lines: next.lines,
+        held: next.held,
+        written: 0,
+    })
+}
+
+// A proved loop ends: it counts its turns, from a number that no run uses up.
+fn main() {
+    let mut table = [0u32; TABLE_WORDS];
+    let mut log = [0u32; LOG_WORDS];
+    let mut blocks = [0u32; BLOCK_WORDS];
+    let mut line = [0u8; stream::HELD_PLACES];
+    let mut text = [0u8; TEXT_BYTES];
+    let mut chunk = [0u8; CHUNK_BYTES];
+    let mut p = Progress {
+        faults: 0,
+        lines: 0,
+        held: 0,
+        written: 0,
+    };
+    let mut turns = u64::MAX;
+    while 0 < turns {
+        turns -= 1;
+        let Turn::More(next) = take_turn(
+            &mut table,
+            &mut log,
+            &mut blocks,
+            &mut line,
+            &mut text,
+            &mut chunk,
+            p,
+        ) else {
+            return;
+        };
+        p = next;
+    }
+}

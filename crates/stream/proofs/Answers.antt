@@ -29,7 +29,8 @@ unfolding AnswersPrintable
 fits s line e = subst (λ (o : Answered). Printable (o .answer)) (sym e) (answers-printable s line)
 
 module _ (p : Progress) (t l b places text line : List ℕ) where
-  pub line-answered : {a : Answer} {f : ℕ} {t′ l′ b′ : List ℕ} (text′ : List ℕ) → leaves a f t′ l′ b′ ≡ answerLine (session (p .faults) t l b) line
+  pub line-answered : {a : Answer} {f : ℕ} {t′ l′ b′ : List ℕ} (text′ : List ℕ)
+      → leaves a f t′ l′ b′ ≡ answerLine (session (p .faults) t l b) line
       → take (p .written + answerBytes) text′ ≡ take (p .written) text ++ answerText (p .lines + 1) a
       → streamOf (after p f) t′ l′ b′ places text′ ≡ endLine (withHeld (streamOf p t l b places text) line)
   unfolding endLine
@@ -47,10 +48,12 @@ module _ (p : Progress) (t l b places text line : List ℕ) where
 
 -- A line that ends in a chunk: all of it lies there, or its beginning is held.
 module _ (s : Stream) (line chunk : List ℕ) (held from end : ℕ) {o : Stream} where
-  pub from-chunk : held ≡ 0 → o ≡ endLine (withHeld s (take (end - from) (drop from chunk))) → o ≡ endLine (begun s (lineSoFar line held chunk from end))
+  pub from-chunk : held ≡ 0 → o ≡ endLine (withHeld s (take (end - from) (drop from chunk)))
+      → o ≡ endLine (begun s (lineSoFar line held chunk from end))
   from-chunk e u = u ∙ sym (line-ended s (take (end - from) (drop from chunk))) ∙ rw e refl
 
-  pub from-held : {count : ℕ} {places : List ℕ} → Held count places (lineSoFar line held chunk from end) → o ≡ endLine (withHeld s (take count places))
+  pub from-held : {count : ℕ} {places : List ℕ} → Held count places (lineSoFar line held chunk from end)
+      → o ≡ endLine (withHeld s (take count places))
       → o ≡ endLine (begun s (lineSoFar line held chunk from end))
   from-held h u = rw (h .bytes) at u
 

@@ -17,7 +17,8 @@ use Rattle.stream.proofs.Fed.{fed-stopped}
 use Rattle.stream.proofs.Runs.{beforeFeed, fed-rest, fed-line}
 
 -- What stays so from line to line. So far there were lines up to a place of the chunk.
-pub record Going (whole : Stream) (chunk : List ℕ) (room logWords blockWords : ℕ) (p : Progress) (t l b line text : List ℕ) (at : ℕ) : Type 0 where
+pub record Going (whole : Stream) (chunk : List ℕ) (room logWords blockWords : ℕ)
+    (p : Progress) (t l b line text : List ℕ) (at : ℕ) : Type 0 where
   pub within : at ≤ length chunk
   pub tableLength : length t ≡ maxTable
   pub logLength : length l ≡ logWords

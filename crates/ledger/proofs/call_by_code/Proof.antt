@@ -10,8 +10,11 @@ returns c =
 
 returns-2 : tie.Need-returns-2
 returns-2 c =
-    is-called _ _ _ _ _ _ _ _ (c .before .before .before .before .before .before .before .before .before .before .before .before .before .coded-call .ensures)
-    (c .before .before .before .before .before .before .before .before .before .before .before .coded .given .1) (c .before .before .before .before .before .before .invoke .ensures)
+    let at-invoke = c .before .before .before .before .before .before in
+    let at-coded = at-invoke .before .before .before .before .before in
+    let at-coded-call = at-coded .before .before in
+    is-called _ _ _ _ _ _ _ _ (at-coded-call .coded-call .ensures)
+    (at-coded .coded .given .1) (at-invoke .invoke .ensures)
 
 pub call-by-code-spec : {M : Type 1} → statement M
 call-by-code-spec =

@@ -8,13 +8,16 @@ use Rattle.stream.proofs.answer.Tie as tie
 
 put-answer-requires : tie.Need-put-answer-requires
 put-answer-requires c κs =
-    let start = c .before .before .before .before .before .before .before .before .before .before .before .before .before .before .before .before .before .before in
-    (start .pre .text, (omega (arith, start .pre .lines), fits _ _ (c .before .before .before .before .before .before .before .before .answer-line .ensures)))
+    let at-answer-line = c .before .before .before .before .before .before .before .before in
+    let start = at-answer-line .before .before .before .before .before .before .before .before .before .before in
+    (start .pre .text, (omega (arith, start .pre .lines), fits _ _ (at-answer-line .answer-line .ensures)))
 
 returns : tie.Need-returns
 returns c =
-    let start = c .before .before .before .before .before .before .before .before .before .before .before .before .before .before .before .before .before .before .before .before .before in (
-      λ places. line-answered (start .args .p) _ _ _ places _ _ _ (c .before .before .before .before .before .before .before .before .before .before .before .answer-line .ensures) (c .before .before .put-answer .ensures),
+    let at-put-answer = c .before .before in
+    let at-answer-line = at-put-answer .before .before .before .before .before .before .before .before .before in
+    let start = at-answer-line .before .before .before .before .before .before .before .before .before .before in (
+      λ places. line-answered (start .args .p) _ _ _ places _ _ _ (at-answer-line .answer-line .ensures) (at-put-answer .put-answer .ensures),
       record { held = refl; written = refl },
     )
 

@@ -10,17 +10,34 @@ use Rattle.stream.proofs.answer_from.Tie as tie
 
 returns : tie.Need-returns
 returns c =
-    let a = c .before .before .before .before .before .before .before .before .before .before .before .before .before .before .before .before .before .before .before .before .before .before .args in
-    (from-chunk (streamOf (a .p) (a .table .now) (a .log .now) (a .blocks .now) (a .line .now) (a .text .now)) (a .line .now) (a .chunk .now) (a .p .held) (a .from) (a .end) (c .before .before .before .before .before .before .before .before .before .before .before .before .before .before .if1 .taken) (c .before .before .before .before .before .before .before .before .answer .ensures .0 _), c .before .before .before .before .before .before .before .before .answer .ensures .1)
+    let at-answer = c .before .before .before .before .before .before .before .before in
+    let at-if1 = at-answer .before .before .before .before .before .before in
+    let start = at-if1 .before .before .before .before .before .before .before .before in
+    let a = start .args in
+    let s = streamOf (a .p) (a .table .now) (a .log .now) (a .blocks .now) (a .line .now) (a .text .now) in (
+      from-chunk s (a .line .now) (a .chunk .now) (a .p .held) (a .from) (a .end) (at-if1 .if1 .taken)
+          (at-answer .answer .ensures .0 _),
+      at-answer .answer .ensures .1,
+    )
 
 slice-aggregate-answer : tie.Need-slice-aggregate-answer
 slice-aggregate-answer c =
-    sym (length-take-le _ (c .before .before .before .before .before .before .before .hold .last .0) (omega (arith, c .before .before .before .before .before .before .before .hold .ensures .fits, c .before .before .before .before .before .before .before .before .before .before .before .before .before .before .before .before .before .pre, c .before .before .before .before .before .before .line .given)))
+    let at-line = c .before .before .before .before .before .before in
+    let at-hold = at-line .before in
+    let start = at-hold .before .before .before .before .before .before .before .before .before .before in
+    sym (length-take-le _ (at-hold .hold .last .0) (omega (arith, at-hold .hold .ensures .fits, start .pre, at-line .line .given)))
 
 returns-2 : tie.Need-returns-2
 returns-2 c =
-    let a = c .before .before .before .before .before .before .before .before .before .before .before .before .before .before .before .before .before .before .before .before .before .before .before .before .before .before .args in
-    (from-held (streamOf (a .p) (a .table .now) (a .log .now) (a .blocks .now) (a .line .now) (a .text .now)) (a .line .now) (a .chunk .now) (a .p .held) (a .from) (a .end) (c .before .before .before .before .before .before .before .before .before .before .before .before .before .before .before .before .hold .ensures) (c .before .before .before .before .before .before .before .before .answer2 .ensures .0 _), c .before .before .before .before .before .before .before .before .answer2 .ensures .1)
+    let at-answer2 = c .before .before .before .before .before .before .before .before in
+    let at-hold = at-answer2 .before .before .before .before .before .before .before .before in
+    let start = at-hold .before .before .before .before .before .before .before .before .before .before in
+    let a = start .args in
+    let s = streamOf (a .p) (a .table .now) (a .log .now) (a .blocks .now) (a .line .now) (a .text .now) in (
+      from-held s (a .line .now) (a .chunk .now) (a .p .held) (a .from) (a .end) (at-hold .hold .ensures)
+          (at-answer2 .answer2 .ensures .0 _),
+      at-answer2 .answer2 .ensures .1,
+    )
 
 pub answer-from-spec : {M : Type 1} → statement M
 answer-from-spec =

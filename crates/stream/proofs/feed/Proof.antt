@@ -35,7 +35,10 @@ loop-holds c =
     }
 
 same-length : tie.Need-same-length Inv-loop μ-loop
-same-length c = c .before .before .before .loop .inv .tableLength ∙ sym (c .before .before .before .before .before .before .before .before .before .before .pre .table)
+same-length c =
+    let looped = c .before .before .before in
+    let start = looped .before .before .before .before .before .before .before in
+    looped .loop .inv .tableLength ∙ sym (start .pre .table)
 
 same-length-2 : tie.Need-same-length-2 Inv-loop μ-loop
 same-length-2 c = c .before .before .before .loop .inv .logLength
@@ -44,7 +47,10 @@ same-length-3 : tie.Need-same-length-3 Inv-loop μ-loop
 same-length-3 c = c .before .before .before .loop .inv .blocksLength
 
 same-length-4 : tie.Need-same-length-4 Inv-loop μ-loop
-same-length-4 c = c .before .before .before .loop .inv .lineLength ∙ sym (c .before .before .before .before .before .before .before .before .before .before .pre .line)
+same-length-4 c =
+    let looped = c .before .before .before in
+    let start = looped .before .before .before .before .before .before .before in
+    looped .loop .inv .lineLength ∙ sym (start .pre .line)
 
 same-length-5 : tie.Need-same-length-5 Inv-loop μ-loop
 same-length-5 c = c .before .before .before .loop .inv .textLength
@@ -67,7 +73,10 @@ hold-requires c κs =
     record { enough = l .inv .lineLength; fits = l .inv .held; ordered = omega (arith, end); within = omega (arith, c .before .if2 .taken) }
 
 same-length-6 : tie.Need-same-length-6 Inv-loop μ-loop
-same-length-6 c = c .before .before .before .before .before .before .before .before .before .loop .inv .tableLength ∙ sym (c .before .before .before .before .before .before .before .before .before .before .before .before .before .before .before .before .pre .table)
+same-length-6 c =
+    let looped = c .before .before .before .before .before .before .before .before .before in
+    let start = looped .before .before .before .before .before .before .before in
+    looped .loop .inv .tableLength ∙ sym (start .pre .table)
 
 same-length-7 : tie.Need-same-length-7 Inv-loop μ-loop
 same-length-7 c = c .before .before .before .before .before .before .before .before .before .loop .inv .logLength
@@ -76,66 +85,95 @@ same-length-8 : tie.Need-same-length-8 Inv-loop μ-loop
 same-length-8 c = c .before .before .before .before .before .before .before .before .before .loop .inv .blocksLength
 
 same-length-9 : tie.Need-same-length-9 Inv-loop μ-loop
-same-length-9 c = c .before .line .given ∙ c .before .before .before .before .before .before .before .before .before .loop .inv .lineLength ∙ sym (c .before .before .before .before .before .before .before .before .before .before .before .before .before .before .before .before .pre .line)
+same-length-9 c =
+    let looped = c .before .before .before .before .before .before .before .before .before in
+    let start = looped .before .before .before .before .before .before .before in
+    c .before .line .given ∙ looped .loop .inv .lineLength ∙ sym (start .pre .line)
 
 same-length-10 : tie.Need-same-length-10 Inv-loop μ-loop
 same-length-10 c = c .before .before .before .before .before .before .before .before .before .loop .inv .textLength
 
 returns-2 : tie.Need-returns-2 Inv-loop μ-loop
 returns-2 c =
-    let l = c .before .before .before .before .before .before .before .before .before .loop in
-    let start = c .before .before .before .before .before .before .before .before .before .before .before .before .before .before .before .before in
-    let rest = rest-held (l .p) (l .table) (l .log) (l .blocks) (l .line) (l .text) (start .args .chunk .now) (l .at) (omega (arith, c .before .before .before .before .before .before .if1 .left))
-    (l .inv .held) (l .inv .lineLength) (c .before .before .before .before .before .line-end .ensures) (c .before .before .before .before .if2 .taken) (c .before .before .hold .ensures) in (
+    let at-hold = c .before .before in
+    let at-if2 = at-hold .before .before in
+    let at-line-end = at-if2 .before in
+    let at-if1 = at-line-end .before in
+    let looped = at-if1 .before .before .before in
+    let start = looped .before .before .before .before .before .before .before in
+    let l = looped .loop in
+    let rest = rest-held (l .p) (l .table) (l .log) (l .blocks) (l .line) (l .text) (start .args .chunk .now) (l .at)
+    (omega (arith, at-if1 .if1 .left))
+    (l .inv .held) (l .inv .lineLength) (at-line-end .line-end .ensures) (at-if2 .if2 .taken) (at-hold .hold .ensures) in (
       sym rest ∙ l .inv .same,
-      record { held = c .before .before .hold .ensures .fits; written = omega (arith, l .inv .written, l .inv .within, start .pre .text) },
+      record { held = at-hold .hold .ensures .fits; written = omega (arith, l .inv .written, l .inv .within, start .pre .text) },
     )
 
 answer-from-requires : tie.Need-answer-from-requires Inv-loop μ-loop
 answer-from-requires c κs =
-    let l = c .before .before .before .before .before .before .before .before .before .before .loop in
-    let start = c .before .before .before .before .before .before .before .before .before .before .before .before .before .before .before .before .before in
-    let end = c .before .before .before .before .before .before .line-end .ensures in
+    let at-line-end = c .before .before .before .before .before .before in
+    let at-if1 = at-line-end .before in
+    let at-loop-test = at-if1 .before .before in
+    let looped = at-loop-test .before in
+    let start = looped .before .before .before .before .before .before .before in
+    let l = looped .loop in
+    let end = at-line-end .line-end .ensures in
     let within = end-within (start .args .chunk .now) (l .at) (l .inv .within) in (
       record {
         table = l .inv .tableLength;
-        lines = omega (arith, c .before .before .before .before .before .before .before .if1 .left);
-        text = omega (arith, l .inv .written, l .inv .textLength, start .pre .text, c .before .before .before .before .before .before .before .before .before .loop-test .taken);
+        lines = omega (arith, at-if1 .if1 .left);
+        text = omega (arith, l .inv .written, l .inv .textLength, start .pre .text, at-loop-test .loop-test .taken);
       },
       record { enough = l .inv .lineLength; fits = l .inv .held; ordered = omega (arith, end); within = omega (arith, end, within) },
     )
 
 add-at : tie.Need-add-at Inv-loop μ-loop
 add-at c =
-    let l = c .before .before .before .before .before .before .before .before .before .before .before .before .before .before .before .before .before .before .before .before .before .loop in
-    let start = c .before .before .before .before .before .before .before .before .before .before .before .before .before .before .before .before .before .before .before .before .before .before .before .before .before .before .before .before in
-    omega (arith, c .before .before .before .before .before .before .before .before .before .before .before .before .before .before .before .before .before .line-end .ensures, end-within (start .args .chunk .now) (l .at) (l .inv .within), start .good)
+    let at-answer-from = c .before .before .before .before .before .before .before .before .before .before in
+    let at-line-end = at-answer-from .before .before .before .before .before .before .before in
+    let looped = at-line-end .before .before .before .before in
+    let start = looped .before .before .before .before .before .before .before in
+    let l = looped .loop in
+    omega (arith, at-line-end .line-end .ensures, end-within (start .args .chunk .now) (l .at) (l .inv .within), start .good)
 
 loop-less : tie.Need-loop-less Inv-loop μ-loop
 loop-less c =
-    let l = c .before .before .before .before .before .before .before .before .before .before .before .before .before .before .before .before .before .before .before .before .before .loop in
-    let start = c .before .before .before .before .before .before .before .before .before .before .before .before .before .before .before .before .before .before .before .before .before .before .before .before .before .before .before .before in
-    omega (arith, c .before .before .before .before .before .before .before .before .before .before .before .before .before .before .before .before .before .line-end .ensures, c .before .before .before .before .before .before .before .before .before .before .before .before .before .before .before .before .before .before .before .before .loop-test .taken)
+    let at-answer-from = c .before .before .before .before .before .before .before .before .before .before in
+    let at-line-end = at-answer-from .before .before .before .before .before .before .before in
+    let at-loop-test = at-line-end .before .before .before in
+    let looped = at-loop-test .before in
+    let l = looped .loop in
+    omega (arith, at-line-end .line-end .ensures, at-loop-test .loop-test .taken)
 
 loop-again : tie.Need-loop-again Inv-loop μ-loop
 loop-again c =
-    let l = c .before .before .before .before .before .before .before .before .before .before .before .before .before .before .before .before .before .before .before .before .before .loop in
-    let start = c .before .before .before .before .before .before .before .before .before .before .before .before .before .before .before .before .before .before .before .before .before .before .before .before .before .before .before .before in
-    let end = c .before .before .before .before .before .before .before .before .before .before .before .before .before .before .before .before .before .line-end .ensures in
+    let at-line2 = c .before .before .before in
+    let at-blocks2 = at-line2 .before .before in
+    let at-log = at-blocks2 .before .before in
+    let at-table = at-log .before .before in
+    let at-answer-from = at-table .before in
+    let at-if2 = at-answer-from .before .before .before .before .before .before in
+    let at-line-end = at-if2 .before in
+    let at-if1 = at-line-end .before in
+    let looped = at-if1 .before .before .before in
+    let start = looped .before .before .before .before .before .before .before in
+    let l = looped .loop in
+    let end = at-line-end .line-end .ensures in
     let within = end-within (start .args .chunk .now) (l .at) (l .inv .within) in
-    let o = c .before .before .before .before .before .before .before .before .before .before .answer-from .ensures in
+    let o = at-answer-from .answer-from .ensures in
     record {
-      within = omega (arith, end, within, c .before .before .before .before .before .before .before .before .before .before .before .before .before .before .before .before .if2 .left);
-      tableLength = c .before .before .before .before .before .before .before .before .before .table .given ∙ l .inv .tableLength;
-      logLength = c .before .before .before .before .before .before .before .log .given ∙ l .inv .logLength;
-      blocksLength = c .before .before .before .before .before .blocks2 .given ∙ l .inv .blocksLength;
-      lineLength = c .before .before .before .line2 .given ∙ l .inv .lineLength;
+      within = omega (arith, end, within, at-if2 .if2 .left);
+      tableLength = at-table .table .given ∙ l .inv .tableLength;
+      logLength = at-log .log .given ∙ l .inv .logLength;
+      blocksLength = at-blocks2 .blocks2 .given ∙ l .inv .blocksLength;
+      lineLength = at-line2 .line2 .given ∙ l .inv .lineLength;
       textLength = c .before .text .given ∙ l .inv .textLength;
       held = omega (arith, o .1 .held);
       written = omega (arith, o .1 .written, l .inv .written, end);
       same =
-          line-fed (l .p) (l .table) (l .log) (l .blocks) (l .line) (l .text) (start .args .chunk .now) (l .at) (omega (arith, c .before .before .before .before .before .before .before .before .before .before .before .before .before .before .before .before .before .before .if1 .left))
-          (l .inv .held) (l .inv .lineLength) end (omega (arith, end, within, c .before .before .before .before .before .before .before .before .before .before .before .before .before .before .before .before .if2 .left)) (o .0)
+          line-fed (l .p) (l .table) (l .log) (l .blocks) (l .line) (l .text) (start .args .chunk .now) (l .at)
+          (omega (arith, at-if1 .if1 .left))
+          (l .inv .held) (l .inv .lineLength) end (omega (arith, end, within, at-if2 .if2 .left)) (o .0)
           ∙ l .inv .same;
     }
 

@@ -24,9 +24,15 @@ slice-aggregate-answer c =
 
 returns-3 : tie.Need-returns-3
 returns-3 c =
-    let start = c .before .before .before .before .before .before .before .before .before .before .before .before .before .before .before .before .before .before .before .before .before .before in
-    let o = c .before .before .before .before .before .before .before .before .answer .ensures in
-    (last-line (start .args .p) _ _ _ (start .args .line .now) _ (omega (arith, start .pre)) (omega (arith, c .before .before .before .before .before .before .before .before .before .before .before .before .before .before .before .before .if1 .left)) (omega (arith, c .before .before .before .before .before .before .before .before .before .before .before .before .before .before .if2 .left)) (o .0 _), record { held = omega (arith, o .1 .held); written = omega (arith, o .1 .written, start .pre) })
+    let at-answer = c .before .before .before .before .before .before .before .before in
+    let at-if2 = at-answer .before .before .before .before .before .before in
+    let at-if1 = at-if2 .before .before in
+    let start = at-if1 .before .before .before .before .before .before in
+    let o = at-answer .answer .ensures in (
+      last-line (start .args .p) _ _ _ (start .args .line .now) _ (omega (arith, start .pre))
+          (omega (arith, at-if1 .if1 .left)) (omega (arith, at-if2 .if2 .left)) (o .0 _),
+      record { held = omega (arith, o .1 .held); written = omega (arith, o .1 .written, start .pre) },
+    )
 
 pub finish-spec : {M : Type 1} → statement M
 finish-spec =

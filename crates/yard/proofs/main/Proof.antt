@@ -46,8 +46,12 @@ loop-less c = omega arith
 
 loop-again : tie.Need-loop-again Inv-loop μ-loop
 loop-again c =
-    let l = c .before .before .before .before .before .before .before .before .before .before .before .before .before .loop in
-    (c .before .before .before .before .text2 .given, c .before .before .before .chunk2 .given, goes-on (c .before .next .given .1) (c .before .before .before .before .before .take-turn .ensures))
+    let at-chunk2 = c .before .before .before in
+    let at-text2 = at-chunk2 .before in
+    let at-take-turn = at-text2 .before in
+    let looped = at-take-turn .before .before .before .before .before .before .before .before in
+    let l = looped .loop in
+    (at-text2 .text2 .given, at-chunk2 .chunk2 .given, goes-on (c .before .next .given .1) (at-take-turn .take-turn .ensures))
 
 returns-2 : tie.Need-returns-2 Inv-loop μ-loop
 returns-2 c = tt

@@ -3,3 +3,4 @@ pub mod Answering
 pub mod Lending
 pub mod Printing
 pub mod Reading
+pub mod Theorems

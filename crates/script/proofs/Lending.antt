@@ -4,7 +4,7 @@ use mathlib.Core.Path.{_≡_, refl, sym, ap, _∙_}
 use mathlib.Core.Bool.{true, false, cond}
 use mathlib.Core.List.{List, _++_}
 use lib.Dec.{eqb}
-use lib.ListN.{length, take, drop, getD, length-drop}
+use lib.ListN.{length, take, drop, length-drop}
 use lib.Seq.{take-all}
 use Rattle.protocol.specs.declared.Answer.{Answer}
 use Rattle.protocol.specs.Memory.{memory, tableLength}
@@ -12,8 +12,8 @@ use Rattle.protocol.specs.Form.{isFaultBound}
 use Rattle.protocol.specs.Outcome.{Outcome, left}
 use Rattle.protocol.proofs.Tests.{tests, each}
 use Rattle.ledger.specs.Called.{called}
-use Rattle.script.specs.Session.{Session, session, Answered, leaves, maxTable, lentLength, codeField, replicaField, numberField}
-use Rattle.script.specs.Session.{listField, listIn, faultBoundFor, lending, answerNumbers}
+use Rattle.script.specs.Session.{Session, leaves, maxTable, lentLength, listField, codeIn, replicaIn, numberIn, listIn}
+use Rattle.script.specs.Session.{faultBoundFor, lending, answerNumbers}
 
 module _ (f : ℕ) where
   pub lends : {r : ℕ} → isFaultBound f ≡ true → r ≡ tableLength f → (r ≡ lentLength f) × (r ≤ maxTable)
@@ -25,14 +25,14 @@ module _ (f : ℕ) where
   lends-none e = (rw e refl, omega tests)
 
 -- The part of the numbers from the list's first field on.
-list-part : (given : List ℕ) → take (length given - listField) (drop listField given) ≡ listIn given
-list-part given = take-all (length given - listField) (drop listField given) (omega (tests, length-drop listField given))
+list-part : (given : List ℕ) → take (length given - listField) (listIn given) ≡ listIn given
+list-part given = take-all (length given - listField) (listIn given) (omega (tests, length-drop listField given))
 
 module _ (t l b given : List ℕ) (f : ℕ) {a : Answer} {t′ l′ b′ : List ℕ} where
   -- What a call leaves of the part that it was lent, beside the rest.
   pub lent-call : {r : ℕ} → r ≡ lentLength f
       → left a t′ l′ b′
-      ≡ called (memory (take r t) l b) (getD given codeField 0) (getD given replicaField 0) (getD given numberField 0) (take (length given - listField) (drop listField given))
+      ≡ called (memory (take r t) l b) (codeIn given) (replicaIn given) (numberIn given) (take (length given - listField) (listIn given))
       → left a (t′ ++ drop r t) l′ b′ ≡ lending f (memory t l b) given
   unfolding lending
   lent-call {r} e o =
@@ -41,7 +41,7 @@ module _ (t l b given : List ℕ) (f : ℕ) {a : Answer} {t′ l′ b′ : List 
       (rw (e, list-part given) at o))
 
 -- The f in use after an answer.
-module _ (s : Session) (given : List ℕ) {f : ℕ} (e : f ≡ faultBoundFor (s .faultBound) (getD given codeField 0) (getD given replicaField 0)) where
+module _ (s : Session) (given : List ℕ) {f : ℕ} (e : f ≡ faultBoundFor (s .faultBound) (codeIn given) (replicaIn given)) where
   pub answered : {a : Answer} {t′ l′ b′ : List ℕ} {after : ℕ} → left a t′ l′ b′ ≡ lending f (s .memory) given
       → after ≡ cond (eqb (a .number) 0) f (s .faultBound) → leaves a after t′ l′ b′ ≡ answerNumbers s given
   unfolding answerNumbers

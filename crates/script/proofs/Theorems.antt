@@ -23,17 +23,15 @@ use Rattle.script.specs.Session.{Session, lentLength, lent, codeIn, repl
 use Rattle.script.specs.Session.{unchanged, answerNumbers, answerLine}
 use Rattle.script.specs.Text.{Printable}
 use Rattle.script.specs.Theorems.{AnswersPrintable, RefusedLeavesSession, OtherCall, BeforeOpening}
+use Rattle.script.proofs.Lending.{beside, after}
 
--- What a line leaves, from what its call leaves of the part that is lent for f.
-abbrev after : Session → ℕ → Outcome → Answered
-after s f o =
-    let m = o .memory in
-    let bound = cond (eqb (o .answer .number) 0) f (s .faultBound) in
-    leaves (o .answer) bound (m .table ++ drop (lentLength f) (s .memory .table)) (m .log) (m .blocks)
+-- What a line leaves, from what its call leaves of the memory that is lent for f.
+abbrev lineLeaves : Session → ℕ → Outcome → Answered
+lineLeaves s f o = after s f (beside (s .memory .table) f o)
 
--- The lent part comes back as it was, beside the rest.
+-- The lent part comes back as it was.
 put-back : (s : Session) (f : ℕ) (o : Outcome) → o .memory ≡ lent f (s .memory) → o .answer .first ≡ 0 → o .answer .second ≡ 0
-    → (o .answer .number ≡ 0 → ⊥) → after s f o ≡ unchanged (o .answer .number) s
+    → (o .answer .number ≡ 0 → ⊥) → lineLeaves s f o ≡ unchanged (o .answer .number) s
 put-back s f o same first second h =
     let bound : cond (eqb (o .answer .number) 0) f (s .faultBound) ≡ s .faultBound = rw (ne-eqb _ 0 h) in
     let table : o .memory .table ++ drop (lentLength f) (s .memory .table) ≡ s .memory .table = rw (same, take-append-drop) in
@@ -42,7 +40,7 @@ put-back s f o same first second h =
 
 -- What holds of an unreadable line, and of each call that a line may make, holds of a line's answer.
 by-line : (P : Answered → Type 0) (s : Session) (line : List ℕ) → P (unchanged unreadable s)
-    → ((f : ℕ) (call : Call) (list : List ℕ) → P (after s f (step (lent f (s .memory)) call list))) → P (answerLine s line)
+    → ((f : ℕ) (call : Call) (list : List ℕ) → P (lineLeaves s f (step (lent f (s .memory)) call list))) → P (answerLine s line)
 unfolding answerLine answerNumbers lending
 by-line P s line none some = by-cond P (hasNumbers line) (λ e. answered (numbers line (fieldCount line))) (λ e. none)
   where
@@ -50,7 +48,7 @@ by-line P s line none some = by-cond P (hasNumbers line) (λ e. answered (number
     answered given =
         let f = faultBoundFor (s .faultBound) (codeIn given) (replicaIn given) in
         let same = put-back s f (refusal unreadable (lent f (s .memory))) refl refl refl (λ z. omega tests) in
-        by-call (λ (o : Outcome). P (after s f o)) _ _ _ _ _ (λ e. rw same none) (λ call e. some f call _)
+        by-call (λ (o : Outcome). P (lineLeaves s f o)) _ _ _ _ _ (λ e. rw same none) (λ call e. some f call _)
 
 fits-printable : (a : Answer) → Fits a → Printable a
 fits-printable a fits = omega tests

@@ -11,7 +11,7 @@ use Rattle.protocol.specs.Outcome.{Outcome, unreadable}
 use Rattle.ledger.specs.Called.{called}
 use Rattle.script.specs.Lines.{fieldCount, numbers, hasNumbers}
 
--- f as last opened, 0 before the first accepted opening; and the words, the table's as many as the largest f needs.
+-- The f of the last accepted opening, 0 before the first; and the words, the table's as many as the largest f needs.
 pub record Session : Type 0 where
   pub faultBound : ℕ
   pub memory : Memory

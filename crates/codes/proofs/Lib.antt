@@ -1,2 +1,3 @@
 pub mod Aside
 pub mod Claims
+pub mod Readable

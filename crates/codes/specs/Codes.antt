@@ -16,15 +16,17 @@ use Rattle.codes.specs.declared.Coded.the-variants.{Of, Unreadable}
 abbrev pub maxList : ℕ
 maxList = 31
 
--- "Unused fields are 0; a list stands only where a call has one"
+-- "Unused fields are 0; a list stands only where a call has one". Where a call has no unused field, the table below
+-- puts a 0 for it.
 abbrev pub isPlain : ℕ → List ℕ → Bool
 isPlain unused list = eqb unused 0 && eqb (length list) 0
 
--- "0 to 31 fields for codes 3, 6, 7 and 12"
+-- "0 to 31 fields for codes 3, 6, 7 and 12"; an unused field is 0 here too.
 abbrev pub isShort : ℕ → List ℕ → Bool
 isShort unused list = eqb unused 0 && leb (length list) maxList
 
--- A word of the list's first certificate, read only where its number is below the count; else 0.
+-- A word of the list's first certificate, read only where its number is below the count; else 0. What is claimed does no harm then:
+-- the answer is 1, 2 or 3 in any case.
 unfoldable pub claimedWord : Memory → List ℕ → ℕ → ℕ
 claimedWord m [] k = 0
 claimedWord m (number ∷ rest) k = cond (isIssued m number) (certificateWord m number k) 0
@@ -33,23 +35,24 @@ unfoldable pub when : Bool → Call → Coded
 when t call = cond t (Of call) Unreadable
 
 -- "Codes: 0 open (f as box), 1 block, 2 prepare on ACC (block as number, ACC as the one list field), 3 prepare on commits, 4 store, 5 view, 6
--- accumulate, 7 decide, 8 reboot, 9 reserve, 10 request, 11 reply, 12 recover." Any other code is unreadable.
+-- accumulate, 7 decide, 8 reboot, 9 reserve, 10 request, 11 reply, 12 recover."
 unfoldable pub codeTable : Memory → ℕ → ℕ → List ℕ → List Coded
 codeTable m replica number list =
-    when (isPlain number list) (Open replica)
-    ∷ when (isPlain replica list) (Block number)
-    ∷ when (eqb (length list) 1) (Prepare replica number (Acc (getD list 0 0)))
-    ∷ when (isShort 0 list) (Prepare replica number (Commits (claimedWord m list viewAt) (claimedWord m list proposedBlockAt)))
-    ∷ when (isPlain 0 list) (Store replica number)
-    ∷ when (isPlain 0 list) (View replica number)
-    ∷ when (isShort number list) (Accumulate replica)
-    ∷ when (isShort number list) (Decide replica)
-    ∷ when (isPlain number list) (Reboot replica)
-    ∷ when (isPlain number list) (Reserve replica)
-    ∷ when (isPlain number list) (Request replica)
-    ∷ when (isPlain 0 list) (Reply replica number)
-    ∷ when (isShort number list) (Recover replica)
+    when (isPlain number list) (Open replica)  -- 0
+    ∷ when (isPlain replica list) (Block number)  -- 1
+    ∷ when (eqb (length list) 1) (Prepare replica number (Acc (getD list 0 0)))  -- 2
+    ∷ when (isShort 0 list) (Prepare replica number (Commits (claimedWord m list viewAt) (claimedWord m list proposedBlockAt)))  -- 3
+    ∷ when (isPlain 0 list) (Store replica number)  -- 4
+    ∷ when (isPlain 0 list) (View replica number)  -- 5
+    ∷ when (isShort number list) (Accumulate replica)  -- 6
+    ∷ when (isShort number list) (Decide replica)  -- 7
+    ∷ when (isPlain number list) (Reboot replica)  -- 8
+    ∷ when (isPlain number list) (Reserve replica)  -- 9
+    ∷ when (isPlain number list) (Request replica)  -- 10
+    ∷ when (isPlain 0 list) (Reply replica number)  -- 11
+    ∷ when (isShort number list) (Recover replica)  -- 12
     ∷ []
 
+-- Any other code is unreadable.
 abbrev pub codedCall : Memory → ℕ → ℕ → ℕ → List ℕ → Coded
 codedCall m code replica number list = getD (codeTable m replica number list) code Unreadable

@@ -14,8 +14,8 @@ digitNine = 57
 abbrev pub isDigit : ℕ → Bool
 isDigit byte = leb digitZero byte && leb byte digitNine
 
--- The least count from k up whose power of ten is above the number, found in at most so many steps. (The `let` computes only the
--- steps that are needed.)
+-- The least count from k up whose power of ten is above the number; the count reached, where the steps run out before. (The `let`
+-- computes only the steps that are needed.)
 unfoldable pub leastFrom : ℕ → ℕ → ℕ → ℕ
 leastFrom zero k number = k
 leastFrom (suc steps) k number = let next = leastFrom steps (suc k) number in cond (ltb number (10 ^ k)) k next

@@ -30,7 +30,7 @@ unwritable = 10
 
 -- ---- writing
 
--- The eight bytes of a number: blanks, then its digits.
+-- The bytes of a number: blanks, then its digits. Up to maxNumber they are eight.
 unfoldable pub fieldOf : ℕ → List ℕ
 fieldOf number = replicate (columns - digitCount number) blank ++ digits (digitCount number) number
 
@@ -53,7 +53,7 @@ pub record Writable (number : ℕ) (bytes : List ℕ) : Type 0 where
 
 -- ---- reading
 
--- The number that digits make after the number so far.
+-- The number that digits make after the number so far; noNumber where a byte is no digit.
 unfoldable pub continued : ℕ → List ℕ → ℕ
 continued number [] = number
 continued number (byte ∷ rest) = cond (isDigit byte) (continued (10 * number + (byte - digitZero)) rest) noNumber
@@ -62,7 +62,7 @@ continued number (byte ∷ rest) = cond (isDigit byte) (continued (10 * number +
 abbrev pub isLeadingZero : ℕ → List ℕ → Bool
 isLeadingZero byte rest = eqb byte digitZero && ltb 0 (length rest)
 
--- Digits to the last column, without a leading zero.
+-- The number that digits to the last column make, without a leading zero; else noNumber.
 unfoldable pub unpadded : List ℕ → ℕ
 unpadded [] = noNumber
 unpadded (byte ∷ rest) = cond (isLeadingZero byte rest) noNumber (continued 0 (byte ∷ rest))

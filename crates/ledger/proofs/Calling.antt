@@ -1,18 +1,26 @@
 -- The ways that a call by its code goes.
 use Prim.Native.Nat.{ℕ}
 use mathlib.Core.Path.{_≡_, refl, sym, ap, _∙_}
+use mathlib.Core.Bool.{false}
 use mathlib.Core.List.{List, []}
+use native.Mathlib.Omega.{arith}
 use Rattle.protocol.specs.declared.Answer.{Answer}
 use Rattle.protocol.specs.declared.Call.{Call}
+use Rattle.protocol.specs.declared.Call.the-variants.{Open, Block, Prepare, Store, View, Accumulate, Decide, Reboot, Reserve, Request}
+use Rattle.protocol.specs.declared.Call.the-variants.{Reply, Recover}
 use Rattle.protocol.specs.Memory.{Memory, memory}
-use Rattle.protocol.specs.Outcome.{Outcome, left, unreadable}
-use Rattle.protocol.specs.Runs.{step}
-use Rattle.protocol.proofs.Needs.{refusal}
+use Rattle.protocol.specs.Form.{wellFormed}
+use Rattle.protocol.specs.Outcome.{Outcome, left, wrongForm, unreadable, firstRefusal}
+use Rattle.protocol.specs.Calls.{issuing, block, prepare, store, view, accumulate, decide, reboot, reserve, request, reply, recover}
+use Rattle.protocol.specs.Runs.{ruleOf, step}
+use Rattle.protocol.specs.Theorems.{isOpening}
+use Rattle.protocol.proofs.Needs.{refusal, fails, refuses}
 use Rattle.codes.specs.declared.Coded.{Coded}
 use Rattle.codes.specs.declared.Coded.the-variants.{Of, Unreadable}
 use Rattle.codes.specs.Codes.{codedCall}
 use Rattle.codes.proofs.Aside.{coded-aside}
-use Rattle.ledger.specs.Called.{calledBy, called}
+use Rattle.codes.proofs.Readable.{unreadable-anywhere, no-opening}
+use Rattle.ledger.specs.Called.{MakeCall, calledBy, called}
 
 module _ (t l b : List ℕ) (code replica number : ℕ) (list : List ℕ) (r : Coded)
     (e : r ≡ codedCall (memory t l []) code replica number list) where
@@ -40,3 +48,29 @@ by-call P m code replica number list none some = go (codedCall m code replica nu
     go : (c : Coded) → codedCall m code replica number list ≡ c → P (calledBy c m list)
     go (Of call) e = some call e
     go Unreadable e = none e
+
+-- Each rule but opening's tests the form first.
+no-form : (m : Memory) (call : Call) (list : List ℕ) → isOpening call ≡ false → wellFormed m ≡ false
+    → firstRefusal (ruleOf m call list .needs) ≡ wrongForm
+unfolding ruleOf issuing block prepare store view accumulate decide reboot reserve request reply recover
+no-form m (Open f) list n e = cc
+no-form m (Block p) list n e = fails _ e
+no-form m (Prepare i b justification) list n e = fails _ e
+no-form m (Store i number) list n e = fails _ e
+no-form m (View i w) list n e = fails _ e
+no-form m (Accumulate i) list n e = fails _ e
+no-form m (Decide i) list n e = fails _ e
+no-form m (Reboot i) list n e = fails _ e
+no-form m (Reserve i) list n e = fails _ e
+no-form m (Request i) list n e = fails _ e
+no-form m (Reply i number) list n e = fails _ e
+no-form m (Recover i) list n e = fails _ e
+
+-- A call other than an opening, on memory of wrong form.
+pub called-formless : (m m′ : Memory) (code replica number : ℕ) (list : List ℕ) → wellFormed m ≡ false → (code ≡ 0 → ⊥)
+    → MakeCall m′ code replica number list → called m code replica number list ≡ refusal wrongForm m
+unfolding step
+called-formless m m′ code replica number list e n makes =
+    by-call (λ (o : Outcome). o ≡ refusal wrongForm m) m code replica number list
+    (λ u. absurd (makes (unreadable-anywhere replica number list m m′ code u)))
+    (λ call u. sym (refuses m _ wrongForm (sym (no-form m call list (no-opening replica number list m code n u) e)) (λ z. omega arith)))

@@ -1,6 +1,6 @@
 -- The ways that a line is answered.
 use Prim.Native.Nat.{ℕ, _≤_}
-use mathlib.Core.Path.{_≡_, refl, sym, ap, _∙_}
+use mathlib.Core.Path.{_≡_, refl, sym, _∙_}
 use mathlib.Core.Bool.{true, false}
 use mathlib.Core.List.{List}
 use lib.ListN.{take}
@@ -31,15 +31,16 @@ module _ (line : List ℕ) {r : Read} (e : r ≡ countOf line) where
       (same-count, omega (tests, d .enough, same-count), omega (tests, d .few, same-count))
 
   module _ (s : Session) where
-    pub line-refused : {refusal x : ℕ} {a : Answer} → r ≡ Refused refusal → x ≡ refusalOf r → a ≡ record { number = x; first = 0; second = 0 }
-        → _≡_ {A = Answered} (record { answer = a; session = s }) (answerLine s line)
+    pub line-refused : {refusal x : ℕ} {a : Answer} → r ≡ Refused refusal → x ≡ refusalOf r
+        → a ≡ record { number = x; first = 0; second = 0 } → _≡_ {A = Answered} (record { answer = a; session = s }) (answerLine s line)
     unfolding countOf answerLine
     line-refused u x y =
         let f = not-readable u in
         rw (f, y, x, (rw f at e)) refl
 
     pub line-answered : {n : ℕ} (held : List ℕ) {o : Answered} → r ≡ Number n
-        → (hasNumbers line ≡ true → take (fieldCount line) held ≡ numbers line (fieldCount line)) → o ≡ answerNumbers s (take n held) → o ≡ answerLine s line
+        → (hasNumbers line ≡ true → take (fieldCount line) held ≡ numbers line (fieldCount line))
+        → o ≡ answerNumbers s (take n held) → o ≡ answerLine s line
     unfolding answerLine
     line-answered {n} held {o} u h x =
         let t = is-read u in

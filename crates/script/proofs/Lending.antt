@@ -1,19 +1,20 @@
 -- How many words are lent, and what becomes of them.
 use Prim.Native.Nat.{ℕ, _-_, _≤_}
-use mathlib.Core.Path.{_≡_, refl, sym, ap, _∙_}
+use mathlib.Core.Path.{_≡_, refl, ap, _∙_}
 use mathlib.Core.Bool.{true, false, cond}
 use mathlib.Core.List.{List, _++_}
 use lib.Dec.{eqb}
-use lib.ListN.{length, take, drop, getD, length-drop}
+use lib.ListN.{length, take, drop, length-drop}
 use lib.Seq.{take-all}
+use borrow.Author.Tests.{eq-eqb, ne-eqb}
 use Rattle.protocol.specs.declared.Answer.{Answer}
 use Rattle.protocol.specs.Memory.{memory, tableLength}
 use Rattle.protocol.specs.Form.{isFaultBound}
 use Rattle.protocol.specs.Outcome.{Outcome, left}
 use Rattle.protocol.proofs.Tests.{tests, each}
 use Rattle.ledger.specs.Called.{called}
-use Rattle.script.specs.Session.{Session, session, Answered, leaves, maxTable, lentLength, codeField, replicaField, numberField}
-use Rattle.script.specs.Session.{listField, listIn, faultBoundFor, lending, answerNumbers}
+use Rattle.script.specs.Session.{Session, Answered, leaves, maxTable, lentLength, listField, codeIn, replicaIn, numberIn}
+use Rattle.script.specs.Session.{listIn, faultBoundFor, lending, answerNumbers}
 
 module _ (f : ℕ) where
   pub lends : {r : ℕ} → isFaultBound f ≡ true → r ≡ tableLength f → (r ≡ lentLength f) × (r ≤ maxTable)
@@ -25,27 +26,36 @@ module _ (f : ℕ) where
   lends-none e = (rw e refl, omega tests)
 
 -- The part of the numbers from the list's first field on.
-list-part : (given : List ℕ) → take (length given - listField) (drop listField given) ≡ listIn given
-list-part given = take-all (length given - listField) (drop listField given) (omega (tests, length-drop listField given))
+list-part : (given : List ℕ) → take (length given - listField) (listIn given) ≡ listIn given
+list-part given = take-all (length given - listField) (listIn given) (omega (tests, length-drop listField given))
 
-module _ (t l b given : List ℕ) (f : ℕ) {a : Answer} {t′ l′ b′ : List ℕ} where
-  -- What a call leaves of the part that it was lent, beside the rest.
-  pub lent-call : {r : ℕ} → r ≡ lentLength f
-      → left a t′ l′ b′
-      ≡ called (memory (take r t) l b) (getD given codeField 0) (getD given replicaField 0) (getD given numberField 0) (take (length given - listField) (drop listField given))
-      → left a (t′ ++ drop r t) l′ b′ ≡ lending f (memory t l b) given
-  unfolding lending
-  lent-call {r} e o =
-      rw e
-      (ap (λ (x : Outcome). left (x .answer) (x .memory .table ++ drop (lentLength f) t) (x .memory .log) (x .memory .blocks))
-      (rw (e, list-part given) at o))
+-- What a call leaves of the part of a table that is lent for f, beside the rest.
+abbrev pub beside : List ℕ → ℕ → Outcome → Outcome
+beside table f o = left (o .answer) (o .memory .table ++ drop (lentLength f) table) (o .memory .log) (o .memory .blocks)
 
--- The f in use after an answer.
-module _ (s : Session) (given : List ℕ) {f : ℕ} (e : f ≡ faultBoundFor (s .faultBound) (getD given codeField 0) (getD given replicaField 0)) where
-  pub answered : {a : Answer} {t′ l′ b′ : List ℕ} {after : ℕ} → left a t′ l′ b′ ≡ lending f (s .memory) given
-      → after ≡ cond (eqb (a .number) 0) f (s .faultBound) → leaves a after t′ l′ b′ ≡ answerNumbers s given
+pub lent-call : (t l b given : List ℕ) (f : ℕ) {a : Answer} {t′ l′ b′ : List ℕ} {r : ℕ} → r ≡ lentLength f
+    → left a t′ l′ b′
+    ≡ called (memory (take r t) l b) (codeIn given) (replicaIn given) (numberIn given) (take (length given - listField) (listIn given))
+    → left a (t′ ++ drop r t) l′ b′ ≡ lending f (memory t l b) given
+unfolding lending
+lent-call t l b given f e o = rw e (ap (beside t f) (rw (e, list-part given) at o))
+
+-- What a line leaves, from what it leaves of the memory: the f in use too.
+abbrev pub after : Session → ℕ → Outcome → Answered
+after s f o =
+    let inUse = cond (eqb (o .answer .number) 0) f (s .faultBound) in
+    record { answer = o .answer; session = record { faultBound = inUse; memory = o .memory } }
+
+module _ (s : Session) (given : List ℕ) {f : ℕ} (e : f ≡ faultBoundFor (s .faultBound) (codeIn given) (replicaIn given)) where
+  answered : {a : Answer} {t l b : List ℕ} {inUse : ℕ} → left a t l b ≡ lending f (s .memory) given
+      → inUse ≡ cond (eqb (a .number) 0) f (s .faultBound) → leaves a inUse t l b ≡ answerNumbers s given
   unfolding answerNumbers
-  answered {a} {t′} {l′} {b′} {after} o x =
-      rw x
-      (ap (λ (y : Outcome). leaves (y .answer) (cond (eqb (y .answer .number) 0) f (s .faultBound)) (y .memory .table) (y .memory .log) (y .memory .blocks)) o
-      ∙ rw e refl)
+  answered o x = rw x (ap (after s f) o ∙ rw e refl)
+
+  pub accepted : {a : Answer} {t l b : List ℕ} → left a t l b ≡ lending f (s .memory) given → a .number ≡ 0
+      → leaves a f t l b ≡ answerNumbers s given
+  accepted o n = answered o (rw (eq-eqb _ _ n) refl)
+
+  pub refused : {a : Answer} {t l b : List ℕ} → left a t l b ≡ lending f (s .memory) given → (a .number ≡ 0 → ⊥)
+      → leaves a (s .faultBound) t l b ≡ answerNumbers s given
+  refused o n = answered o (rw (ne-eqb _ _ n) refl)

@@ -6,13 +6,14 @@ use lib.ListN.{length, take, set, length-append}
 use lib.Seq.{take-at, take-suc-set, length-take-le}
 use native.Mathlib.Omega.{arith}
 use Rattle.protocol.specs.declared.Answer.{Answer}
-use Rattle.field.specs.Field.{columns, maxNumber, accepted, fieldOf, Written, written, writeField}
+use Rattle.field.specs.Field.{columns, maxNumber, fieldOf, Written, written, writeField}
 use Rattle.field.proofs.Writing.{is-written}
 use Rattle.field.proofs.Theorems.{length-field}
 use Rattle.script.specs.Text.{lineFeed, answerText, answerBytes}
 
 -- What a write leaves of eight columns, where the number fits.
-field-stands : (n : ℕ) (old part : List ℕ) {r : ℕ} → length old ≡ columns → n ≤ maxNumber → written r part ≡ writeField n old → part ≡ fieldOf n
+field-stands : (n : ℕ) (old part : List ℕ) {r : ℕ} → length old ≡ columns → n ≤ maxNumber → written r part ≡ writeField n old
+    → part ≡ fieldOf n
 field-stands n old part e h w = ap (λ (x : Written). x .bytes) (w ∙ sym (is-written n old (fieldOf n) e h refl))
 
 pub field-put : (text rest old part : List ℕ) (at n : ℕ) {r : ℕ} → at ≤ length text → length old ≡ columns → n ≤ maxNumber

@@ -64,7 +64,8 @@ module _ (line : List ℕ) where
   pub one-more : (held : List ℕ) (i n : ℕ) → i < length held → n ≡ numberAt line i → take i held ≡ numbers line i
       → take (i + 1) (set held i n) ≡ numbers line (i + 1)
   unfolding numbers
-  one-more held i n h e u = simp (unary-clauses, e) (take-suc-set held i (numberAt line i) h ∙ ap (λ (l : List ℕ). l ++ (numberAt line i ∷ [])) u)
+  one-more held i n h e u =
+      simp (unary-clauses, e) (take-suc-set held i (numberAt line i) h ∙ ap (λ (l : List ℕ). l ++ (numberAt line i ∷ [])) u)
 
   -- Every field has a number.
   pub all-read : (held : List ℕ) {i : ℕ} → i ≡ fieldCount line → Readable

@@ -20,11 +20,11 @@ maxFields = 34
 abbrev pub fieldCount : List ℕ → ℕ
 fieldCount line = length line / columns
 
--- The number in a field of a line; fields are counted from 0.
+-- What is read from a field of a line: its number, or noNumber. Fields are counted from 0.
 abbrev pub numberAt : List ℕ → ℕ → ℕ
 numberAt line i = readField (take columns (drop (columns * i) line))
 
--- The numbers in the first fields of a line.
+-- What is read from the first fields of a line.
 unfoldable pub numbers : List ℕ → ℕ → List ℕ
 numbers line zero = []
 numbers line (suc k) = numbers line k ++ (numberAt line k ∷ [])

@@ -11,7 +11,7 @@ use Rattle.protocol.specs.Outcome.{Outcome, unreadable}
 use Rattle.ledger.specs.Called.{called}
 use Rattle.script.specs.Lines.{fieldCount, numbers, hasNumbers}
 
--- f as last opened, 0 before the first accepted opening; and the words, the table's as many as the largest f needs.
+-- The f of the last accepted opening, 0 before the first; and the words, the table's as many as the largest f needs.
 pub record Session : Type 0 where
   pub faultBound : ℕ
   pub memory : Memory
@@ -42,6 +42,15 @@ numberField = 2
 abbrev pub listField : ℕ
 listField = 3
 
+abbrev pub codeIn : List ℕ → ℕ
+codeIn given = getD given codeField 0
+
+abbrev pub replicaIn : List ℕ → ℕ
+replicaIn given = getD given replicaField 0
+
+abbrev pub numberIn : List ℕ → ℕ
+numberIn given = getD given numberField 0
+
 abbrev pub listIn : List ℕ → List ℕ
 listIn given = drop listField given
 
@@ -55,7 +64,7 @@ faultBoundFor inUse code replica = cond (eqb code openCode) replica inUse
 -- What a line of these numbers gives on the memory that is lent for f. The table's other words stay.
 unfoldable pub lending : ℕ → Memory → List ℕ → Outcome
 lending f m given =
-    let o = called (lent f m) (getD given codeField 0) (getD given replicaField 0) (getD given numberField 0) (listIn given) in
+    let o = called (lent f m) (codeIn given) (replicaIn given) (numberIn given) (listIn given) in
     record {
       answer = o .answer;
       memory = memory (o .memory .table ++ drop (lentLength f) (m .table)) (o .memory .log) (o .memory .blocks);
@@ -69,18 +78,20 @@ pub record Answered : Type 0 where
 abbrev pub leaves : Answer → ℕ → List ℕ → List ℕ → List ℕ → Answered
 leaves a f t l b = record { answer = a; session = session f t l b }
 
+-- The number and two zeros, and the session as before.
+abbrev pub unchanged : ℕ → Session → Answered
+unchanged number s = record { answer = record { number = number; first = 0; second = 0 }; session = s }
+
 -- The f in use changes with an accepted opening alone.
 unfoldable pub answerNumbers : Session → List ℕ → Answered
 answerNumbers s given =
-    let f = faultBoundFor (s .faultBound) (getD given codeField 0) (getD given replicaField 0) in
+    let f = faultBoundFor (s .faultBound) (codeIn given) (replicaIn given) in
     let o = lending f (s .memory) given in
     record {
       answer = o .answer;
       session = record { faultBound = cond (eqb (o .answer .number) 0) f (s .faultBound); memory = o .memory };
     }
 
--- What a line gives. "Anything else, an empty line included, returns 10": then the session is as before.
+-- What a line gives. "Anything else, an empty line included, returns 10".
 unfoldable pub answerLine : Session → List ℕ → Answered
-answerLine s line =
-    cond (hasNumbers line) (answerNumbers s (numbers line (fieldCount line)))
-    (record { answer = record { number = unreadable; first = 0; second = 0 }; session = s })
+answerLine s line = cond (hasNumbers line) (answerNumbers s (numbers line (fieldCount line))) (unchanged unreadable s)

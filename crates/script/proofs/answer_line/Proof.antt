@@ -9,25 +9,35 @@ use Rattle.script.proofs.answer_line.Tie as tie
 
 returns : tie.Need-returns
 returns c =
-    line-refused _ (c .before .before .before .before .before .read-numbers .ensures .0) _ (c .before .before .enum-told .given .1) (c .before .refusal-of .ensures) (c .refused .ensures)
+    line-refused _ (c .before .before .before .before .before .read-numbers .ensures .0) _ (c .before .before .enum-told .given .1)
+    (c .before .refusal-of .ensures) (c .refused .ensures)
 
 array-share-prefix-given : tie.Need-array-share-prefix-given
 array-share-prefix-given c =
-    omega (arith, count _ (c .before .before .before .before .before .before .before .before .read-numbers .ensures .0) (c .before .before .before .before .before .read .given .1))
+    let told = c .before .before .before .before .before in
+    omega (arith, count _ (told .before .before .before .read-numbers .ensures .0) (told .read .given .1))
 
 slice-aggregate-answer-numbers : tie.Need-slice-aggregate-answer-numbers
 slice-aggregate-answer-numbers c =
-    let n = count _ (c .before .before .before .before .before .before .before .before .before .read-numbers .ensures .0) (c .before .before .before .before .before .before .read .given .1) in
-    sym (length-take-le _ (c .before .before .before .before .before .before .before .before .before .read-numbers .last .1 .0) (omega (arith, n, c .before .before .before .before .before .before .before .before .given2 .given)))
+    let told = c .before .before .before .before .before .before in
+    let read = told .before .before .before .read-numbers in
+    let n = count _ (read .ensures .0) (told .read .given .1) in
+    sym (length-take-le _ (read .last .1 .0) (omega (arith, n, told .before .before .given2 .given)))
 
 answer-numbers-requires : tie.Need-answer-numbers-requires
 answer-numbers-requires c κs =
-    let n = count _ (c .before .before .before .before .before .before .before .before .before .read-numbers .ensures .0) (c .before .before .before .before .before .before .read .given .1) in
-    (c .before .before .before .before .before .before .before .before .before .before .before .before .before .before .before .pre, omega (arith, n, length-take-le (c .before .before .before .before .before .before .read .given .0 .0) (c .before .before .before .before .before .before .before .before .before .read-numbers .last .1 .0) (omega (arith, n, c .before .before .before .before .before .before .before .before .given2 .given))))
+    let told = c .before .before .before .before .before .before in
+    let read = told .before .before .before .read-numbers in
+    let n = count _ (read .ensures .0) (told .read .given .1) in
+    let long = length-take-le (told .read .given .0 .0) (read .last .1 .0) (omega (arith, n, told .before .before .given2 .given)) in
+    (told .before .before .before .before .before .before .before .before .before .pre, omega (arith, n, long))
 
 returns-2 : tie.Need-returns-2
 returns-2 c =
-    line-answered _ (c .before .before .before .before .before .before .before .before .before .before .before .before .before .before .before .before .read-numbers .ensures .0) _ _ (c .before .before .before .before .before .before .before .before .before .before .before .before .before .read .given .1) (c .before .before .before .before .before .before .before .before .before .before .before .before .before .before .before .before .read-numbers .ensures .1) (c .before .before .before .before .before .before .answer-numbers .ensures)
+    let answered = c .before .before .before .before .before .before in
+    let told = answered .before .before .before .before .before .before .before in
+    let read = told .before .before .before .read-numbers in
+    line-answered _ (read .ensures .0) _ _ (told .read .given .1) (read .ensures .1) (answered .answer-numbers .ensures)
 
 pub answer-line-spec : {M : Type 1} → statement M
 answer-line-spec =

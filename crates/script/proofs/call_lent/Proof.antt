@@ -13,7 +13,10 @@ slice-aggregate-call-by-code c =
     sym (length-take-le _ (start .args .table .now) (omega (arith, c .before .lent-length .ensures .1, start .pre .0)))
 
 returns : tie.Need-returns
-returns c = lent-call _ _ _ _ _ (c .before .before .before .before .before .before .before .before .before .before .before .before .before .before .lent-length .ensures .0) (c .before .before .before .before .before .before .call-by-code .ensures)
+returns c =
+    let called = c .before .before .before .before .before .before in
+    lent-call _ _ _ _ _ (called .before .before .before .before .before .before .before .before .lent-length .ensures .0)
+    (called .call-by-code .ensures)
 
 pub call-lent-spec : {M : Type 1} → statement M
 call-lent-spec =

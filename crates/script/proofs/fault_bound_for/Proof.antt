@@ -1,9 +1,8 @@
 -- The code is an opening's, or not.
-use Rattle.protocol.proofs.Tests.{tests}
+use mathlib.Core.Path.{refl}
+use borrow.Author.Tests.{eq-eqb, ne-eqb}
 use Rattle.script.proofs.fault_bound_for.Statement.{statement}
 use Rattle.script.proofs.fault_bound_for.Tie as tie
-use borrow.Author.Tests.{eq-eqb, ne-eqb}
-use mathlib.Core.Path.{refl}
 
 returns : tie.Need-returns
 returns c = rw (eq-eqb _ _ (c .if1 .taken)) refl

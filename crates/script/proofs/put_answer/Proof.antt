@@ -9,13 +9,23 @@ use Rattle.script.proofs.put_answer.Tie as tie
 
 same-length : tie.Need-same-length
 same-length c =
-    simp length-set (c .before .text4 .given ∙ c .before .before .before .before .before .text3 .given ∙ c .before .before .before .before .before .before .before .before .before .text2 .given ∙ c .before .before .before .before .before .before .before .before .before .before .before .before .before .text .given)
+    let fourth = c .before in
+    let third = fourth .before .before .before .before in
+    let second = third .before .before .before .before in
+    let first = second .before .before .before .before in
+    simp length-set (fourth .text4 .given ∙ third .text3 .given ∙ second .text2 .given ∙ first .text .given)
 
 returns : tie.Need-returns
 returns c =
-    let start = c .before .before .before .before .before .before .before .before .before .before .before .before .before .before .before .before .before in
-    answer-put _ _ _ _ (c .before .before .put-number4 .last .0) (start .args .at) _ _ (c .before .before .before .before .before .before .before .before .before .before .before .before .before .before .put-number .ensures) (c .before .before .before .before .before .before .before .before .before .before .put-number2 .ensures) (c .before .before .before .before .before .before .put-number3 .ensures) (c .before .before .put-number4 .ensures)
-    (omega (arith, start .pre .0, c .before .text4 .given, c .before .before .before .before .before .text3 .given, c .before .before .before .before .before .before .before .before .before .text2 .given, c .before .before .before .before .before .before .before .before .before .before .before .before .before .text .given))
+    let fourth = c .before in
+    let third = fourth .before .before .before .before in
+    let second = third .before .before .before .before in
+    let first = second .before .before .before .before in
+    let start = first .before .before .before .before in
+    answer-put _ _ _ _ (fourth .before .put-number4 .last .0) (start .args .at) _ (start .args .answer)
+    (first .before .put-number .ensures) (second .before .put-number2 .ensures) (third .before .put-number3 .ensures)
+    (fourth .before .put-number4 .ensures)
+    (omega (arith, start .pre .0, fourth .text4 .given, third .text3 .given, second .text2 .given, first .text .given))
 
 pub put-answer-spec : {M : Type 1} → statement M
 put-answer-spec =

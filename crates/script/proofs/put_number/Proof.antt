@@ -11,8 +11,10 @@ use Rattle.script.proofs.put_number.Tie as tie
 returns : tie.Need-returns
 returns c =
     let start = c .before .before .before .before .before in
-    field-put (start .args .text .now) _ _ _ (start .args .at) (start .args .number) (omega (arith, start .pre .0))
-    (omega (arith, mid-len (start .args .at) (start .args .at + columns) (start .args .text .now) (start .pre .0))) (start .pre .1) (c .before .before .write-number .ensures)
+    let text = start .args .text .now in
+    let at = start .args .at in
+    field-put text _ _ _ at (start .args .number) (omega (arith, start .pre .0))
+    (omega (arith, mid-len at (at + columns) text (start .pre .0))) (start .pre .1) (c .before .before .write-number .ensures)
 
 pub put-number-spec : {M : Type 1} → statement M
 put-number-spec =

@@ -39,10 +39,14 @@ mul-read-field : tie.Need-mul-read-field Inv-loop μ-loop
 mul-read-field c = omega (arith, c .before .loop .inv .0)
 
 same-length : tie.Need-same-length Inv-loop μ-loop
-same-length c = (c .before .before .before .before .loop .inv .1) ∙ sym (c .before .before .before .before .before .before .before .before .before .before .pre)
+same-length c =
+    let l = c .before .before .before .before in
+    l .loop .inv .1 ∙ sym (l .before .before .before .before .before .before .pre)
 
 returns-4 : tie.Need-returns-4 Inv-loop μ-loop
-returns-4 c = refused-at _ (c .before .before .before .before .loop .i) (c .before .before .before .loop-test .taken) (c .before .before .read-field .ensures) (c .enum-told .given .1)
+returns-4 c =
+    let read = c .before .before in
+    refused-at _ (read .before .before .loop .i) (read .before .loop-test .taken) (read .read-field .ensures) (c .enum-told .given .1)
 
 mul-given : tie.Need-mul-given Inv-loop μ-loop
 mul-given c = omega arith
@@ -75,7 +79,8 @@ same-length-2 c = c .before .loop .inv .1 ∙ sym (c .before .before .before .be
 returns-5 : tie.Need-returns-5 Inv-loop μ-loop
 returns-5 c =
     let l = c .before .loop in
-    let end : l .i ≡ fieldCount (c .before .before .before .before .before .before .before .args .line .now) = omega (arith, l .inv .0, c .loop-test .left) in
+    let start = c .before .before .before .before .before .before .before in
+    let end : l .i ≡ fieldCount (start .args .line .now) = omega (arith, l .inv .0, c .loop-test .left) in
     all-read _ (l .given) end
     (record {
       whole = omega (arith, c .before .before .before .before .if1 .left);

@@ -1,4 +1,4 @@
-// Replicas and certificates as records, so that each word is read once.
+// Replicas and certificates read whole, as records, so that each word is read once.
 ghost use mathlib.Core.Path.{_≡_};
 ghost use mathlib.Core.List.{[]};
 ghost use Prim.Native.Nat.{_+_, _≤_};

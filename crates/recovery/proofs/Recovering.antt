@@ -20,10 +20,10 @@ use Rattle.quorum.specs.Lists.{Listed, Greatest}
 use Rattle.quorum.proofs.Accepted.{listed, some-listed, greatest-issued}
 use Rattle.checks.specs.Needs.{listNeeds}
 use Rattle.checks.proofs.Ready.{ReadyList, last, further}
-use Rattle.recovery.specs.declared.words.Replica.{Replica}
-use Rattle.recovery.specs.Words.{replicaOf}
+use Rattle.records.specs.declared.Replica.{Replica}
+use Rattle.records.specs.Replicas.{replicaOf}
 use Rattle.recovery.specs.Tests.{restored}
-use Rattle.recovery.proofs.Ends.{stops, passes, refuses, accepts, certificate-there}
+use Rattle.checks.proofs.Ends.{stops, passes, refuses, accepts, certificate-there}
 
 -- ---- what the functions that read the list ask, from the first needs
 

@@ -15,10 +15,10 @@ use Rattle.certificates.specs.declared.Filed.the-variants.{At, Refused}
 use Rattle.certificates.specs.Filing.{Result, certificateOf, filing, refusalOf}
 use Rattle.checks.specs.Needs.{numberNeeds}
 use Rattle.checks.proofs.Ready.{stopped, further}
-use Rattle.recovery.specs.declared.words.Replica.{Replica}
-use Rattle.recovery.specs.Words.{replicaOf}
+use Rattle.records.specs.declared.Replica.{Replica}
+use Rattle.records.specs.Replicas.{replicaOf}
 use Rattle.recovery.specs.Tests.{replyTests, raising}
-use Rattle.recovery.proofs.Ends.{refuses}
+use Rattle.checks.proofs.Ends.{refuses}
 use Rattle.recovery.proofs.Issues.{full, issued}
 
 module _ (m : Memory) (i number : ℕ) {first : ℕ} (ready : first ≡ firstRefusal (numberNeeds m i number)) (pass : first ≡ 0)

@@ -17,9 +17,9 @@ use Rattle.certificates.specs.declared.Filed.the-variants.{At, Refused}
 use Rattle.certificates.specs.Filing.{Result, certificateOf, filing, refusalOf}
 use Rattle.checks.specs.Needs.{replicaNeeds}
 use Rattle.checks.proofs.Ready.{last, further}
-use Rattle.recovery.specs.declared.words.Replica.{Replica}
-use Rattle.recovery.specs.Words.{replicaOf}
-use Rattle.recovery.proofs.Ends.{refuses}
+use Rattle.records.specs.declared.Replica.{Replica}
+use Rattle.records.specs.Replicas.{replicaOf}
+use Rattle.checks.proofs.Ends.{refuses}
 use Rattle.recovery.proofs.Issues.{full, issued}
 
 module _ (m : Memory) (i : ℕ) {first : ℕ} (ready : first ≡ firstRefusal (replicaNeeds m i)) (pass : first ≡ 0)

@@ -1,14 +1,14 @@
-// The calls of a restarted replica and of those that help it (document 01, "Calls"): reboot, reserve, request, reply, recover.
+// The calls of a restarted replica and of those that help it (document 01, "Calls"): request, reply, recover.
 ghost use mathlib.Core.Path.{_≡_};
 ghost use Prim.Native.Nat.{_+_, _≤_, max};
 ghost use lib.ListN.{length};
 ghost use Rattle.protocol.specs.Memory.{rowAt, replicaWords, assign};
 ghost use Rattle.protocol.specs.Certificates.{reqOf, replyOf};
 ghost use Rattle.protocol.specs.Outcome.{left, firstRefusal, outcomeBy};
-ghost use Rattle.protocol.specs.Calls.{reserve as reserveRule, request as requestRule, reply as replyRule, reboot as rebootRule, recover as recoverRule};
+ghost use Rattle.protocol.specs.Calls.{request as requestRule, reply as replyRule, recover as recoverRule};
 ghost use Rattle.certificates.specs.Filing.{certificateOf};
-ghost use Rattle.recovery.specs.Words.{replicaOf};
-ghost use Rattle.recovery.specs.Tests.{reserveTests, replyTests, raising, retiring, restarted, restored};
+ghost use Rattle.records.specs.Replicas.{replicaOf};
+ghost use Rattle.recovery.specs.Tests.{replyTests, raising, restored};
 use certificates::Certificate;
 use certificates::Filed;
 use checks::COUNTER_LIMIT;
@@ -16,99 +16,22 @@ use checks::WRONG_CERTIFICATE;
 use checks::WRONG_STATUS;
 use checks::accepted;
 use checks::refused;
-use layout::BOOT_AT;
-use layout::CEILING;
 use layout::FLAG_AT;
 use layout::LIVE;
 use layout::LOWERED;
 use layout::MIN_VIEW_AT;
 use layout::RECOVERING;
-use layout::RETIRED;
 use layout::STATUS_AT;
 use layout::STORED_BLOCK_AT;
 use layout::STORED_VIEW_AT;
-use layout::VIEW_LIMIT_AT;
 use layout::set_replica_word;
 use protocol::Answer;
-use words::Replica;
-
-mod words;
+use records::Replica;
 
 // The kinds of certificates that the calls here read and issue.
 const REQ: u32 = 5;
 
 const REPLY: u32 = 6;
-
-// Whether a reboot, to this boot and view limit, retires the replica.
-fn retires(r: Replica, boot: u32, limit: u32) -> bool
-    ensures { λ b. ⌜ b ≡ retiring (replicaOf r) boot limit ⌝ }
-{
-    (r.status == RETIRED) | (CEILING < boot) | (CEILING < limit)
-}
-
-// The words of a replica that starts again, with nothing stored.
-fn restart(table: &mut [u32], replica: u32, boot: u32, min_view: u32, limit: u32)
-    requires { ⌜ rowAt replica + replicaWords ≤ length (now table) ⌝ }
-    ensures { λ _. ⌜ now (table .exit) ≡ assign (now (table .entry)) (rowAt replica) (restarted boot «min_view» limit) ⌝ }
-{
-    set_replica_word(table, replica, STATUS_AT, RECOVERING);
-    set_replica_word(table, replica, BOOT_AT, boot);
-    set_replica_word(table, replica, MIN_VIEW_AT, min_view);
-    set_replica_word(table, replica, VIEW_LIMIT_AT, limit);
-    set_replica_word(table, replica, FLAG_AT, LOWERED);
-    set_replica_word(table, replica, STORED_VIEW_AT, 0);
-    set_replica_word(table, replica, STORED_BLOCK_AT, 0);
-}
-
-pub fn reboot(table: &mut [u32], log: &mut [u32], blocks: &mut [u32], replica: u32) -> Answer
-    ensures { λ r. ⌜ left r (now (table .exit)) (now (log .exit)) (now (blocks .exit))
-        ≡ outcomeBy (λ m. rebootRule m replica) (now (table .entry)) (now (log .entry)) (now (blocks .entry)) ⌝ }
-{
-    let refusal = checks::replica_refusal(table, log, blocks, replica);
-    if refusal != 0 {
-        return refused(refusal);
-    }
-    let r = words::replica_in(table, replica);
-    let boot = r.boot + 1;
-    let limit = r.view_limit + counter::counter_step(boot);
-    if retires(r, boot, limit) {
-        set_replica_word(table, replica, STATUS_AT, RETIRED);
-        return accepted(r.boot, r.min_view);
-    }
-    restart(table, replica, boot, r.view_limit, limit);
-    accepted(boot, r.view_limit)
-}
-
-// A replica may have this view limit next.
-fn reserve_refusal(r: Replica, limit: u32) -> u32
-    ensures { λ n. ⌜ n ≡ firstRefusal (reserveTests (replicaOf r) limit) ⌝ }
-{
-    if r.status == RETIRED {
-        return WRONG_STATUS;
-    }
-    if CEILING < limit {
-        return COUNTER_LIMIT;
-    }
-    0
-}
-
-pub fn reserve(table: &mut [u32], log: &mut [u32], blocks: &mut [u32], replica: u32) -> Answer
-    ensures { λ r. ⌜ left r (now (table .exit)) (now (log .exit)) (now (blocks .exit))
-        ≡ outcomeBy (λ m. reserveRule m replica) (now (table .entry)) (now (log .entry)) (now (blocks .entry)) ⌝ }
-{
-    let refusal = checks::replica_refusal(table, log, blocks, replica);
-    if refusal != 0 {
-        return refused(refusal);
-    }
-    let r = words::replica_in(table, replica);
-    let limit = r.view_limit + counter::counter_step(r.boot);
-    let refusal = reserve_refusal(r, limit);
-    if refusal != 0 {
-        return refused(refusal);
-    }
-    set_replica_word(table, replica, VIEW_LIMIT_AT, limit);
-    accepted(limit, 0)
-}
 
 // What a restarted replica asks the others with.
 fn req(replica: u32, r: Replica) -> Certificate
@@ -133,7 +56,7 @@ pub fn request(table: &mut [u32], log: &mut [u32], blocks: &mut [u32], replica: 
     if refusal != 0 {
         return refused(refusal);
     }
-    let r = words::replica_in(table, replica);
+    let r = records::replica_in(table, replica);
     if r.status != RECOVERING {
         return refused(WRONG_STATUS);
     }
@@ -204,8 +127,8 @@ pub fn reply(
     if refusal != 0 {
         return refused(refusal);
     }
-    let r = words::replica_in(table, replica);
-    let q = words::certificate_in(log, number);
+    let r = records::replica_in(table, replica);
+    let q = records::certificate_in(log, number);
     let refusal = reply_refusal(replica, r, q);
     if refusal != 0 {
         return refused(refusal);
@@ -249,14 +172,14 @@ pub fn recover(
     if refusal != 0 {
         return refused(refusal);
     }
-    let r = words::replica_in(table, replica);
+    let r = records::replica_in(table, replica);
     if r.status != RECOVERING {
         return refused(WRONG_STATUS);
     }
     if !quorum::is_reply_quorum(log, list, replica, r.boot, r.min_view) {
         return refused(WRONG_CERTIFICATE);
     }
-    let c = words::certificate_in(log, quorum::greatest(log, list));
+    let c = records::certificate_in(log, quorum::greatest(log, list));
     let min_view = larger(r.min_view, c.of_view + 1);
     if r.view_limit < min_view {
         return refused(COUNTER_LIMIT);

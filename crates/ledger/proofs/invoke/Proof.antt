@@ -11,11 +11,11 @@ use Rattle.checker.proofs.store.Reads as store-reads
 use Rattle.checker.proofs.view.Reads as view-reads
 use Rattle.opening.proofs.block.Reads as block-reads
 use Rattle.opening.proofs.open_ledger.Reads as open-ledger-reads
-use Rattle.recovery.proofs.reboot.Reads as reboot-reads
+use Rattle.restart.proofs.reboot.Reads as reboot-reads
 use Rattle.recovery.proofs.recover.Reads as recover-reads
 use Rattle.recovery.proofs.reply.Reads as reply-reads
 use Rattle.recovery.proofs.request.Reads as request-reads
-use Rattle.recovery.proofs.reserve.Reads as reserve-reads
+use Rattle.restart.proofs.reserve.Reads as reserve-reads
 
 returns : tie.Need-returns
 unfolding step ruleOf

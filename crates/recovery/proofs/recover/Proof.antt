@@ -4,7 +4,7 @@ use borrow.Author.Needs.{needs}
 use borrow.Author.Tests.{not-true, not-false}
 use Rattle.protocol.specs.Calls.{recover as recoverRule}
 use Rattle.checks.proofs.Ready.{stopped}
-use Rattle.recovery.proofs.Ends.{refuses, list-by, row-within}
+use Rattle.checks.proofs.Ends.{refuses, list-by, row-within}
 use Rattle.recovery.proofs.Recovering.{all-listed, some-there, greatest-within, of-view-fits}
 use Rattle.recovery.proofs.Recovering.{recover-live, recover-none, recover-short, recover-accepted}
 use Rattle.recovery.proofs.recover.Statement.{statement}

@@ -4,7 +4,7 @@ use Rattle.protocol.specs.Calls.{issuing, reply as replyRule}
 use Rattle.protocol.proofs.Tests.{tests}
 use Rattle.certificates.proofs.Fits.{log-fits}
 use Rattle.checks.proofs.Ready.{stopped}
-use Rattle.recovery.proofs.Ends.{refuses, number-by, row-within, certificate-there}
+use Rattle.checks.proofs.Ends.{refuses, number-by, row-within, certificate-there}
 use Rattle.recovery.proofs.Issues.{filed-length}
 use Rattle.recovery.proofs.Replying.{reply-refused, reply-full, reply-issued}
 use Rattle.recovery.proofs.reply.Statement.{statement}

@@ -3,7 +3,7 @@ use mathlib.Core.Bool.{not}
 use borrow.Author.Tests.{eq-eqb, ne-eqb}
 use Rattle.protocol.proofs.Tests.{tests}
 use Rattle.checks.proofs.Ready.{last}
-use Rattle.recovery.proofs.Ends.{stops, passes}
+use Rattle.checks.proofs.Ends.{stops, passes}
 use Rattle.recovery.proofs.reply_refusal.Statement.{statement}
 use Rattle.recovery.proofs.reply_refusal.Tie as tie
 

@@ -3,7 +3,7 @@ use borrow.Author.Needs.{needs}
 use Rattle.protocol.specs.Calls.{issuing, request as requestRule}
 use Rattle.certificates.proofs.Fits.{log-fits}
 use Rattle.checks.proofs.Ready.{stopped}
-use Rattle.recovery.proofs.Ends.{refuses, ready-by, row-within}
+use Rattle.checks.proofs.Ends.{refuses, ready-by, row-within}
 use Rattle.recovery.proofs.Requesting.{request-refused, request-full, request-issued}
 use Rattle.recovery.proofs.request.Statement.{statement}
 use Rattle.recovery.proofs.request.Tie as tie

@@ -15,10 +15,10 @@ use Rattle.protocol.proofs.Tests.{tests}
 use Rattle.checks.specs.Needs.{replicaNeeds}
 use Rattle.checks.proofs.Ready.{Ready}
 use Rattle.layout.proofs.Within.{replica-bounds}
-use Rattle.recovery.specs.declared.words.Replica.{Replica}
-use Rattle.recovery.specs.Words.{replicaOf}
-use Rattle.recovery.specs.Tests.{retiring, restarted}
-use Rattle.recovery.proofs.Ends.{accepts}
+use Rattle.records.specs.declared.Replica.{Replica}
+use Rattle.records.specs.Replicas.{replicaOf}
+use Rattle.restart.specs.Tests.{retiring, restarted}
+use Rattle.checks.proofs.Ends.{accepts}
 
 -- A boot more fits a word.
 pub boot-fits : (m : Memory) (i : ℕ) (r : Replica) → Ready m i → replicaOf r ≡ replica m i → r .boot + 1 < 2 ^ 32

@@ -1,19 +1,19 @@
 -- How a call ends that issues nothing: what it gives where a need fails, and where all hold.
-use Prim.Native.Nat.{ℕ, zero, suc, _+_, _≤_, _<_}
-use mathlib.Core.Path.{_≡_, refl, sym, _∙_}
+use Prim.Native.Nat.{ℕ, _+_, _≤_, _<_}
+use mathlib.Core.Path.{_≡_, sym, _∙_}
 use mathlib.Core.Bool.{Bool, true, false}
 use mathlib.Core.List.{List, _∷_}
 use native.Mathlib.Omega.{arith}
 use lib.ListN.{length}
 use Rattle.protocol.specs.declared.Answer.{Answer}
 use Rattle.protocol.specs.Memory.{Memory, rowAt, replicaWords, certificateCount, certificateAt, certificateWords}
-use Rattle.protocol.specs.Outcome.{Need, _else_, Rule, firstRefusal, answered, follow}
+use Rattle.protocol.specs.Outcome.{Need, _else_, Rule, firstRefusal, follow}
 use Rattle.protocol.proofs.Tests.{tests}
+use Rattle.protocol.proofs.Needs as Needs
 use Rattle.protocol.proofs.Needs.{fails, holds}
 use Rattle.protocol.proofs.Formed.{Sizes}
-use Rattle.certificates.proofs.Issuing.{refusal}
 use Rattle.checks.specs.Needs.{replicaNeeds, numberNeeds, listNeeds}
 use Rattle.checks.proofs.Ready.{Ready, ready, ReadyNumber, ready-number, ReadyList, ready-list}
 
 -- The tests of a call, one after the other: one that fails, and one that holds.
 pub stops : {t : Bool} {n : ℕ} (rest : List Need) → t ≡ false → n ≡ firstRefusal ((t else n) ∷ rest)
@@ -23,20 +23,15 @@ pub passes : {t : Bool} {r : ℕ} (n : ℕ) (rest : List Need) → t ≡ true �
     → r ≡ firstRefusal ((t else n) ∷ rest)
 passes n rest e s = s ∙ sym (holds n rest e)
 
+-- A rule's outcome, from the answer that the code gives and the memory that it leaves.
 module _ (m : Memory) (rule : Rule) where
   pub refuses : {a : Answer} {n : ℕ} → a ≡ record { number = n; first = 0; second = 0 } → (n ≡ 0 → ⊥)
       → n ≡ firstRefusal (rule .needs) → record { answer = a; memory = m } ≡ follow m rule
-  unfolding follow answered
-  refuses {a} {n} e some r = rw (e, ← r) (go n some)
-    where
-      go : (n : ℕ) → (n ≡ 0 → ⊥) → refusal n m ≡ answered n m rule
-      go zero some = absurd (some refl)
-      go (suc n) some = refl
+  refuses {a} {n} e some r = rw e (Needs.refuses m rule n r some)
 
   pub accepts : {a : Answer} {m′ : Memory} → a ≡ record { number = 0; first = rule .first; second = rule .second }
       → m′ ≡ rule .after → 0 ≡ firstRefusal (rule .needs) → record { answer = a; memory = m′ } ≡ follow m rule
-  unfolding follow answered
-  accepts e after r = rw (e, after, ← r)
+  accepts e after r = rw (e, after) (Needs.accepts m rule r)
 
 -- ---- what reading asks: the row of a replica that the first needs accept, the words of a certificate that is issued
 

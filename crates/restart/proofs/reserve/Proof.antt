@@ -2,10 +2,10 @@ use native.Mathlib.Omega.{arith}
 use borrow.Author.Needs.{needs}
 use Rattle.protocol.specs.Calls.{reserve as reserveRule}
 use Rattle.checks.proofs.Ready.{stopped}
-use Rattle.recovery.proofs.Ends.{refuses, ready-by, row-within}
-use Rattle.recovery.proofs.Reserving.{limit-fits, reserve-refused, reserve-accepted}
-use Rattle.recovery.proofs.reserve.Statement.{statement}
-use Rattle.recovery.proofs.reserve.Tie as tie
+use Rattle.checks.proofs.Ends.{refuses, ready-by, row-within}
+use Rattle.restart.proofs.Reserving.{limit-fits, reserve-refused, reserve-accepted}
+use Rattle.restart.proofs.reserve.Statement.{statement}
+use Rattle.restart.proofs.reserve.Tie as tie
 
 returns : tie.Need-returns
 unfolding reserveRule

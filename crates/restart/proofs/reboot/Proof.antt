@@ -1,11 +1,11 @@
 use native.Mathlib.Omega.{arith}
 use borrow.Author.Needs.{needs}
 use Rattle.protocol.specs.Calls.{reboot as rebootRule}
-use Rattle.recovery.proofs.Ends.{refuses, ready-by, row-within}
-use Rattle.recovery.proofs.Reserving.{limit-fits}
-use Rattle.recovery.proofs.Rebooting.{boot-fits, reboot-retires, reboot-restarts}
-use Rattle.recovery.proofs.reboot.Statement.{statement}
-use Rattle.recovery.proofs.reboot.Tie as tie
+use Rattle.checks.proofs.Ends.{refuses, ready-by, row-within}
+use Rattle.restart.proofs.Reserving.{limit-fits}
+use Rattle.restart.proofs.Rebooting.{boot-fits, reboot-retires, reboot-restarts}
+use Rattle.restart.proofs.reboot.Statement.{statement}
+use Rattle.restart.proofs.reboot.Tie as tie
 
 returns : tie.Need-returns
 unfolding rebootRule

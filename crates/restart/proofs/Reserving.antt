@@ -15,10 +15,10 @@ use Rattle.checks.specs.Needs.{replicaNeeds}
 use Rattle.checks.proofs.Ready.{Ready, stopped, further}
 use Rattle.layout.proofs.Within.{replica-bounds}
 use Rattle.counter.proofs.Steps.{step-bounds}
-use Rattle.recovery.specs.declared.words.Replica.{Replica}
-use Rattle.recovery.specs.Words.{replicaOf}
-use Rattle.recovery.specs.Tests.{reserveTests}
-use Rattle.recovery.proofs.Ends.{refuses, accepts}
+use Rattle.records.specs.declared.Replica.{Replica}
+use Rattle.records.specs.Replicas.{replicaOf}
+use Rattle.restart.specs.Tests.{reserveTests}
+use Rattle.checks.proofs.Ends.{refuses, accepts}
 
 -- A step on from a view limit fits a word.
 pub limit-fits : (m : Memory) (i boot : ℕ) (r : Replica) {step : ℕ} → Ready m i → replicaOf r ≡ replica m i

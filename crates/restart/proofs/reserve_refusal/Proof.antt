@@ -3,9 +3,9 @@ use mathlib.Core.Bool.{not}
 use borrow.Author.Tests.{eq-eqb, ne-eqb}
 use Rattle.protocol.proofs.Tests.{tests}
 use Rattle.checks.proofs.Ready.{last}
-use Rattle.recovery.proofs.Ends.{stops, passes}
-use Rattle.recovery.proofs.reserve_refusal.Statement.{statement}
-use Rattle.recovery.proofs.reserve_refusal.Tie as tie
+use Rattle.checks.proofs.Ends.{stops, passes}
+use Rattle.restart.proofs.reserve_refusal.Statement.{statement}
+use Rattle.restart.proofs.reserve_refusal.Tie as tie
 
 returns : tie.Need-returns
 returns c = stops _ (ap not (eq-eqb _ _ (c .if1 .taken)))

@@ -1,6 +1,6 @@
 use borrow.Author.Needs.{needs}
-use Rattle.recovery.proofs.restart.Statement.{statement}
-use Rattle.recovery.proofs.restart.Tie as tie
+use Rattle.restart.proofs.restart.Statement.{statement}
+use Rattle.restart.proofs.restart.Tie as tie
 
 returns : tie.Need-returns
 returns c = cc

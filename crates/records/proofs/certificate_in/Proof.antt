@@ -1,6 +1,6 @@
 use borrow.Author.Needs.{needs}
-use Rattle.recovery.proofs.words.certificate_in.Statement.{statement}
-use Rattle.recovery.proofs.words.certificate_in.Tie as tie
+use Rattle.records.proofs.certificate_in.Statement.{statement}
+use Rattle.records.proofs.certificate_in.Tie as tie
 
 returns : tie.Need-returns
 returns c = cc

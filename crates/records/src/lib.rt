@@ -1,11 +1,11 @@
-// Replicas and certificates by value, so that each word is read once.
+// Replicas and certificates read whole, as records, so that each word is read once.
 ghost use mathlib.Core.Path.{_≡_};
 ghost use mathlib.Core.List.{[]};
 ghost use Prim.Native.Nat.{_+_, _≤_};
 ghost use lib.ListN.{length};
 ghost use Rattle.protocol.specs.Memory.{memory, rowAt, replicaWords, replica as replicaAt, certificateAt, certificateWords, certificate};
 ghost use Rattle.certificates.specs.Filing.{certificateOf};
-ghost use Rattle.recovery.specs.Words.{replicaOf};
+ghost use Rattle.records.specs.Replicas.{replicaOf};
 use certificates::Certificate;
 use layout::certificate_word;
 use layout::replica_word;

@@ -1,6 +1,6 @@
 -- A replica of the code, as the rules have it.
 use Rattle.protocol.specs.Memory as Memory
-use Rattle.recovery.specs.declared.words.Replica.{Replica}
+use Rattle.records.specs.declared.Replica.{Replica}
 
 abbrev pub replicaOf : Replica → Memory.Replica
 replicaOf r =

@@ -1,0 +1,98 @@
+// The two calls that move a replica's counter on (document 01, "Calls"): reboot and reserve.
+ghost use mathlib.Core.Path.{_≡_};
+ghost use Prim.Native.Nat.{_+_, _≤_};
+ghost use lib.ListN.{length};
+ghost use Rattle.protocol.specs.Memory.{rowAt, replicaWords, assign};
+ghost use Rattle.protocol.specs.Outcome.{left, firstRefusal, outcomeBy};
+ghost use Rattle.protocol.specs.Calls.{reserve as reserveRule, reboot as rebootRule};
+ghost use Rattle.records.specs.Replicas.{replicaOf};
+ghost use Rattle.restart.specs.Tests.{reserveTests, retiring, restarted};
+use checks::COUNTER_LIMIT;
+use checks::WRONG_STATUS;
+use checks::accepted;
+use checks::refused;
+use layout::BOOT_AT;
+use layout::CEILING;
+use layout::FLAG_AT;
+use layout::LOWERED;
+use layout::MIN_VIEW_AT;
+use layout::RECOVERING;
+use layout::RETIRED;
+use layout::STATUS_AT;
+use layout::STORED_BLOCK_AT;
+use layout::STORED_VIEW_AT;
+use layout::VIEW_LIMIT_AT;
+use layout::set_replica_word;
+use protocol::Answer;
+use records::Replica;
+
+// Whether a reboot, to this boot and view limit, retires the replica.
+fn retires(r: Replica, boot: u32, limit: u32) -> bool
+    ensures { λ b. ⌜ b ≡ retiring (replicaOf r) boot limit ⌝ }
+{
+    (r.status == RETIRED) | (CEILING < boot) | (CEILING < limit)
+}
+
+// The words of a replica that starts again, with nothing stored.
+fn restart(table: &mut [u32], replica: u32, boot: u32, min_view: u32, limit: u32)
+    requires { ⌜ rowAt replica + replicaWords ≤ length (now table) ⌝ }
+    ensures { λ _. ⌜ now (table .exit) ≡ assign (now (table .entry)) (rowAt replica) (restarted boot «min_view» limit) ⌝ }
+{
+    set_replica_word(table, replica, STATUS_AT, RECOVERING);
+    set_replica_word(table, replica, BOOT_AT, boot);
+    set_replica_word(table, replica, MIN_VIEW_AT, min_view);
+    set_replica_word(table, replica, VIEW_LIMIT_AT, limit);
+    set_replica_word(table, replica, FLAG_AT, LOWERED);
+    set_replica_word(table, replica, STORED_VIEW_AT, 0);
+    set_replica_word(table, replica, STORED_BLOCK_AT, 0);
+}
+
+pub fn reboot(table: &mut [u32], log: &mut [u32], blocks: &mut [u32], replica: u32) -> Answer
+    ensures { λ r. ⌜ left r (now (table .exit)) (now (log .exit)) (now (blocks .exit))
+        ≡ outcomeBy (λ m. rebootRule m replica) (now (table .entry)) (now (log .entry)) (now (blocks .entry)) ⌝ }
+{
+    let refusal = checks::replica_refusal(table, log, blocks, replica);
+    if refusal != 0 {
+        return refused(refusal);
+    }
+    let r = records::replica_in(table, replica);
+    let boot = r.boot + 1;
+    let limit = r.view_limit + counter::counter_step(boot);
+    if retires(r, boot, limit) {
+        set_replica_word(table, replica, STATUS_AT, RETIRED);
+        return accepted(r.boot, r.min_view);
+    }
+    restart(table, replica, boot, r.view_limit, limit);
+    accepted(boot, r.view_limit)
+}
+
+// A replica may have this view limit next.
+fn reserve_refusal(r: Replica, limit: u32) -> u32
+    ensures { λ n. ⌜ n ≡ firstRefusal (reserveTests (replicaOf r) limit) ⌝ }
+{
+    if r.status == RETIRED {
+        return WRONG_STATUS;
+    }
+    if CEILING < limit {
+        return COUNTER_LIMIT;
+    }
+    0
+}
+
+pub fn reserve(table: &mut [u32], log: &mut [u32], blocks: &mut [u32], replica: u32) -> Answer
+    ensures { λ r. ⌜ left r (now (table .exit)) (now (log .exit)) (now (blocks .exit))
+        ≡ outcomeBy (λ m. reserveRule m replica) (now (table .entry)) (now (log .entry)) (now (blocks .entry)) ⌝ }
+{
+    let refusal = checks::replica_refusal(table, log, blocks, replica);
+    if refusal != 0 {
+        return refused(refusal);
+    }
+    let r = records::replica_in(table, replica);
+    let limit = r.view_limit + counter::counter_step(r.boot);
+    let refusal = reserve_refusal(r, limit);
+    if refusal != 0 {
+        return refused(refusal);
+    }
+    set_replica_word(table, replica, VIEW_LIMIT_AT, limit);
+    accepted(limit, 0)
+}

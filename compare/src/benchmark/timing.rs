@@ -1,36 +1,12 @@
 //! Times a program on a script: input from a file, output thrown away, the best of several runs.
 
-use std::fs::File;
-use std::path::{Path, PathBuf};
+use crate::script_file::ScriptFile;
 use std::process::{Command, Stdio};
 use std::time::{Duration, Instant};
 
-/// A script in a file that is removed again.
-pub struct ScriptFile(PathBuf);
-
-impl ScriptFile {
-    pub fn write(name: &str, text: &[u8]) -> std::io::Result<ScriptFile> {
-        let path =
-            std::env::temp_dir().join(format!("yard-bench-{}-{}.txt", std::process::id(), name.replace(' ', "-")));
-        std::fs::write(&path, text)?;
-        Ok(ScriptFile(path))
-    }
-
-    pub fn path(&self) -> &Path {
-        &self.0
-    }
-}
-
-impl Drop for ScriptFile {
-    fn drop(&mut self) {
-        // Nothing depends on the file being gone.
-        let _ = std::fs::remove_file(&self.0);
-    }
-}
-
 fn once(program: &str, script: &ScriptFile) -> Result<Duration, String> {
     let told = |error: std::io::Error| format!("{program}: {error}");
-    let input = File::open(script.path()).map_err(told)?;
+    let input = script.open().map_err(told)?;
     let start = Instant::now();
     let status = Command::new(program).stdin(Stdio::from(input)).stdout(Stdio::null()).status().map_err(told)?;
     let time = start.elapsed();

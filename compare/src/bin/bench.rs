@@ -4,11 +4,12 @@
 //! Prints a table of ratios (best of N runs) and microseconds a call against certificates issued; writes a plot.
 
 use judge::benchmark::plot::{svg, Series};
-use judge::benchmark::timing::{best, ScriptFile};
+use judge::benchmark::timing::best;
 use judge::benchmark::{form_test, inputs};
 use judge::comparison::checkers::Checker;
-use judge::comparison::programs::output;
+use judge::comparison::programs::{output, Arrival};
 use judge::options::Options;
+use judge::script_file::ScriptFile;
 use std::process::ExitCode;
 
 fn main() -> ExitCode {
@@ -49,11 +50,11 @@ fn tell_machine() {
 fn tell_rows(programs: &[&str; 2], seed: u64, lines: usize, runs: u64) -> Result<(), String> {
     println!("| Script | Lines | yard, ms | second, ms | Ratio |\n|---|---|---|---|---|");
     for (name, text) in inputs::rows(seed, lines) {
-        let outputs = [output(programs[0], &text)?, output(programs[1], &text)?];
+        let outputs = [output(programs[0], &text, Arrival::File)?, output(programs[1], &text, Arrival::File)?];
         if outputs[0] != outputs[1] {
             return Err(format!("outputs differ on {name}"));
         }
-        let script = ScriptFile::write(name, &text).map_err(|error| error.to_string())?;
+        let script = ScriptFile::write(&text).map_err(|error| error.to_string())?;
         let times = best(programs, &script, runs)?;
         let (yard, second) = (times[0] * 1e3, times[1] * 1e3);
         println!("| {name} | {} | {yard:.1} | {second:.1} | {:.2} |", outputs[0].len() / 33, yard / second);
@@ -68,8 +69,8 @@ fn tell_growth(programs: &[&str; 2], calls: usize, runs: u64) -> Result<Vec<Seri
     let mut series = [Vec::new(), Vec::new()];
     for certificates in (0..=2048).step_by(256) {
         let (without, with) = inputs::growth(30, certificates, calls);
-        let write = |name: &str, text: &[u8]| ScriptFile::write(name, text).map_err(|error| error.to_string());
-        let (short, long) = (write("without", &without)?, write("with", &with)?);
+        let write = |text: &[u8]| ScriptFile::write(text).map_err(|error| error.to_string());
+        let (short, long) = (write(&without)?, write(&with)?);
         let (less, more) = (best(programs, &short, runs)?, best(programs, &long, runs)?);
         for place in 0..2 {
             series[place].push((certificates as f64, (more[place] - less[place]) * 1e6 / calls as f64));

@@ -1,5 +1,6 @@
-//! The program `second` on pipes: prompt answers, bytes in any pieces, closed input and output.
+//! The program `second` on pipes: prompt answers, bytes in any pieces, closed input and output. The program `text`.
 
+use judge::benchmark::inputs::text_only;
 use judge::comparison::programs::{output, pieces, Arrival};
 use judge::generate::scripts::script;
 use judge::mistake::Correct;
@@ -68,5 +69,15 @@ fn pieces_are_the_input() {
         let pieces = pieces(&text, seed);
         assert!(pieces.concat() == text);
         assert!(pieces.iter().all(|piece| (1..=4096).contains(&piece.len())));
+    }
+}
+
+#[test]
+fn the_transcription_on_text_alone() {
+    let script = text_only(1, 3000);
+    let expected = run(Correct, &script);
+    assert_eq!(expected.len(), 33 * 3000);
+    for arrival in [Arrival::File, Arrival::Pieces(1), Arrival::Pieces(2)] {
+        assert!(output(env!("CARGO_BIN_EXE_text"), &script, arrival).unwrap() == expected, "{arrival:?}");
     }
 }

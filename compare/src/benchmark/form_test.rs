@@ -26,11 +26,11 @@ fn sum(sample: &Sample) -> u32 {
     slices.iter().flat_map(|words| words.iter()).fold(0, |sum, &word| sum.wrapping_add(word))
 }
 
-/// Best microseconds of a run of the action.
+/// Microseconds of the action in the best of many short runs, some of which no other work cuts into.
 fn best(mut action: impl FnMut()) -> f64 {
-    const CALLS: u32 = 200;
+    const CALLS: u32 = 50;
     let mut least = f64::INFINITY;
-    for _ in 0..50 {
+    for _ in 0..4000 {
         let start = Instant::now();
         (0..CALLS).for_each(|_| action());
         least = least.min(start.elapsed().as_secs_f64() * 1e6 / f64::from(CALLS));

@@ -1,15 +1,41 @@
 //! Times a program on a script: input from a file, output thrown away, the best of several runs.
 
 use crate::script_file::ScriptFile;
+use std::io::Error;
 use std::process::{Command, Stdio};
-use std::time::{Duration, Instant};
 
-fn once(program: &str, script: &ScriptFile) -> Result<Duration, String> {
-    let told = |error: std::io::Error| format!("{program}: {error}");
+/// getrusage's answer on 64-bit Linux: seconds and microseconds of either sort, then what is not asked for.
+#[repr(C)]
+#[derive(Default)]
+struct Usage {
+    user: [i64; 2],
+    system: [i64; 2],
+    rest: [i64; 14],
+}
+
+extern "C" {
+    fn getrusage(who: i32, usage: *mut Usage) -> i32;
+}
+
+/// Processor seconds, user and system, of all children that have ended.
+fn children_seconds() -> Result<f64, Error> {
+    const CHILDREN: i32 = -1;
+    let mut usage = Usage::default();
+    // SAFETY: the call writes one such structure.
+    if unsafe { getrusage(CHILDREN, &mut usage) } != 0 {
+        return Err(Error::last_os_error());
+    }
+    let seconds = |time: [i64; 2]| time[0] as f64 + time[1] as f64 / 1e6;
+    Ok(seconds(usage.user) + seconds(usage.system))
+}
+
+/// Processor seconds of one run: waiting for a processor that does other work does not count.
+fn once(program: &str, script: &ScriptFile) -> Result<f64, String> {
+    let told = |error: Error| format!("{program}: {error}");
     let input = script.open().map_err(told)?;
-    let start = Instant::now();
+    let before = children_seconds().map_err(told)?;
     let status = Command::new(program).stdin(Stdio::from(input)).stdout(Stdio::null()).status().map_err(told)?;
-    let time = start.elapsed();
+    let time = children_seconds().map_err(told)? - before;
     if status.success() {
         Ok(time)
     } else {
@@ -22,7 +48,7 @@ pub fn best(programs: &[&str], script: &ScriptFile, runs: u64) -> Result<Vec<f64
     let mut times = vec![f64::INFINITY; programs.len()];
     for _ in 0..runs.max(1) {
         for (time, program) in times.iter_mut().zip(programs) {
-            *time = time.min(once(program, script)?.as_secs_f64());
+            *time = time.min(once(program, script)?);
         }
     }
     Ok(times)

@@ -49,7 +49,7 @@ impl Bench<'_> {
             }
         }
         let lines = expected.len() / 33;
-        let head = format!("| {name} | {lines} | {:.1} |", script.len() as f64 / lines as f64);
+        let head = format!("| {name} | {} | {:.1} |", thousands(lines), script.len() as f64 / lines as f64);
         Ok(Row { head, times: self.times(programs, script)? })
     }
 
@@ -76,6 +76,7 @@ impl Bench<'_> {
                 one.points.push((certificates as f64, time));
             }
             let [yard, second] = times;
+            let certificates = thousands(certificates);
             table += &format!("| {certificates} | {yard:.2} | {second:.2} | {:.2} |\n", yard / second);
         }
         Ok((table, series.into()))
@@ -84,7 +85,7 @@ impl Bench<'_> {
     /// The form test of a full memory beside a bare sum of its words.
     pub fn form(&self, firmware: Option<&dyn Checker>) -> Result<String, String> {
         let [yard, second] = self.each_call(&inputs::form_test(self.calls))?;
-        let mut times = form_test::times(firmware);
+        let mut times = form_test::times(firmware, self.calls, self.runs).map_err(|error| error.to_string())?;
         times.insert(1, ("yard, by its calls in a script", yard));
         times.insert(2, ("second, by its calls in a script", second));
         let mut table = "| Form test | Microseconds | To the bare sum |\n|---|---|---|\n".to_string();
@@ -116,4 +117,13 @@ struct Row {
 /// Milliseconds of two programs and the first's ratio to the second.
 fn columns(seconds: &[f64]) -> String {
     format!("{:.1} | {:.1} | {:.2}", seconds[0] * 1e3, seconds[1] * 1e3, seconds[0] / seconds[1])
+}
+
+/// A number as a person writes it, up to 999,999,999: 1,000,000.
+pub fn thousands(number: usize) -> String {
+    match (number / 1_000_000, number / 1000 % 1000, number % 1000) {
+        (0, 0, ones) => ones.to_string(),
+        (0, thousands, ones) => format!("{thousands},{ones:03}"),
+        (millions, thousands, ones) => format!("{millions},{thousands:03},{ones:03}"),
+    }
 }

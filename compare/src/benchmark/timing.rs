@@ -1,4 +1,4 @@
-//! Times a program on a script: input from a file, output thrown away, the best of several runs.
+//! Times a program on a script, or a piece of code: processor time, the best of several runs.
 
 use crate::script_file::ScriptFile;
 use std::io::Error;
@@ -17,25 +17,28 @@ extern "C" {
     fn getrusage(who: i32, usage: *mut Usage) -> i32;
 }
 
-/// Processor seconds, user and system, of all children that have ended.
-fn children_seconds() -> Result<f64, Error> {
-    const CHILDREN: i32 = -1;
+const OWN: i32 = 0;
+const CHILDREN: i32 = -1;
+
+/// Processor seconds, user and system, of this process or of all its children that have ended.
+fn seconds(who: i32) -> Result<f64, Error> {
     let mut usage = Usage::default();
     // SAFETY: the call writes one such structure.
-    if unsafe { getrusage(CHILDREN, &mut usage) } != 0 {
+    if unsafe { getrusage(who, &mut usage) } != 0 {
         return Err(Error::last_os_error());
     }
     let seconds = |time: [i64; 2]| time[0] as f64 + time[1] as f64 / 1e6;
     Ok(seconds(usage.user) + seconds(usage.system))
 }
 
-/// Processor seconds of one run: waiting for a processor that does other work does not count.
+/// Processor seconds of one run, its input from a file, its output thrown away. Waiting for a processor that does other
+/// work does not count.
 fn once(program: &str, script: &ScriptFile) -> Result<f64, String> {
     let told = |error: Error| format!("{program}: {error}");
     let input = script.open().map_err(told)?;
-    let before = children_seconds().map_err(told)?;
+    let before = seconds(CHILDREN).map_err(told)?;
     let status = Command::new(program).stdin(Stdio::from(input)).stdout(Stdio::null()).status().map_err(told)?;
-    let time = children_seconds().map_err(told)? - before;
+    let time = seconds(CHILDREN).map_err(told)? - before;
     if status.success() {
         Ok(time)
     } else {
@@ -52,4 +55,15 @@ pub fn best(programs: &[&str], script: &ScriptFile, runs: u64) -> Result<Vec<f64
         }
     }
     Ok(times)
+}
+
+/// The best time of many calls of an action in this process.
+pub fn best_own(mut action: impl FnMut(), calls: usize, runs: u64) -> Result<f64, Error> {
+    let mut least = f64::INFINITY;
+    for _ in 0..runs.max(1) {
+        let before = seconds(OWN)?;
+        (0..calls).for_each(|_| action());
+        least = least.min(seconds(OWN)? - before);
+    }
+    Ok(least)
 }

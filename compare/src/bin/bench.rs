@@ -6,7 +6,7 @@
 
 use judge::benchmark::machine;
 use judge::benchmark::plot::svg;
-use judge::benchmark::tables::{fit, Bench};
+use judge::benchmark::tables::{fit, thousands, Bench};
 use judge::comparison::checkers::Checker;
 use judge::options::Options;
 use std::process::ExitCode;
@@ -45,7 +45,7 @@ fn work(options: &Options) -> Result<(), String> {
         ("fit", fit(&series)),
         ("form", bench.form(firmware())?),
         ("runs", bench.runs.to_string()),
-        ("calls", bench.calls.to_string()),
+        ("calls", thousands(bench.calls)),
     ];
     parts[..6].iter().for_each(|(_, part)| println!("{}\n", part.trim_end()));
     write(options.text("svg").unwrap_or("../docs/benchmark.svg"), &svg(&series))?;

@@ -25,3 +25,4 @@ pub mod quorum;
 pub mod random;
 pub mod recovery;
 pub mod script;
+pub mod script_file;

@@ -154,6 +154,8 @@ mistakes! {
     TextBlankField "text-blank-field" "a field of blanks reads as 0" "a matter of text";
     TextUnused "text-unused" "unused fields are not looked at" "a matter of text";
     TextLastLine "text-last-line" "a last line without its line feed is lost" "a matter of text";
+    TextHeldLost "text-held-lost" "of a line over a block's end only the last part is read" "a matter of text";
+    TextLongLineCut "text-long-line-cut" "of a line of more than 34 fields the first 34 are read" "a matter of text";
     TextCarriageReturn "text-carriage-return" "a carriage return before the line feed is dropped" "a matter of text";
 }
 

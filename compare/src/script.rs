@@ -8,6 +8,8 @@ use crate::mistake::{Mistake, Rules};
 pub const CERTIFICATE_SLOTS: usize = 2048;
 pub const BLOCK_SLOTS: usize = 1024;
 pub const MAX_FIELDS: usize = 34;
+/// The bytes that yard asks for at once.
+pub const INPUT_BLOCK: usize = 8192;
 const MAX_BYTES: usize = MAX_FIELDS * COLUMNS;
 
 /// The ledger, the line so far and the number of lines answered. Bytes may come in blocks of any size.
@@ -47,6 +49,10 @@ impl<R: Rules> Program<R> {
     }
 
     pub fn feed(&mut self, input: &[u8], out: &mut Vec<u8>) {
+        if self.rules.has(Mistake::TextHeldLost) {
+            self.line.clear();
+        }
+        let most = MAX_BYTES + usize::from(!self.rules.has(Mistake::TextLongLineCut));
         for piece in input.split_inclusive(|&byte| byte == b'\n') {
             if self.is_done() {
                 return;
@@ -55,7 +61,7 @@ impl<R: Rules> Program<R> {
                 Some((b'\n', text)) => (text, true),
                 _ => (piece, false),
             };
-            let room = MAX_BYTES + 1 - self.line.len();
+            let room = most - self.line.len();
             self.line.extend_from_slice(&text[..text.len().min(room)]);
             if ended {
                 self.answer_line(out);
@@ -127,11 +133,11 @@ pub fn write_line(line: u32, outcome: Outcome, out: &mut Vec<u8>) {
     out.push(b'\n');
 }
 
-/// A whole script's output.
+/// A whole script's output, read by blocks.
 pub fn run<R: Rules>(rules: R, input: &[u8]) -> Vec<u8> {
     let mut program = Program::new(rules);
     let mut out = Vec::new();
-    program.feed(input, &mut out);
+    input.chunks(INPUT_BLOCK).for_each(|block| program.feed(block, &mut out));
     program.finish(&mut out);
     out
 }

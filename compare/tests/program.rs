@@ -1,5 +1,10 @@
-//! The program `second` on pipes: prompt answers, short reads, closed input and output.
+//! The program `second` on pipes: prompt answers, bytes in any pieces, closed input and output. The program `text`.
 
+use judge::benchmark::inputs::text_only;
+use judge::comparison::programs::{output, pieces, Arrival};
+use judge::generate::scripts::script;
+use judge::mistake::Correct;
+use judge::script::run;
 use std::io::{BufRead, BufReader, Write};
 use std::process::{Child, Command, Stdio};
 
@@ -46,4 +51,33 @@ fn no_input_gives_no_output() {
     drop(child.stdin.take());
     let outcome = child.wait_with_output().unwrap();
     assert!(outcome.status.success() && outcome.stdout.is_empty());
+}
+
+#[test]
+fn however_the_bytes_arrive() {
+    let text = script(4).text;
+    let expected = run(Correct, &text);
+    for arrival in [Arrival::File, Arrival::Pipe, Arrival::Pieces(1), Arrival::Pieces(2), Arrival::Pieces(3)] {
+        assert!(output(env!("CARGO_BIN_EXE_second"), &text, arrival).unwrap() == expected, "{arrival:?}");
+    }
+}
+
+#[test]
+fn pieces_are_the_input() {
+    let text = script(4).text;
+    for seed in 0..8 {
+        let pieces = pieces(&text, seed);
+        assert!(pieces.concat() == text);
+        assert!(pieces.iter().all(|piece| (1..=4096).contains(&piece.len())));
+    }
+}
+
+#[test]
+fn the_transcription_on_text_alone() {
+    let script = text_only(1, 3000);
+    let expected = run(Correct, &script);
+    assert_eq!(expected.len(), 33 * 3000);
+    for arrival in [Arrival::File, Arrival::Pieces(1), Arrival::Pieces(2)] {
+        assert!(output(env!("CARGO_BIN_EXE_text"), &script, arrival).unwrap() == expected, "{arrival:?}");
+    }
 }

@@ -1,5 +1,6 @@
 //! The form test of a full memory beside a bare sum of the same words, in one process.
 
+use super::timing::best_own;
 use crate::call::BLOCK;
 use crate::comparison::checkers::{Checker, Library};
 use crate::driver::{Driver, Line};
@@ -7,7 +8,6 @@ use crate::generate::memory::Sample;
 use crate::mistake::Correct;
 use crate::script::{BLOCK_SLOTS, CERTIFICATE_SLOTS};
 use std::hint::black_box;
-use std::time::Instant;
 
 /// f = 30, 2,048 certificates, 1,024 blocks, all of sound form.
 fn full_memory() -> Sample {
@@ -26,34 +26,26 @@ fn sum(sample: &Sample) -> u32 {
     slices.iter().flat_map(|words| words.iter()).fold(0, |sum, &word| sum.wrapping_add(word))
 }
 
-/// Best microseconds of a run of the action.
-fn best(mut action: impl FnMut()) -> f64 {
-    const CALLS: u32 = 200;
-    let mut least = f64::INFINITY;
-    for _ in 0..50 {
-        let start = Instant::now();
-        (0..CALLS).for_each(|_| action());
-        least = least.min(start.elapsed().as_secs_f64() * 1e6 / f64::from(CALLS));
-    }
-    least
-}
-
 /// Names and microseconds: the bare sum, the library's panel (its form test and a height of 0), the firmware's.
-pub fn times(firmware: Option<&dyn Checker>) -> Vec<(&'static str, f64)> {
+pub fn times(
+    firmware: Option<&dyn Checker>,
+    calls: usize,
+    runs: u64,
+) -> Result<Vec<(&'static str, f64)>, std::io::Error> {
     let mut sample = full_memory();
-    let bare = best(|| {
+    let each = |seconds: f64| seconds * 1e6 / calls as f64;
+    let bare = || {
         black_box(sum(black_box(&sample)));
-    });
-    let mut times = vec![("bare sum", bare)];
-    let mut add = |name, checker: &dyn Checker| {
-        let time = best(|| {
-            black_box(checker.panel(black_box(&mut sample), 0));
-        });
-        times.push((name, time));
     };
-    add("library", &Library(Correct));
-    if let Some(firmware) = firmware {
-        add("firmware", firmware);
+    let mut times = vec![("bare sum", each(best_own(bare, calls, runs)?))];
+    let library = Library(Correct);
+    let mut checkers: Vec<(&str, &dyn Checker)> = vec![("library", &library)];
+    checkers.extend(firmware.map(|firmware| ("firmware", firmware)));
+    for (name, checker) in checkers {
+        let panel = || {
+            black_box(checker.panel(black_box(&mut sample), 0));
+        };
+        times.push((name, each(best_own(panel, calls, runs)?)));
     }
-    times
+    Ok(times)
 }

@@ -1,34 +1,31 @@
-//! Scripts that both programs are timed on.
+//! Scripts that the programs are timed on.
 
 use crate::call::*;
 use crate::driver::{script_text, Driver, Line};
-use crate::generate::damage::damaged;
+use crate::generate::damage::damage;
 use crate::generate::progress::progress;
-use crate::generate::scripts::script;
+use crate::generate::scripts::{script, Script};
 use crate::mistake::Correct;
 use crate::random::Random;
 use crate::script::{BLOCK_SLOTS, CERTIFICATE_SLOTS};
 
 /// Name and text of each row's script, of some `lines` lines.
 pub fn rows(seed: u64, lines: usize) -> Vec<(&'static str, Vec<u8>)> {
-    vec![
-        ("mixed", mixed(seed, lines)),
-        ("full log", full_log(lines)),
-        ("f = 30", repeated_progress(seed, 30, lines)),
-        ("text only", text_only(seed, 5 * lines)),
-    ]
+    vec![("mixed", mixed(seed, lines)), ("full log", full_log(lines)), ("f = 30", repeated_progress(seed, 30, lines))]
 }
 
-/// Scripts of all sorts, one after the other.
+/// Scripts of all sorts, one after the other, but for those that are mostly long unreadable lines.
 fn mixed(seed: u64, lines: usize) -> Vec<u8> {
     let mut text = Vec::new();
     let (mut next, mut count) = (seed, 0);
     while count < lines {
-        let mut part = script(next).text;
-        part.push(b'\n');
-        count += part.iter().filter(|&&byte| byte == b'\n').count();
-        text.extend(part);
+        let Script { sort, text: mut part } = script(next);
         next += 1;
+        if sort != "block ends" {
+            part.push(b'\n');
+            count += part.iter().filter(|&&byte| byte == b'\n').count();
+            text.extend(part);
+        }
     }
     text
 }
@@ -76,22 +73,42 @@ pub fn growth(f: u32, certificates: usize, calls: usize) -> (Vec<u8>, Vec<u8>) {
     (without, script_text(&lines))
 }
 
-/// Unreadable lines, and lines answered before any opening.
-fn text_only(seed: u64, lines: usize) -> Vec<u8> {
+/// Two scripts of the same lines on f = 30 and full memory: some calls before the opening, where they meet no memory,
+/// and after the last certificate, where the form test passes and their replica is out of range.
+pub fn form_test(calls: usize) -> (Vec<u8>, Vec<u8>) {
+    let (driver, _) = filled(30, CERTIFICATE_SLOTS);
+    let filling = script_text(&driver.lines());
+    let calls = script_text(&vec![Line::new(VIEW, 99, 1, &[]); calls]);
+    ([&calls[..], &filling].concat(), [&filling[..], &calls].concat())
+}
+
+/// Just so many lines, all of them text work: calls before any opening and, as often, lines with damage. The last two
+/// have 70,000 bytes.
+pub fn text_only(seed: u64, lines: usize) -> Vec<u8> {
     let mut random = Random::new(seed);
-    let line = |random: &mut Random| {
-        let list: Vec<u32> = (0..random.below(8)).map(|_| random.below(2048)).collect();
-        Line::new(random.pick(&[ACCUMULATE, DECIDE, RECOVER]), random.below(61), 0, &list)
-    };
-    let readable: Vec<Line> = (0..1000).map(|_| line(&mut random)).collect();
-    let text = script_text(&readable);
-    let opening = b"       0       1       0".to_vec();
-    let mut part = [text.clone(), damaged(&mut random, &text)].concat();
-    part.retain(|&byte| byte != 0);
-    part.push(b'\n');
-    // No line may open a ledger: the damage adds such a line at most at the end.
-    let part: Vec<u8> =
-        part.split_inclusive(|&b| b == b'\n').filter(|l| !l.starts_with(&opening)).flatten().copied().collect();
-    let count = part.iter().filter(|&&byte| byte == b'\n').count();
-    part.repeat(lines.div_ceil(count.max(1)))
+    let mut text = Vec::new();
+    let mut count = 0;
+    while count + 2 < lines {
+        let line = text_line(&mut random);
+        // No line may open a ledger. Damage can make two lines of one, none, or a very long one.
+        let is_one = line.iter().position(|&byte| byte == b'\n').map(|place| place + 1) == Some(line.len());
+        if is_one && line.len() < 1000 && !line.starts_with(b"       0") {
+            text.extend(line);
+            count += 1;
+        }
+    }
+    let long = [vec![b'x'; 70_000], vec![b'\n']].concat();
+    text.extend([long.clone(), long].concat());
+    text
+}
+
+/// A call, damaged half the time.
+fn text_line(random: &mut Random) -> Vec<u8> {
+    let list: Vec<u32> = (0..random.below(8)).map(|_| random.below(2048)).collect();
+    let line = Line::new(random.pick(&[ACCUMULATE, DECIDE, RECOVER]), random.below(61), 0, &list);
+    let mut text = script_text(&[line]);
+    if random.once_in(2) {
+        damage(random, &mut text);
+    }
+    text
 }

@@ -2,28 +2,28 @@
 //!
 //! compare --yard PATH --second PATH [--scenarios DIR] [--seconds N] [--seed N]   scripts, byte for byte
 //! compare --memories [--seconds N] [--seed N]   memories: the firmware (feature `firmware`), else the library itself
-//! compare --self [--seconds N] [--seed N]       the harness alone: the library with itself
+//! compare --self [--mistake NAME] [--seconds N] [--seed N]   the library, with a mistake if one is named, and itself
 //! compare --mistakes [--seed N]                 which mistakes the generators tell apart, and by what
-//! compare --coverage [--seed N]                 how often each generated call gets each answer
+//! compare --coverage [--seed N]                 what the generators reach, and how often
 //! compare --script SEED                         prints the script of a seed
 
 use judge::comparison::checkers::{Checker, Library};
-use judge::comparison::programs::{first_difference, output};
+use judge::comparison::programs::{first_difference, output, Arrival};
 use judge::comparison::samples::{call_difference, difference, panel_difference};
 use judge::comparison::shrink::{sample_text, shrink_sample, shrink_script};
 use judge::comparison::{coverage, mistakes};
 use judge::generate::scripts::script;
-use judge::mistake::Correct;
+use judge::mistake::{Correct, Mistake};
 use judge::options::Options;
 use judge::script::run;
 use std::io::Write;
 use std::process::ExitCode;
 use std::time::{Duration, Instant};
 
-type Run<'a> = &'a dyn Fn(&[u8]) -> Result<Vec<u8>, String>;
+type Run<'a> = &'a dyn Fn(&[u8], Arrival) -> Result<Vec<u8>, String>;
 
 fn main() -> ExitCode {
-    let known = ["yard", "second", "scenarios", "seconds", "seed", "script", "scripts", "count"];
+    let known = ["yard", "second", "scenarios", "seconds", "seed", "script", "scripts", "count", "mistake"];
     match Options::read(&known, &["memories", "self", "mistakes", "coverage"]).and_then(|options| work(&options)) {
         Ok(()) => ExitCode::SUCCESS,
         Err(message) => {
@@ -39,18 +39,17 @@ fn work(options: &Options) -> Result<(), String> {
     if let Some(seed) = options.number("script") {
         return std::io::stdout().write_all(&script(seed).text).map_err(|error| error.to_string());
     }
-    let (scripts, memories) = (options.number("scripts").unwrap_or(300), options.number("count").unwrap_or(400_000));
+    let (scripts, memories) = (options.number("scripts"), options.number("count").unwrap_or(400_000));
     if options.flag("coverage") {
-        coverage::tell(seed, scripts, memories);
-        return Ok(());
+        return coverage::tell(seed, scripts.unwrap_or(1000), memories);
     }
     if options.flag("mistakes") {
-        return mistakes::tell(seed, scripts, memories).then_some(()).ok_or("a mistake is missed".to_string());
+        return mistakes::tell(seed, scripts.unwrap_or(300), memories)
+            .then_some(())
+            .ok_or("a mistake is missed".to_string());
     }
     if options.flag("self") {
-        let own: Run = &|text| Ok(run(Correct, text));
-        compare_scripts(own, own, seed, time)?;
-        return compare_memories(&Library(Correct), seed, time);
+        return compare_library(options.text("mistake"), seed, time);
     }
     if options.flag("memories") {
         return compare_memories(checker().as_ref(), seed, time);
@@ -61,7 +60,16 @@ fn work(options: &Options) -> Result<(), String> {
     if let Some(directory) = options.text("scenarios") {
         compare_scenarios(directory, &[yard, second])?;
     }
-    compare_scripts(&|text| output(yard, text), &|text| output(second, text), seed, time)
+    let run = |program| move |text: &[u8], arrival| output(program, text, arrival);
+    compare_scripts(&run(yard), &run(second), seed, time)
+}
+
+/// The harness alone: what it tells of a mistake, or that it tells nothing without one.
+fn compare_library(mistake: Option<&str>, seed: u64, time: Duration) -> Result<(), String> {
+    let rules = mistake.map(|name| Mistake::named(name).ok_or(format!("no mistake {name}"))).transpose()?;
+    let scripts = compare_scripts(&|text, _| Ok(run(rules, text)), &|text, _| Ok(run(Correct, text)), seed, time);
+    let memories = compare_memories(&Library(rules), seed, time);
+    scripts.and(memories)
 }
 
 #[cfg(feature = "firmware")]
@@ -80,12 +88,12 @@ fn compare_scripts(one: Run, other: Run, seed: u64, time: Duration) -> Result<()
     let start = Instant::now();
     let (mut scripts, mut lines) = (0, 0);
     while start.elapsed() < time {
-        let script = script(seed + scripts);
+        let (script, arrival) = (script(seed + scripts), Arrival::of(seed + scripts));
         let at = |error: String| format!("seed {}: {error}", seed + scripts);
-        let (left, right) = (one(&script.text).map_err(at)?, other(&script.text).map_err(at)?);
+        let (left, right) = (one(&script.text, arrival).map_err(at)?, other(&script.text, arrival).map_err(at)?);
         if let Some(line) = first_difference(&left, &right) {
-            println!("seed {} ({}): outputs differ at line {line}", seed + scripts, script.sort);
-            tell_script(one, other, &script.text)?;
+            println!("seed {} ({}, {arrival:?}): outputs differ at line {line}", seed + scripts, script.sort);
+            tell_script(&|text| one(text, arrival), &|text| other(text, arrival), &script.text)?;
             return Err("scripts differ".to_string());
         }
         scripts += 1;
@@ -95,20 +103,38 @@ fn compare_scripts(one: Run, other: Run, seed: u64, time: Duration) -> Result<()
     Ok(())
 }
 
+type Answer<'a> = &'a dyn Fn(&[u8]) -> Result<Vec<u8>, String>;
+
 /// The smallest script that still shows the difference, each line with both answers.
-fn tell_script(one: Run, other: Run, text: &[u8]) -> Result<(), String> {
+fn tell_script(one: Answer, other: Answer, text: &[u8]) -> Result<(), String> {
     let differs = |text: &[u8]| matches!((one(text), other(text)), (Ok(left), Ok(right)) if left != right);
     let small = shrink_script(text, differs);
-    let lines = |bytes: &[u8]| String::from_utf8_lossy(bytes).lines().map(str::to_string).collect::<Vec<_>>();
-    let (left, right) = (lines(&one(&small)?), lines(&other(&small)?));
-    println!("smallest script, {} lines:", left.len());
-    for (place, line) in lines(&small).iter().enumerate() {
-        let answer = |answers: &[String]| answers.get(place).map_or("nothing".to_string(), |line| line.to_string());
-        let (one, other) = (answer(&left), answer(&right));
+    let (left, right) = (one(&small)?, other(&small)?);
+    let (mut left, mut right) = (left.split_inclusive(is_feed), right.split_inclusive(is_feed));
+    println!("smallest script, {} bytes:", small.len());
+    for line in small.split_inclusive(is_feed) {
+        let answer = |given: Option<&[u8]>| given.map_or("nothing".to_string(), |bytes| shown(bytes, false));
+        let (one, other) = (answer(left.next()), answer(right.next()));
         let mark = if one == other { String::new() } else { format!("  <-> {other}") };
-        println!("{line:<56} -> {one}{mark}");
+        println!("{:<56} -> {one}{mark}", shown(line, true));
     }
     Ok(())
+}
+
+fn is_feed(byte: &u8) -> bool {
+    *byte == b'\n'
+}
+
+/// A line for a person to read: odd bytes by their escapes, the middle of a long line left out, a missing line feed told.
+fn shown(line: &[u8], tell_missing: bool) -> String {
+    const MOST: usize = 280;
+    let columns = line.strip_suffix(b"\n").unwrap_or(line);
+    let text = match columns.len() {
+        0..=MOST => columns.escape_ascii().to_string(),
+        count => format!("{}... ({count} bytes)", columns[..MOST].escape_ascii()),
+    };
+    let missing = if tell_missing && columns.len() == line.len() { " (no line feed)" } else { "" };
+    text + missing
 }
 
 fn compare_memories(checker: &dyn Checker, seed: u64, time: Duration) -> Result<(), String> {
@@ -142,7 +168,7 @@ fn compare_scenarios(directory: &str, programs: &[&str]) -> Result<(), String> {
         let read = |path: &std::path::Path| std::fs::read(path).map_err(|error| format!("{}: {error}", path.display()));
         let (input, expected) = (read(path)?, read(&path.with_extension("out"))?);
         for program in programs {
-            if let Some(line) = first_difference(&output(program, &input)?, &expected) {
+            if let Some(line) = first_difference(&output(program, &input, Arrival::File)?, &expected) {
                 return Err(format!("{program} differs on {} at line {line}", path.display()));
             }
         }

@@ -1,14 +1,18 @@
-//! How often each call of the generated memories and scripts gets each answer.
+//! What the generators reach: how often each call gets each answer, which f are opened, and the marks that the
+//! comparison is meant to hit.
 
+use super::marks::{seen_lines, Seen, MARKS};
+use crate::call::OPEN;
 use crate::generate::memory::sample;
-use crate::generate::scripts::script;
+use crate::generate::scripts::{script, Script, SORTS};
+use crate::memory::MAX_F;
 use crate::mistake::Correct;
-use crate::script::run;
 
 /// Rows: call codes, and any other in the last. Columns: answers 0 to 10.
 type Counts = [[u64; 11]; 14];
 
-pub fn tell(seed: u64, scripts: u64, memories: u64) {
+/// Prints it all; what is not reached at all is an error.
+pub fn tell(seed: u64, scripts: u64, memories: u64) -> Result<(), String> {
     let mut counts: Counts = Default::default();
     for seed in seed..seed + memories {
         let mut sample = sample(seed);
@@ -16,24 +20,18 @@ pub fn tell(seed: u64, scripts: u64, memories: u64) {
         count(&mut counts, code, sample.run(Correct).answer);
     }
     print("memories", &counts);
-    counts = Default::default();
-    for seed in seed..seed + scripts {
-        let text = script(seed).text;
-        let out = run(Correct, &text);
-        for (line, answer) in text.split(|&byte| byte == b'\n').zip(out.chunks(33)) {
-            let code = line.get(..8).map_or(13, number);
-            count(&mut counts, code, number(&answer[8..16]));
-        }
-    }
-    print("script lines", &counts);
+    let mut reached = Reached {
+        counts: Default::default(),
+        sorts: vec![0; SORTS.len()],
+        opened: vec![0; MAX_F as usize],
+        marks: vec![0; MARKS.len()],
+    };
+    (seed..seed + scripts).for_each(|seed| reached.add(&script(seed)));
+    reached.tell()
 }
 
 fn count(counts: &mut Counts, code: u32, answer: u32) {
     counts[code.min(13) as usize][answer.min(10) as usize] += 1;
-}
-
-fn number(field: &[u8]) -> u32 {
-    crate::field::read_number(Correct, field)
 }
 
 fn print(what: &str, counts: &Counts) {
@@ -41,5 +39,49 @@ fn print(what: &str, counts: &Counts) {
     for (code, row) in counts.iter().enumerate() {
         let cells: String = row.iter().map(|count| format!("{count:9}")).collect();
         println!("{code:4}{cells}");
+    }
+    println!();
+}
+
+/// What scripts have reached.
+struct Reached {
+    counts: Counts,
+    sorts: Vec<u64>,
+    /// Accepted openings by f, from 1 on.
+    opened: Vec<u64>,
+    marks: Vec<u64>,
+}
+
+impl Reached {
+    fn add(&mut self, script: &Script) {
+        for (count, sort) in self.sorts.iter_mut().zip(SORTS) {
+            *count += u64::from(script.sort == *sort);
+        }
+        seen_lines(&script.text, |seen| self.add_line(&seen));
+    }
+
+    fn add_line(&mut self, seen: &Seen) {
+        count(&mut self.counts, seen.code, seen.outcome.answer);
+        if seen.is(OPEN, 0) {
+            self.opened[seen.outcome.first as usize / 2 - 1] += 1;
+        }
+        for (count, (_, holds)) in self.marks.iter_mut().zip(MARKS) {
+            *count += u64::from(holds(seen));
+        }
+    }
+
+    fn tell(&self) -> Result<(), String> {
+        print("script lines", &self.counts);
+        let sorts = SORTS.iter().map(|sort| sort.to_string()).zip(&self.sorts);
+        let opened = (1..=MAX_F).map(|f| format!("openings with f = {f}")).zip(&self.opened);
+        let marks = MARKS.iter().map(|(mark, _)| mark.to_string()).zip(&self.marks);
+        let all: Vec<(String, &u64)> = sorts.chain(opened).chain(marks).collect();
+        all.iter().for_each(|(name, count)| println!("{name:56}{count:9}"));
+        let missed: Vec<&str> = all.iter().filter(|(_, count)| **count == 0).map(|(name, _)| name.as_str()).collect();
+        if missed.is_empty() {
+            Ok(())
+        } else {
+            Err(format!("not reached: {}", missed.join(", ")))
+        }
     }
 }

@@ -4,6 +4,7 @@ pub mod checkers;
 pub mod coverage;
 #[cfg(feature = "firmware")]
 pub mod firmware;
+pub mod marks;
 pub mod mistakes;
 pub mod programs;
 pub mod renumber;

@@ -7,7 +7,7 @@ use std::time::{Duration, Instant};
 
 const TIME: Duration = Duration::from_secs(20);
 
-/// Leaves out runs of lines, long ones first, again and again until nothing more can go.
+/// Leaves out runs of lines, long ones first, again and again until nothing more can go; then joins what is left.
 pub fn shrink_script(script: &[u8], differs: impl Fn(&[u8]) -> bool) -> Vec<u8> {
     let end = Instant::now() + TIME;
     let lines = Lines::read(script);
@@ -21,7 +21,31 @@ pub fn shrink_script(script: &[u8], differs: impl Fn(&[u8]) -> bool) -> Vec<u8> 
             run /= 2;
         }
     }
-    lines.keep(&kept)
+    with_joined_runs(lines.keep(&kept), &differs)
+}
+
+/// Makes one unreadable line of a run of lines, with as many bytes: where a difference hangs on the place of a line in
+/// its block, the lines before it cannot go, but need not be read.
+fn with_joined_runs(script: Vec<u8>, differs: &impl Fn(&[u8]) -> bool) -> Vec<u8> {
+    let end = Instant::now() + TIME / 4;
+    let mut lines: Vec<Vec<u8>> = script.split_inclusive(|&byte| byte == b'\n').map(<[u8]>::to_vec).collect();
+    let mut run = lines.len();
+    while run > 1 {
+        let mut place = 0;
+        while place + run <= lines.len() && Instant::now() < end {
+            let bytes: usize = lines[place..place + run].iter().map(Vec::len).sum();
+            let line = [vec![b'x'; bytes - 1], vec![b'\n']].concat();
+            let mut fewer = lines.clone();
+            fewer.splice(place..place + run, [line]).for_each(drop);
+            if differs(&fewer.concat()) {
+                lines = fewer;
+            } else {
+                place += run;
+            }
+        }
+        run = if run == 2 { 1 } else { run.div_ceil(2) };
+    }
+    lines.concat()
 }
 
 /// Leaves out runs of this length, from the end on.

@@ -3,7 +3,7 @@
 use crate::call::*;
 use crate::driver::{Driver, Line};
 use crate::explore::Explorer;
-use crate::memory::LIMIT;
+use crate::memory::{LIMIT, LIVE};
 use crate::mistake::Correct;
 use crate::random::Random;
 use crate::script::{BLOCK_SLOTS, CERTIFICATE_SLOTS};
@@ -13,27 +13,45 @@ fn explorer(mut random: Random, f: u32) -> Explorer<Correct> {
     Explorer { driver: Driver::open(Correct, f, CERTIFICATE_SLOTS, BLOCK_SLOTS), random, noise }
 }
 
-/// NEWVIEWs until the log is full or nearly so, then random hosts.
+/// NEWVIEWs until the log is nearly full, a round of agreement that runs into its end, then random hosts.
 pub fn full_log(mut random: Random, f: u32) -> Vec<Line> {
-    let left = random.pick(&[0, 0, 1, 2, 5]);
+    // A round takes f+1 NEWVIEWs or one more, an ACC, a PROP and its COMMITs.
+    let (few, any) = (random.pick(&[0, 0, 1, 2]), random.below(2 * f + 6));
+    let left = random.pick(&[few, few, any, any, f + 2, f + 3]);
+    let before = random.pick(&[0, 100]);
     let mut hosts = explorer(random, f);
-    let (n, mut view) = (hosts.driver.n(), 1);
-    while hosts.driver.issued() + left < CERTIFICATE_SLOTS as u32 {
-        for replica in 0..n {
-            if hosts.driver.issued() + left < CERTIFICATE_SLOTS as u32 {
-                hosts.driver.enter(replica, view);
-            }
-        }
-        view += 1;
+    (0..before).for_each(|_| hosts.step());
+    let view = fill_log(&mut hosts.driver, left);
+    let all: Vec<u32> = (0..hosts.driver.n()).collect();
+    if let Some((prop, _)) = hosts.driver.gather(view, &all).and_then(|acc| hosts.driver.propose_on(acc)) {
+        hosts.driver.commit(prop, &all);
     }
     for _ in 0..60 {
         // An old view again: found where the replica still stands there.
-        let replica = hosts.random.below(n);
+        let replica = hosts.random.below(hosts.driver.n());
         let at = hosts.driver.replica(replica).min_view;
         hosts.driver.call(VIEW, replica, at, &[]);
         hosts.step();
     }
     hosts.driver.lines()
+}
+
+/// Views of all live replicas in turn, until so many slots are left or none of them can enter one any more; the next
+/// view.
+fn fill_log(driver: &mut Driver<Correct>, left: u32) -> u32 {
+    let most = CERTIFICATE_SLOTS as u32 - left;
+    let mut view = (0..driver.n()).map(|replica| driver.replica(replica).min_view).max().unwrap_or(1);
+    let mut issued = None;
+    while issued != Some(driver.issued()) {
+        issued = Some(driver.issued());
+        for replica in 0..driver.n() {
+            if driver.issued() < most && driver.replica(replica).status == LIVE {
+                driver.enter(replica, view);
+            }
+        }
+        view += 1;
+    }
+    view
 }
 
 /// Blocks until no slot is free, with hosts at work now and then.

@@ -25,7 +25,8 @@ pub fn damaged(random: &mut Random, script: &[u8]) -> Vec<u8> {
     out
 }
 
-fn damage(random: &mut Random, line: &mut Vec<u8>) {
+/// Damages a line once.
+pub fn damage(random: &mut Random, line: &mut Vec<u8>) {
     let place = random.below(line.len() as u32 + 1) as usize;
     match random.below(12) {
         0 | 1 if place < line.len() => line[place] = random.pick(BYTES),

@@ -1,5 +1,6 @@
 //! Seeded generators: scripts, and memories with one call each.
 
+pub mod blocks;
 pub mod boundary;
 pub mod damage;
 pub mod memory;

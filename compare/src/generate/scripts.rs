@@ -1,5 +1,6 @@
 //! One script of any sort from a seed.
 
+use super::blocks::over_block_ends;
 use super::boundary::*;
 use super::damage::damaged;
 use super::progress::progress;
@@ -14,6 +15,21 @@ pub struct Script {
     pub sort: &'static str,
     pub text: Vec<u8>,
 }
+
+pub const SORTS: &[&str] = &[
+    "progress",
+    "disturbed progress",
+    "hostile",
+    "attack",
+    "openings",
+    "boots",
+    "full log",
+    "full blocks",
+    "counter by cuts",
+    "counter by reserves",
+    "block ends",
+    "damaged text",
+];
 
 /// A script for a seed; the longest sorts come seldom.
 pub fn script(seed: u64) -> Script {
@@ -31,12 +47,16 @@ pub fn script(seed: u64) -> Script {
         49..=50 => ("full blocks", full_blocks(part, f)),
         51..=53 => ("counter by cuts", counter_by_cuts(part, f)),
         54 if random.once_in(8) => ("counter by reserves", counter_by_reserves(part, f.min(2))),
-        _ => {
-            let text = script_text(&hostile(part, f));
-            return Script { sort: "damaged text", text: damaged(&mut random, &text) };
-        }
+        54..=57 => ("block ends", progress(part, random.pick(&[1, 30]), 300, true)),
+        _ => ("damaged text", hostile(part, f)),
     };
-    Script { sort, text: script_text(&lines) }
+    let plain = script_text(&lines);
+    let text = match sort {
+        "block ends" => over_block_ends(&mut random, &plain),
+        "damaged text" => damaged(&mut random, &plain),
+        _ => plain,
+    };
+    Script { sort, text }
 }
 
 fn any_f(random: &mut Random) -> u32 {

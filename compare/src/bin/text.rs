@@ -1,0 +1,202 @@
+//! `text`: yard's loops over text, transcribed into plain Rust as the measure of their speed.
+//!
+//! Unlike everything else here it is made from the proved sources (crates/stream, script, field, codes), loop by loop.
+//! It is for timing only and judges nothing. It has no ledger: a line that makes a call gets 1, as before any opening.
+
+use std::hint::black_box;
+use std::io::{Read, Write};
+
+const INPUT_BLOCK: usize = 8192;
+const COLUMNS: usize = 8;
+const MIN_FIELDS: usize = 3;
+const MAX_FIELDS: usize = 34;
+const MAX_LIST: usize = 31;
+const MAX_NUMBER: u32 = 99_999_999;
+const NO_NUMBER: u32 = u32::MAX;
+const UNREADABLE: u32 = 10;
+const WRONG_FORM: u32 = 1;
+const FEED_STEP: usize = 16;
+/// One more byte than a readable line can have.
+const HELD_PLACES: usize = 273;
+const ANSWER_BYTES: usize = 33;
+
+struct Answer {
+    number: u32,
+    first: u32,
+    second: u32,
+}
+
+/// The line that goes on in the next block, and the number of lines answered.
+struct Progress {
+    line: [u8; HELD_PLACES],
+    held: usize,
+    lines: u32,
+}
+
+fn main() -> std::io::Result<()> {
+    let (mut input, mut output) = (std::io::stdin().lock(), std::io::stdout().lock());
+    let mut block = [0; INPUT_BLOCK];
+    let mut out = [0; (INPUT_BLOCK + 1) * ANSWER_BYTES];
+    let mut progress = Progress { line: [0; HELD_PLACES], held: 0, lines: 0 };
+    while progress.lines < MAX_NUMBER {
+        let count = input.read(&mut block)?;
+        let written =
+            if count == 0 { finish(&mut progress, &mut out) } else { feed(&mut progress, &block[..count], &mut out) };
+        output.write_all(&out[..written])?;
+        if count == 0 {
+            break;
+        }
+    }
+    output.flush()
+}
+
+/// Answers the lines that end in the block; gives how many bytes were written.
+fn feed(progress: &mut Progress, block: &[u8], out: &mut [u8]) -> usize {
+    let (mut at, mut written) = (0, 0);
+    while at < block.len() {
+        let end = line_end(block, at);
+        if end == block.len() {
+            hold(progress, &block[at..end]);
+            return written;
+        }
+        if progress.lines == MAX_NUMBER {
+            return written;
+        }
+        let answer = if progress.held == 0 {
+            answer_line(&block[at..end])
+        } else {
+            hold(progress, &block[at..end]);
+            answer_line(&progress.line[..progress.held])
+        };
+        progress.held = 0;
+        progress.lines += 1;
+        put_answer(&mut out[written..written + ANSWER_BYTES], progress.lines, answer);
+        written += ANSWER_BYTES;
+        at = end + 1;
+    }
+    written
+}
+
+/// A last line may lack its line feed.
+fn finish(progress: &mut Progress, out: &mut [u8]) -> usize {
+    if progress.held == 0 {
+        return 0;
+    }
+    let answer = answer_line(&progress.line[..progress.held]);
+    progress.lines += 1;
+    put_answer(&mut out[..ANSWER_BYTES], progress.lines, answer);
+    ANSWER_BYTES
+}
+
+/// Holds bytes of a line that goes on, as far as there are places.
+fn hold(progress: &mut Progress, bytes: &[u8]) {
+    let count = bytes.len().min(HELD_PLACES - progress.held);
+    progress.line[progress.held..progress.held + count].copy_from_slice(&bytes[..count]);
+    progress.held += count;
+}
+
+/// The place of the first line feed from a place on, or the block's length.
+fn line_end(block: &[u8], from: usize) -> usize {
+    let mut at = from;
+    while at + FEED_STEP <= block.len() {
+        if block[at..at + FEED_STEP].iter().fold(false, |any, &byte| any | (byte == b'\n')) {
+            break;
+        }
+        at += FEED_STEP;
+    }
+    while at < block.len() && block[at] != b'\n' {
+        at += 1;
+    }
+    at
+}
+
+/// yard's answers come from a ledger, so the compiler may not know their values here either.
+fn answer_line(line: &[u8]) -> Answer {
+    let mut given = [0; MAX_FIELDS];
+    let count = read_numbers(line, &mut given);
+    let is_call = count != 0 && is_call(given[0], given[1], given[2], &given[MIN_FIELDS..count]);
+    let number = if is_call { WRONG_FORM } else { UNREADABLE };
+    black_box(Answer { number, first: 0, second: 0 })
+}
+
+/// Reads the line's numbers; gives how many there are, 0 for a line that cannot be read.
+fn read_numbers(line: &[u8], given: &mut [u32; MAX_FIELDS]) -> usize {
+    let count = line.len() / COLUMNS;
+    if COLUMNS * count != line.len() || !(MIN_FIELDS..=MAX_FIELDS).contains(&count) {
+        return 0;
+    }
+    for i in 0..count {
+        let number = read_number(&line[COLUMNS * i..COLUMNS * (i + 1)]);
+        if MAX_NUMBER < number {
+            return 0;
+        }
+        given[i] = number;
+    }
+    count
+}
+
+/// Past the blanks: the digits, without a leading zero.
+fn read_number(field: &[u8]) -> u32 {
+    for i in 0..COLUMNS {
+        if field[i] != b' ' {
+            return read_digits(field, i);
+        }
+    }
+    NO_NUMBER
+}
+
+fn read_digits(field: &[u8], first: usize) -> u32 {
+    if field[first] == b'0' && first < COLUMNS - 1 {
+        return NO_NUMBER;
+    }
+    let mut number = 0;
+    for &byte in &field[first..COLUMNS] {
+        if !byte.is_ascii_digit() {
+            return NO_NUMBER;
+        }
+        number = 10 * number + u32::from(byte - b'0');
+    }
+    number
+}
+
+fn is_call(code: u32, replica: u32, number: u32, list: &[u32]) -> bool {
+    match code {
+        0 | 8 | 9 | 10 => number == 0 && list.is_empty(),
+        1 => replica == 0 && list.is_empty(),
+        2 => list.len() == 1,
+        3 => list.len() <= MAX_LIST,
+        4 | 5 | 11 => list.is_empty(),
+        6 | 7 | 12 => number == 0 && list.len() <= MAX_LIST,
+        _ => false,
+    }
+}
+
+fn put_answer(text: &mut [u8], line: u32, answer: Answer) {
+    let numbers = [line, answer.number, answer.first, answer.second];
+    for (field, number) in text.chunks_exact_mut(COLUMNS).zip(numbers) {
+        put_number(field, number);
+    }
+    text[ANSWER_BYTES - 1] = b'\n';
+}
+
+/// From the last column to the first: the digits, then the blanks.
+fn put_number(field: &mut [u8], number: u32) {
+    let first = COLUMNS - digit_count(number);
+    let mut rest = number;
+    for at in (first..COLUMNS).rev() {
+        field[at] = b'0' + (rest % 10) as u8;
+        rest /= 10;
+    }
+    for byte in &mut field[..first] {
+        *byte = b' ';
+    }
+}
+
+fn digit_count(number: u32) -> usize {
+    let (mut count, mut power) = (1, 10);
+    while power <= number {
+        power *= 10;
+        count += 1;
+    }
+    count
+}

@@ -1,0 +1,54 @@
+//! Scripts whose lines lie over the ends of the blocks in which a program reads its input.
+
+use crate::random::Random;
+use crate::script::INPUT_BLOCK;
+
+/// A script's lines among unreadable ones, so that the ends of blocks cut the lines at any column: before the first
+/// byte, before and after the line feed too. Some lines stand there a second time, too long to be read.
+pub fn over_block_ends(random: &mut Random, script: &[u8]) -> Vec<u8> {
+    let mut out = Vec::new();
+    for line in script.split_inclusive(|&byte| byte == b'\n') {
+        if random.once_in(6) {
+            let long = lengthened(random, line);
+            put(random, &mut out, &long);
+        }
+        put(random, &mut out, line);
+    }
+    out
+}
+
+/// Adds a line, now and then over the end of the block: the longest that can be read sooner than others.
+fn put(random: &mut Random, out: &mut Vec<u8>, line: &[u8]) {
+    let room = INPUT_BLOCK - out.len() % INPUT_BLOCK;
+    let before = cut(random, line.len());
+    let times = if line.len() > 272 { 4 } else { 16 };
+    if before < room && (room <= line.len() || random.once_in(times)) {
+        fill(random, out, room - before);
+    }
+    out.extend(line);
+}
+
+/// How many of a line's bytes come before the end of the block: its ends sooner than the columns between.
+fn cut(random: &mut Random, length: usize) -> usize {
+    let any = random.below(length as u32 + 1) as usize;
+    random.pick(&[any, any, any, 0, length, length - 1])
+}
+
+/// So many bytes of unreadable lines.
+fn fill(random: &mut Random, out: &mut Vec<u8>, count: usize) {
+    let byte = if random.once_in(1000) { b'\n' } else { random.pick(b"x 0") };
+    out.extend(vec![byte; count - 1]);
+    out.push(b'\n');
+}
+
+/// Fields or bytes more than a line can have: just one byte, one field, or more than a block.
+fn lengthened(random: &mut Random, line: &[u8]) -> Vec<u8> {
+    let length = random.pick(&[273, 274, 280, 544, 546, 8191, 8192, 20_000]);
+    let mut line = line.strip_suffix(b"\n").unwrap_or(line).to_vec();
+    while line.len() + 8 <= length {
+        line.extend(b"       1");
+    }
+    line.resize(length.max(line.len()), b' ');
+    line.push(b'\n');
+    line
+}

@@ -1,13 +1,14 @@
--- Writing from the last column to the first: a digit, then a blank.
+-- Blanks, and digits over them from the last column to the first.
 use Prim.Native.Nat.{ℕ, zero, suc, _+_, _-_, _≤_, _<_, _/_, _%_}
-use mathlib.Core.Path.{_≡_, refl, ap}
+use mathlib.Core.Path.{_≡_, refl, sym, ap, _∙_}
 use mathlib.Core.List.{List, _∷_, _++_, append-assoc, append-nil}
 use mathlib.Core.Bool.{true, false}
 use mathlib.Core.Logic.{_≢_}
 use native.Mathlib.Omega.{arith}
 use lib.Dec.{eqb, leb}
-use lib.ListN.{length, replicate, drop, set, length-set, drop-of-length-le}
-use lib.Seq.{drop-cons, getD-set-same, drop-set-lt}
+use lib.ListN.{length, replicate, take, drop, set, length-set, take-append-drop, drop-of-length-le}
+use lib.Seq.{drop-cons, getD-set-same, drop-set-lt, take-set-le, take-take, sets, sets-eq}
+use native.Mathlib.Nat.{le-refl}
 use Rattle.field.specs.Digits.{digitZero, digits, digitCount}
 use Rattle.field.specs.Field.{columns, blank, maxNumber, accepted, unwritable, fieldOf, written, writeField}
 use Rattle.field.proofs.Tests.{tests, by-test}
@@ -28,34 +29,38 @@ digit-written l first (suc i) rest h u =
     let k : suc i - first ≡ suc (i - first) = omega arith in
     rw (e, k, set-at-front l i (digitZero + rest % 10) (omega arith), append-assoc)
 
-blank-between : (i : ℕ) (l : List ℕ) → replicate i blank ++ blank ∷ l ≡ blank ∷ replicate i blank ++ l
-blank-between zero l = refl
-blank-between (suc i) l = ap (λ r. blank ∷ r) (blank-between i l)
+-- Blanks stay before the digit that is written.
+pub blanks-left : (l : List ℕ) (at d : ℕ) → 0 < at → take at l ≡ replicate at blank
+    → take (at - 1) (set l (at - 1) d) ≡ replicate (at - 1) blank
+blanks-left l zero d h e = absurd (omega arith)
+blanks-left l (suc i) d h e =
+    let k : suc i - 1 ≡ i = omega arith in
+    let less : i ≤ suc i = omega arith in
+    rw (k, take-set-le i l i d (le-refl i)) (sym (take-take i (suc i) l less) ∙ ap (λ (r : List ℕ). take i r) e ∙ fewer i)
+  where
+    fewer : (n : ℕ) → take n (replicate (suc n) blank) ≡ replicate n blank
+    fewer zero = refl
+    fewer (suc n) = ap (λ (r : List ℕ). blank ∷ r) (fewer n)
 
-pub blank-written : (l : List ℕ) (at : ℕ) → 0 < at → at ≤ length l
-    → replicate (at - 1) blank ++ drop (at - 1) (set l (at - 1) blank) ≡ replicate at blank ++ drop at l
-blank-written l zero h u = absurd (omega arith)
-blank-written l (suc i) h u =
-    let e : suc i - 1 ≡ i = omega arith in
-    rw (e, set-at-front l i blank (omega arith), blank-between i (drop (suc i) l))
+pub all-blank : (l : List ℕ) → length l ≡ columns → sets l 0 (replicate columns blank) ≡ replicate columns blank
+all-blank l e =
+    let none = drop-of-length-le l {i = columns} (omega arith) in
+    sets-eq (replicate columns blank) l 0 (omega arith) ∙ rw none refl
 
--- Where the writing starts, where the blanks start, and where it ends.
+-- Where the writing of digits starts, and where it ends.
 pub starts : (l : List ℕ) (n count : ℕ) → length l ≡ columns → count ≡ digitCount n → count ≤ columns
     → digits (columns - (columns - count)) n ++ drop columns l ≡ digits (digitCount n) n
 starts l n count h e u =
     let all : columns - (columns - count) ≡ digitCount n = omega arith in
     rw (all, drop-of-length-le l {i = columns} (omega arith)) (append-nil _)
 
-pub digits-stand : (l : List ℕ) (n first at rest : ℕ) → at ≡ first → first ≡ columns - digitCount n
-    → digits (at - first) rest ++ drop at l ≡ digits (digitCount n) n → replicate at blank ++ drop at l ≡ fieldOf n
+pub all-stand : (l : List ℕ) (n first at rest : ℕ) → at ≡ first → first ≡ columns - digitCount n → take at l ≡ replicate at blank
+    → digits (at - first) rest ++ drop at l ≡ digits (digitCount n) n → l ≡ fieldOf n
 unfolding digits fieldOf
-digits-stand l n first at rest e f h =
+all-stand l n first at rest e f b h =
     let none : at - first ≡ 0 = omega arith in
     let place : at ≡ columns - digitCount n = omega arith in
-    rw (rw none at h, place)
-
-pub all-stand : (l : List ℕ) (n at : ℕ) → at ≡ 0 → replicate at blank ++ drop at l ≡ fieldOf n → l ≡ fieldOf n
-all-stand l n at e h = rw e at h
+    sym (take-append-drop at l) ∙ rw (b, (rw none at h), place) refl
 
 -- ---- the three ends of a write
 

@@ -1,10 +1,11 @@
 // The eight-column number: reading and writing one field (document 01, "Script program").
 ghost use Prim.Native.Nat.{_≤_, _<_};
 ghost use mathlib.Core.Path.{_≡_};
-ghost use lib.ListN.{length, take, drop};
+ghost use lib.ListN.{length, take, drop, replicate};
 ghost use Rattle.field.specs.Digits.{digitCount};
 ghost use Rattle.field.specs.Field.{
   columns,
+  blank,
   maxNumber,
   fieldOf,
   written,
@@ -48,22 +49,34 @@ fn digit_count(number: u32) -> u32
     count
 }
 
-// From the last column to the first: the digits, then the blanks.
+// Eight stores that the compiler joins into one.
+fn write_blanks(bytes: &mut [u8])
+    requires { ⌜ length (now bytes) ≡ columns ⌝ }
+    ensures { λ _. ⌜ now (bytes .exit) ≡ replicate columns blank ⌝ }
+{
+    bytes[0] = BLANK;
+    bytes[1] = BLANK;
+    bytes[2] = BLANK;
+    bytes[3] = BLANK;
+    bytes[4] = BLANK;
+    bytes[5] = BLANK;
+    bytes[6] = BLANK;
+    bytes[7] = BLANK;
+}
+
+// Blanks, then the digits over them from the last column on.
 fn write_columns(number: u32, bytes: &mut [u8])
     requires { ⌜ Writable number (now bytes) ⌝ }
     ensures { λ r. ⌜ now (bytes .exit) ≡ fieldOf number ⌝ }
 {
     let first = COLUMNS - digit_count(number) as usize;
+    write_blanks(bytes);
     let mut rest = number;
     let mut at = COLUMNS;
     while first < at {
         at -= 1;
         bytes[at] = DIGIT_ZERO + (rest % 10) as u8;
         rest = rest / 10;
-    }
-    while 0 < at {
-        at -= 1;
-        bytes[at] = BLANK;
     }
 }
 

@@ -1,14 +1,15 @@
--- The digits left and the columns written are the number's digits; then the blanks left and those columns are its field.
+-- The digits left and the columns written are the number's digits, and before these there are blanks.
 use Prim.Native.Nat.{_-_, _≤_}
-use mathlib.Core.Path.{_≡_, _∙_}
+use mathlib.Core.Path.{_≡_, sym, _∙_}
 use mathlib.Core.List.{_++_}
 use native.Mathlib.Omega.{arith}
 use borrow.Author.Needs.{needs}
-use lib.ListN.{length, drop, replicate, length-set}
+use lib.ListN.{length, take, drop, replicate, length-set}
+use lib.Seq.{take-all}
 use Rattle.field.specs.Digits.{digits, digitCount}
-use Rattle.field.specs.Field.{columns, blank, fieldOf}
+use Rattle.field.specs.Field.{columns, blank}
 use Rattle.field.proofs.Counts.{count-fits}
-use Rattle.field.proofs.Writing.{digit-written, blank-written, starts, digits-stand, all-stand}
+use Rattle.field.proofs.Writing.{digit-written, blanks-left, starts, all-stand}
 use Rattle.field.proofs.write_columns.Statement.{statement}
 use Rattle.field.proofs.write_columns.Tie as tie
 
@@ -16,40 +17,37 @@ abbrev Inv-loop : tie.InvT-loop
 Inv-loop number bytes₀ first rest₀ at₀ bytes rest at =
     (first ≤ at) × (at ≤ columns) × (length bytes ≡ columns) × (first ≡ columns - digitCount number)
     × (digits (at - first) rest ++ drop at bytes ≡ digits (digitCount number) number)
+    × (take at bytes ≡ replicate at blank)
 
 abbrev μ-loop : tie.MeasureT-loop
 μ-loop number bytes₀ first rest₀ at₀ bytes rest at = at
 
-abbrev Inv-loop2 : tie.InvT-loop2
-Inv-loop2 number bytes₀ first rest at₀ bytes at =
-    (at ≤ columns) × (length bytes ≡ columns) × (replicate at blank ++ drop at bytes ≡ fieldOf number)
-
-abbrev μ-loop2 : tie.MeasureT-loop2
-μ-loop2 number bytes₀ first rest at₀ bytes at = at
-
-cast-first : tie.Need-cast-first Inv-loop μ-loop Inv-loop2 μ-loop2
+cast-first : tie.Need-cast-first Inv-loop μ-loop
 cast-first c =
     let start = c .before .before in
     omega (arith, c .digit-count .ensures, count-fits (start .args .number) (start .pre .small))
 
-sub-first : tie.Need-sub-first Inv-loop μ-loop Inv-loop2 μ-loop2
+sub-first : tie.Need-sub-first Inv-loop μ-loop
 sub-first c =
     let start = c .before .before in
     omega (arith, c .digit-count .ensures, count-fits (start .args .number) (start .pre .small))
 
-loop-holds : tie.Need-loop-holds Inv-loop μ-loop Inv-loop2 μ-loop2
+loop-holds : tie.Need-loop-holds Inv-loop μ-loop
 loop-holds c =
-    let start = c .before .before in
-    let e = c .digit-count .ensures in
-    let u = count-fits (start .args .number) (start .pre .small) in (
+    let start = c .before .before .before .before .before .before in
+    let e = c .before .before .before .before .digit-count .ensures in
+    let u = count-fits (start .args .number) (start .pre .small) in
+    let blanks = c .before .before .write-blanks .ensures in
+    let long = c .before .bytes .given ∙ start .pre .eight in (
+      omega (arith, e, u),
       omega arith,
-      omega arith,
-      start .pre .eight,
-      omega arith,
-      starts (start .args .bytes .now) _ _ (start .pre .eight) e (omega arith),
+      long,
+      omega (arith, e, u),
+      starts (c .before .before .write-blanks .last .0) _ _ long e (omega (arith, e, u)),
+      take-all columns (c .before .before .write-blanks .last .0) (omega (arith, long)) ∙ blanks,
     )
 
-loop-again : tie.Need-loop-again Inv-loop μ-loop Inv-loop2 μ-loop2
+loop-again : tie.Need-loop-again Inv-loop μ-loop
 loop-again c =
     let l = c .before .loop in (
       omega arith,
@@ -57,30 +55,20 @@ loop-again c =
       simp length-set (l .inv .2),
       l .inv .3,
       digit-written (l .bytes) _ (l .at) (l .rest) (c .loop-test .taken) (omega arith) ∙ l .inv .4,
+      blanks-left (l .bytes) (l .at) _ (omega arith) (l .inv .5),
     )
 
-loop2-holds : tie.Need-loop2-holds Inv-loop μ-loop Inv-loop2 μ-loop2
-loop2-holds c =
-    let l = c .before .loop in
-    (l .inv .1, l .inv .2, digits-stand (l .bytes) _ _ (l .at) (l .rest) (omega arith) (l .inv .3) (l .inv .4))
-
-loop2-again : tie.Need-loop2-again Inv-loop μ-loop Inv-loop2 μ-loop2
-loop2-again c =
-    let l = c .before .loop2 in (
-      omega arith,
-      simp length-set (l .inv .1),
-      blank-written (l .bytes) (l .at) (c .loop2-test .taken) (omega arith) ∙ l .inv .2,
-    )
-
-returns : tie.Need-returns Inv-loop μ-loop Inv-loop2 μ-loop2
+returns : tie.Need-returns Inv-loop μ-loop
 returns c =
-    let l = c .before .loop2 in
-    all-stand (l .bytes) _ (l .at) (omega arith) (l .inv .2)
+    let l = c .before .loop in
+    all-stand (l .bytes) _ _ (l .at) (l .rest) (omega arith) (l .inv .3) (l .inv .5) (l .inv .4)
+
+same-length : tie.Need-same-length Inv-loop μ-loop
+same-length c = c .before .loop .inv .2 ∙ sym (c .before .before .before .before .before .before .before .before .pre .eight)
 
 pub write-columns-spec : {M : Type 1} → statement M
 write-columns-spec =
     tie.close
-    (tie.spec Inv-loop μ-loop Inv-loop2 μ-loop2 (λ c κs. search needs) cast-first sub-first loop-holds
-    (λ c. search needs) (λ c. search needs) (λ c. search needs) (λ c. search needs) (λ c. search needs)
-    loop-again loop2-holds (λ c. search needs) (λ c. search needs) (λ c. search needs) loop2-again
-    (λ c. search needs) returns)
+    (tie.spec Inv-loop μ-loop (λ c κs. search needs) cast-first sub-first (λ c κs. search needs) loop-holds
+    (λ c. search needs) (λ c. search needs) (λ c. search needs) (λ c. search needs) (λ c. search needs) loop-again
+    same-length returns)

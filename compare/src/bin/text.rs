@@ -179,16 +179,14 @@ fn put_answer(text: &mut [u8], line: u32, answer: Answer) {
     text[ANSWER_BYTES - 1] = b'\n';
 }
 
-/// From the last column to the first: the digits, then the blanks.
+/// Blanks, then the digits over them from the last column on.
 fn put_number(field: &mut [u8], number: u32) {
     let first = COLUMNS - digit_count(number);
+    field.copy_from_slice(b"        ");
     let mut rest = number;
     for at in (first..COLUMNS).rev() {
         field[at] = b'0' + (rest % 10) as u8;
         rest /= 10;
-    }
-    for byte in &mut field[..first] {
-        *byte = b' ';
     }
 }
 

@@ -5,7 +5,7 @@ use mathlib.Core.Bool.{true}
 use mathlib.Core.List.{List, [], _++_}
 use lib.ListN.{length}
 use Rattle.protocol.specs.declared.Answer.{Answer}
-use Rattle.protocol.specs.Memory.{Memory, Certificate, Assignment, ceiling, rowAt, replicaWords, certificateAt, certificateWords}
+use Rattle.protocol.specs.Memory.{Memory, Certificate, Assignment, ceiling, rowAt, certificateAt, certificateWords}
 use Rattle.protocol.specs.Memory.{certificate, words, assign, update}
 use Rattle.protocol.specs.Outcome.{Outcome, Rule, Need, left, firstRefusal, follow}
 use Rattle.protocol.specs.Calls.{issuing}
@@ -18,7 +18,7 @@ use Rattle.certificates.proofs.Issuing.{refused-by-needs, issued-at, refused-at
 use Rattle.certificates.proofs.Fits.{log-fits}
 use Rattle.layout.proofs.Within.{certificate-bounds}
 use Rattle.checks.proofs.Ready.{Ready, ReadyNumber, stopped, further}
-use Rattle.checks.proofs.Ends.{issues-alike}
+use Rattle.checks.proofs.Ends.{row-within, issues-alike, certificate-there}
 use Rattle.checker.specs.Steps.{Issuable, issuance}
 
 -- What `refused` and `accepted` give.
@@ -30,15 +30,12 @@ acceptedAnswer n = record { number = 0; first = n; second = 0 }
 
 -- ---- the first needs hold
 
-pub row-within : (m : Memory) (i : ℕ) → Ready m i → rowAt i + replicaWords ≤ length (m .table)
-row-within m i h = let own = h .own in let s = h .sizes in omega tests
-
 pub issuable : (m : Memory) (i : ℕ) → Ready m i → Issuable (m .table) (m .log) i
 issuable m i h = record { fits = log-fits m (h .formed); row = row-within m i h }
 
 pub signed-within : (m : Memory) (i number : ℕ) → ReadyNumber m i number
     → certificateAt number + certificateWords ≤ length (m .log)
-signed-within m i number h = let s = h .ready .sizes in let issued = h .issued in omega tests
+signed-within m i number h = let issued = h .issued in certificate-there m number (h .ready .sizes) (omega tests)
 
 pub signed-view : (m : Memory) (i number : ℕ) → ReadyNumber m i number → certificate m number .view ≤ ceiling
 signed-view m i number h = let issued = h .issued in certificate-bounds m (h .ready .formed) number (omega tests) .view

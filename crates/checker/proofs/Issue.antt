@@ -1,13 +1,13 @@
 -- The ways that an issuing call goes, from what the code's steps give.
-use Prim.Native.Nat.{ℕ, zero, suc, _+_, _≤_}
-use mathlib.Core.Path.{_≡_, refl, sym, _∙_}
+use Prim.Native.Nat.{ℕ, _+_, _≤_}
+use mathlib.Core.Path.{_≡_, refl, sym, ap, _∙_}
 use mathlib.Core.Bool.{true}
 use mathlib.Core.List.{List, [], _++_}
 use lib.ListN.{length}
 use Rattle.protocol.specs.declared.Answer.{Answer}
-use Rattle.protocol.specs.Memory.{Memory, Certificate, Assignment, ceiling, rowAt, replicaWords, certificateAt, certificateWords}
+use Rattle.protocol.specs.Memory.{Memory, Certificate, Assignment, ceiling, rowAt, certificateAt, certificateWords}
 use Rattle.protocol.specs.Memory.{certificate, words, assign, update}
-use Rattle.protocol.specs.Outcome.{Outcome, Rule, Need, left, firstRefusal, answered, follow}
+use Rattle.protocol.specs.Outcome.{Outcome, Rule, Need, left, firstRefusal, follow}
 use Rattle.protocol.specs.Calls.{issuing}
 use Rattle.protocol.proofs.Tests.{tests}
 use Rattle.protocol.proofs.Needs.{positive, all-pass}
@@ -18,6 +18,7 @@ use Rattle.certificates.proofs.Issuing.{refused-by-needs, issued-at, refused-at
 use Rattle.certificates.proofs.Fits.{log-fits}
 use Rattle.layout.proofs.Within.{certificate-bounds}
 use Rattle.checks.proofs.Ready.{Ready, ReadyNumber, stopped, further}
+use Rattle.checks.proofs.Ends.{row-within, issues-alike, certificate-there}
 use Rattle.checker.specs.Steps.{Issuable, issuance}
 
 -- What `refused` and `accepted` give.
@@ -29,15 +30,12 @@ acceptedAnswer n = record { number = 0; first = n; second = 0 }
 
 -- ---- the first needs hold
 
-pub row-within : (m : Memory) (i : ℕ) → Ready m i → rowAt i + replicaWords ≤ length (m .table)
-row-within m i h = let own = h .own in let s = h .sizes in omega tests
-
 pub issuable : (m : Memory) (i : ℕ) → Ready m i → Issuable (m .table) (m .log) i
 issuable m i h = record { fits = log-fits m (h .formed); row = row-within m i h }
 
 pub signed-within : (m : Memory) (i number : ℕ) → ReadyNumber m i number
     → certificateAt number + certificateWords ≤ length (m .log)
-signed-within m i number h = let s = h .ready .sizes in let issued = h .issued in omega tests
+signed-within m i number h = let issued = h .issued in certificate-there m number (h .ready .sizes) (omega tests)
 
 pub signed-view : (m : Memory) (i number : ℕ) → ReadyNumber m i number → certificate m number .view ≤ ceiling
 signed-view m i number h = let issued = h .issued in certificate-bounds m (h .ready .formed) number (omega tests) .view
@@ -79,18 +77,10 @@ module _ {m : Memory} {rule : Rule} {first more : List Need} {i : ℕ} {changes 
       → record { answer = a; memory = m } ≡ follow m rule
   stops-further pass p e h = stops p (further first more (issue .first-numbered) refl pass e) h
 
--- The needs of a rule do not matter once they hold.
-answered-alike : (n : ℕ) (m : Memory) (needs : List Need) (i : ℕ) (changes : List Assignment) (c : Certificate)
-    → answered n m (issuing m [] i changes c) ≡ answered n m (issuing m needs i changes c)
-unfolding answered issuing
-answered-alike zero m needs i changes c = refl
-answered-alike (suc n) m needs i changes c = refl
-
 module _ {m : Memory} {rule : Rule} {first more : List Need} {i : ℕ} {changes : List Assignment} {c : Certificate}
     (issue : Issues m rule first more i changes c) where
   pub passes : firstRefusal first ≡ 0 → firstRefusal more ≡ 0 → {o : Outcome} → o ≡ issuance m i changes c → o ≡ follow m rule
-  unfolding issuance follow issuing
+  unfolding issuance
   passes p q e =
       let pass = issue .same-refusal ∙ all-pass first more (issue .first-numbered) p ∙ q in
-      e ∙ answered-alike _ m (issue .needs) i changes c
-      ∙ (rw (issue .is, all-pass (issue .needs) _ (issue .numbered) pass) refl)
+      e ∙ issues-alike m (issue .needs) i changes c (issue .numbered) (sym pass) ∙ ap (follow m) (sym (issue .is))

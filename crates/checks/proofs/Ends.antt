@@ -1,16 +1,17 @@
--- How a call ends that issues nothing: what it gives where a need fails, and where all hold.
-use Prim.Native.Nat.{ℕ, _+_, _≤_, _<_}
-use mathlib.Core.Path.{_≡_, sym, _∙_}
+-- How a call ends: what it gives where a need fails, and where all hold.
+use Prim.Native.Nat.{ℕ, zero, suc, _+_, _≤_, _<_}
+use mathlib.Core.Path.{_≡_, refl, sym, ap, _∙_}
 use mathlib.Core.Bool.{Bool, true, false}
-use mathlib.Core.List.{List, _∷_}
+use mathlib.Core.List.{List, [], _∷_}
 use native.Mathlib.Omega.{arith}
 use lib.ListN.{length}
 use Rattle.protocol.specs.declared.Answer.{Answer}
-use Rattle.protocol.specs.Memory.{Memory, rowAt, replicaWords, certificateCount, certificateAt, certificateWords}
-use Rattle.protocol.specs.Outcome.{Need, _else_, Rule, firstRefusal, follow}
+use Rattle.protocol.specs.Memory.{Memory, Certificate, Assignment, rowAt, replicaWords, certificateCount, certificateAt, certificateWords}
+use Rattle.protocol.specs.Outcome.{Need, _else_, Rule, firstRefusal, answered, follow}
+use Rattle.protocol.specs.Calls.{issuing}
 use Rattle.protocol.proofs.Tests.{tests}
 use Rattle.protocol.proofs.Needs as Needs
-use Rattle.protocol.proofs.Needs.{fails, holds}
+use Rattle.protocol.proofs.Needs.{positive, all-pass, fails, holds}
 use Rattle.protocol.proofs.Formed.{Sizes}
 use Rattle.checks.specs.Needs.{replicaNeeds, numberNeeds, listNeeds}
 use Rattle.checks.proofs.Ready.{Ready, ready, ReadyNumber, ready-number, ReadyList, ready-list}
@@ -32,6 +33,18 @@ module _ (m : Memory) (rule : Rule) where
   pub accepts : {a : Answer} {m′ : Memory} → a ≡ record { number = 0; first = rule .first; second = rule .second }
       → m′ ≡ rule .after → 0 ≡ firstRefusal (rule .needs) → record { answer = a; memory = m′ } ≡ follow m rule
   accepts e after r = rw (e, after) (Needs.accepts m rule r)
+
+-- A call that issues a certificate: the needs before its place in the log do not matter once they hold.
+pub issues-alike : (m : Memory) (needs : List Need) (i : ℕ) (changes : List Assignment) (c : Certificate) → positive needs ≡ true
+    → 0 ≡ firstRefusal needs → follow m (issuing m [] i changes c) ≡ follow m (issuing m needs i changes c)
+unfolding follow answered issuing
+issues-alike m needs i changes c numbered pass =
+    go (firstRefusal (issuing m [] i changes c .needs))
+    ∙ ap (λ (n : ℕ). answered n m (issuing m needs i changes c)) (sym (all-pass needs _ numbered (sym pass)))
+  where
+    go : (n : ℕ) → answered n m (issuing m [] i changes c) ≡ answered n m (issuing m needs i changes c)
+    go zero = refl
+    go (suc n) = refl
 
 -- ---- what reading asks: the row of a replica that the first needs accept, the words of a certificate that is issued
 

@@ -1,25 +1,21 @@
--- Reply, from what the code reads, files and writes.
+-- Reply, from what the code reads and issues.
 use Prim.Native.Nat.{ℕ}
 use mathlib.Core.Path.{_≡_, refl, ap, _∙_}
-use mathlib.Core.List.{List, _++_}
+use mathlib.Core.List.{List, [], _++_}
 use Rattle.protocol.specs.declared.Answer.{Answer}
 use Rattle.protocol.specs.Memory as Memory
-use Rattle.protocol.specs.Memory.{Memory, memory, rowAt, replica, certificate, words}
-use Rattle.protocol.specs.Memory.{assign, update}
+use Rattle.protocol.specs.Memory.{Memory, Assignment, replica, certificate}
 use Rattle.protocol.specs.Certificates.{replyOf}
-use Rattle.protocol.specs.Outcome.{Need, firstRefusal, follow}
+use Rattle.protocol.specs.Outcome.{Outcome, Need, firstRefusal, follow}
 use Rattle.protocol.specs.Calls.{issuing, reply}
 use Rattle.certificates.specs.declared.Certificate.{Certificate}
-use Rattle.certificates.specs.declared.Filed.{Filed}
-use Rattle.certificates.specs.declared.Filed.the-variants.{At, Refused}
-use Rattle.certificates.specs.Filing.{Result, certificateOf, filing, refusalOf}
+use Rattle.certificates.specs.Filing.{certificateOf}
 use Rattle.checks.specs.Needs.{numberNeeds}
 use Rattle.checks.proofs.Ready.{stopped, further}
 use Rattle.records.specs.declared.Replica.{Replica}
 use Rattle.records.specs.Replicas.{replicaOf}
 use Rattle.recovery.specs.Tests.{replyTests, raising}
-use Rattle.checks.proofs.Ends.{refuses}
-use Rattle.recovery.proofs.Issues.{full, issued}
+use Rattle.checks.proofs.Ends.{refuses, issues-alike}
 
 module _ (m : Memory) (i number : ℕ) {first : ℕ} (ready : first ≡ firstRefusal (numberNeeds m i number)) (pass : first ≡ 0)
     (r : Replica) (read : replicaOf r ≡ replica m i) (q : Certificate) (asked : certificateOf q ≡ certificate m number)
@@ -42,7 +38,6 @@ module _ (m : Memory) (i number : ℕ) {first : ℕ} (ready : first ≡ firstRef
 
     module _ (all : n ≡ 0) {d : Certificate}
         (made : certificateOf d ≡ replyOf i (q .view) (r .«stored_block») (r .«stored_view») (q .signer) (q .boot))
-        {filed : Filed} {m′ : Memory} (files : record { outcome = filed; memory = m′ } ≡ filing m (words (certificateOf d)))
       where
         abbrev answer : Memory.Replica → Memory.Certificate → Memory.Certificate
         answer x y = replyOf i (y .view) (x .storedBlock) (x .storedView) (y .signer) (y .boot)
@@ -50,15 +45,16 @@ module _ (m : Memory) (i number : ℕ) {first : ℕ} (ready : first ≡ firstRef
         its : certificateOf d ≡ answer (replica m i) (certificate m number)
         its = made ∙ ap (λ (x : Memory.Replica). answer x (certificateOf q)) read ∙ ap (answer (replica m i)) asked
 
-        pub reply-full : {k h : ℕ} {a : Answer} → filed ≡ Refused k → h ≡ refusalOf filed
-            → a ≡ record { number = h; first = 0; second = 0 } → record { answer = a; memory = m′ } ≡ follow m (reply m i number)
-        unfolding reply
-        reply-full told held e = full m needs i _ _ refl (rw all at refusal-is) its files told held e
+        abbrev rises : List Assignment
+        rises = raising (replica m i .minView) (certificate m number .view)
 
-        pub reply-issued : {k : ℕ} {a : Answer} {t : List ℕ} → filed ≡ At k → a ≡ record { number = 0; first = k; second = 0 }
-            → t ≡ assign (m′ .table) (rowAt i) (raising (r .«min_view») (q .view))
-            → record { answer = a; memory = memory t (m′ .log) (m′ .blocks) } ≡ follow m (reply m i number)
-        unfolding reply update
-        reply-issued told e w =
-            issued m needs i _ _ refl (rw all at refusal-is) its files told e
-            (rw (w, ap (λ (x : Memory.Replica). x .minView) read, ap (λ (x : Memory.Certificate). x .view) asked))
+        changes-are : raising (r .«min_view») (d .view) ≡ rises
+        changes-are = rw (ap (λ (x : Memory.Replica). x .minView) read, ap (λ (x : Memory.Certificate). x .view) its) refl
+
+        pub reply-issues : {o : Outcome} → o ≡ follow m (issuing m [] i (raising (r .«min_view») (d .view)) (certificateOf d))
+            → o ≡ follow m (reply m i number)
+        unfolding reply
+        reply-issues e =
+            e ∙ ap (λ (changes : List Assignment). follow m (issuing m [] i changes (certificateOf d))) changes-are
+            ∙ ap (λ (c : Memory.Certificate). follow m (issuing m [] i rises c)) its
+            ∙ issues-alike m needs i rises _ refl (rw all at refusal-is)

@@ -1,12 +1,13 @@
 // The calls of a restarted replica and of those that help it (document 01, "Calls"): request, reply, recover.
 ghost use mathlib.Core.Path.{_≡_};
-ghost use Prim.Native.Nat.{_+_, _≤_, max};
+ghost use mathlib.Core.List.{List, []};
+ghost use Prim.Native.Nat.{ℕ, _+_, _≤_, max};
 ghost use lib.ListN.{length};
 ghost use Rattle.protocol.specs.Memory.{rowAt, replicaWords, assign};
 ghost use Rattle.protocol.specs.Certificates.{reqOf, replyOf};
 ghost use Rattle.protocol.specs.Outcome.{left, firstRefusal, outcomeBy};
-ghost use Rattle.protocol.specs.Calls.{request as requestRule, reply as replyRule, recover as recoverRule};
-ghost use Rattle.certificates.specs.Filing.{certificateOf};
+ghost use Rattle.protocol.specs.Calls.{issuing, request as requestRule, reply as replyRule, recover as recoverRule};
+ghost use Rattle.certificates.specs.Filing.{LogFits, certificateOf};
 ghost use Rattle.records.specs.Replicas.{replicaOf};
 ghost use Rattle.recovery.specs.Tests.{replyTests, raising, restored};
 use certificates::Certificate;
@@ -32,6 +33,32 @@ use records::Replica;
 const REQ: u32 = 5;
 
 const REPLY: u32 = 6;
+
+// The min view rises to a view that is above it, and the flag is lowered then.
+fn raise_min_view(table: &mut [u32], replica: u32, min_view: u32, view: u32)
+    requires { ⌜ rowAt replica + replicaWords ≤ length (now table) ⌝ }
+    ensures { λ _. ⌜ now (table .exit) ≡ assign (now (table .entry)) (rowAt replica) (raising «min_view» view) ⌝ }
+{
+    if min_view < view {
+        set_replica_word(table, replica, MIN_VIEW_AT, view);
+        set_replica_word(table, replica, FLAG_AT, LOWERED);
+    }
+}
+
+// Issues a certificate; the replica's min view rises to the certificate's view.
+fn issue(table: &mut [u32], log: &mut [u32], replica: u32, min_view: u32, c: Certificate) -> Answer
+    requires { ⌜ LogFits (now table) (now log) × (rowAt replica + replicaWords ≤ length (now table)) ⌝ }
+    ensures { λ r. ⌜ ((b : List ℕ) → left r (now (table .exit)) (now (log .exit)) b
+        ≡ outcomeBy (λ m. issuing m [] replica (raising «min_view» (c .view)) (certificateOf c))
+        (now (table .entry)) (now (log .entry)) b) ⌝ }
+{
+    let filed = certificates::file(table, log, c);
+    let Filed::At(number) = filed else {
+        return refused(certificates::refusal_of(filed));
+    };
+    raise_min_view(table, replica, min_view, c.view);
+    accepted(number, 0)
+}
 
 // What a restarted replica asks the others with.
 fn req(replica: u32, r: Replica) -> Certificate
@@ -60,11 +87,7 @@ pub fn request(table: &mut [u32], log: &mut [u32], blocks: &mut [u32], replica: 
     if r.status != RECOVERING {
         return refused(WRONG_STATUS);
     }
-    let filed = certificates::file(table, log, req(replica, r));
-    let Filed::At(number) = filed else {
-        return refused(certificates::refusal_of(filed));
-    };
-    accepted(number, 0)
+    issue(table, log, replica, r.min_view, req(replica, r))
 }
 
 // A replica may answer this certificate.
@@ -102,17 +125,6 @@ fn reply_to(replica: u32, r: Replica, q: Certificate) -> Certificate
     }
 }
 
-// The min view rises to a view that is above it, and the flag is lowered then.
-fn raise_min_view(table: &mut [u32], replica: u32, min_view: u32, view: u32)
-    requires { ⌜ rowAt replica + replicaWords ≤ length (now table) ⌝ }
-    ensures { λ _. ⌜ now (table .exit) ≡ assign (now (table .entry)) (rowAt replica) (raising «min_view» view) ⌝ }
-{
-    if min_view < view {
-        set_replica_word(table, replica, MIN_VIEW_AT, view);
-        set_replica_word(table, replica, FLAG_AT, LOWERED);
-    }
-}
-
 pub fn reply(
     table: &mut [u32],
     log: &mut [u32],
@@ -133,12 +145,7 @@ pub fn reply(
     if refusal != 0 {
         return refused(refusal);
     }
-    let filed = certificates::file(table, log, reply_to(replica, r, q));
-    let Filed::At(issued) = filed else {
-        return refused(certificates::refusal_of(filed));
-    };
-    raise_min_view(table, replica, r.min_view, q.view);
-    accepted(issued, 0)
+    issue(table, log, replica, r.min_view, reply_to(replica, r, q))
 }
 
 fn larger(a: u32, b: u32) -> u32

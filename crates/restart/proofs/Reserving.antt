@@ -12,7 +12,7 @@ use Rattle.protocol.specs.Outcome.{firstRefusal, follow}
 use Rattle.protocol.specs.Calls.{reserve}
 use Rattle.protocol.proofs.Tests.{tests}
 use Rattle.checks.specs.Needs.{replicaNeeds}
-use Rattle.checks.proofs.Ready.{Ready, stopped, further}
+use Rattle.checks.proofs.Ready.{Ready, further}
 use Rattle.layout.proofs.Within.{replica-bounds}
 use Rattle.counter.proofs.Steps.{step-bounds}
 use Rattle.records.specs.declared.Replica.{Replica}

@@ -2,7 +2,8 @@ use mathlib.Core.Path.{sym, _∙_}
 use native.Mathlib.Omega.{arith}
 use borrow.Author.Needs.{needs}
 use Rattle.protocol.proofs.Tests.{tests}
-use Rattle.checker.proofs.Issue.{row-within, issuable, stops-first, stops-further, passes}
+use Rattle.checks.proofs.Ends.{row-within}
+use Rattle.checker.proofs.Issue.{issuable, stops-first, stops-further, passes}
 use Rattle.checker.proofs.Rules.{preparing}
 use Rattle.checker.proofs.Grounds.{ready-justification, not-known, not-live, no-ground, on-ground, given-by}
 use Rattle.checker.proofs.prepare.Statement.{statement}

@@ -2,7 +2,8 @@ use mathlib.Core.Path.{sym, _∙_}
 use native.Mathlib.Omega.{arith}
 use borrow.Author.Needs.{needs}
 use Rattle.checks.proofs.Ready.{ready-number}
-use Rattle.checker.proofs.Issue.{row-within, issuable, signed-within, signed-view, stops-first, stops-further, passes}
+use Rattle.checks.proofs.Ends.{row-within}
+use Rattle.checker.proofs.Issue.{issuable, signed-within, signed-view, stops-first, stops-further, passes}
 use Rattle.checker.proofs.Rules.{storing}
 use Rattle.checker.proofs.store.Statement.{statement}
 use Rattle.checker.proofs.store.Tie as tie

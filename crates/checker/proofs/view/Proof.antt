@@ -2,7 +2,8 @@ use mathlib.Core.Path.{sym, _∙_}
 use native.Mathlib.Omega.{arith}
 use borrow.Author.Needs.{needs}
 use Rattle.checks.proofs.Ready.{ready}
-use Rattle.checker.proofs.Issue.{row-within, issuable, stops-first, stops-further, passes}
+use Rattle.checks.proofs.Ends.{row-within}
+use Rattle.checker.proofs.Issue.{issuable, stops-first, stops-further, passes}
 use Rattle.checker.proofs.Rules.{viewing}
 use Rattle.checker.proofs.view.Statement.{statement}
 use Rattle.checker.proofs.view.Tie as tie

@@ -1,8 +1,5 @@
-use mathlib.Core.Path.{_∙_}
-use native.Mathlib.Omega.{arith}
 use borrow.Author.Needs.{needs}
 use borrow.Author.Tests.{lt-ltb, le-ltb}
-use lib.ListN.{length-set}
 use Rattle.recovery.proofs.raise_min_view.Statement.{statement}
 use Rattle.recovery.proofs.raise_min_view.Tie as tie
 

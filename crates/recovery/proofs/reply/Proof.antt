@@ -1,12 +1,10 @@
-use native.Mathlib.Omega.{arith}
 use borrow.Author.Needs.{needs}
 use Rattle.protocol.specs.Calls.{issuing, reply as replyRule}
 use Rattle.protocol.proofs.Tests.{tests}
 use Rattle.certificates.proofs.Fits.{log-fits}
 use Rattle.checks.proofs.Ready.{stopped}
 use Rattle.checks.proofs.Ends.{refuses, number-by, row-within, certificate-there}
-use Rattle.recovery.proofs.Issues.{filed-length}
-use Rattle.recovery.proofs.Replying.{reply-refused, reply-full, reply-issued}
+use Rattle.recovery.proofs.Replying.{reply-refused, reply-issues}
 use Rattle.recovery.proofs.reply.Statement.{statement}
 use Rattle.recovery.proofs.reply.Tie as tie
 
@@ -37,58 +35,33 @@ returns-2 c =
     reply-refused _ _ _ (first .number-refusal .ensures) (ok .if1 .left) _ (r .replica-in .ensures)
     _ (q .certificate-in .ensures) (tests .reply-refusal .ensures) (c .refused2 .ensures) (c .before .if2 .taken)
 
-file-requires : tie.Need-file-requires
-file-requires c κs =
+issue-requires : tie.Need-issue-requires
+issue-requires c κs =
     let ok = c .before .before .before .before .before .before .before .before .before in
     let first = ok .before in
-    log-fits _ (number-by _ _ _ (first .number-refusal .ensures) (ok .if1 .left) .ready .formed)
+    let w = number-by _ _ _ (first .number-refusal .ensures) (ok .if1 .left) .ready in
+    (log-fits _ (w .formed), row-within _ _ w)
 
 returns-3 : tie.Need-returns-3
 returns-3 c =
-    let told = c .before .before in
-    let files = told .before .before .before .before .before .before in
-    let made = files .before in
+    let issues = c .before .before .before .before in
+    let made = issues .before in
     let all = made .before .before .before in
     let tests = all .before in
     let q = tests .before in
     let r = q .before .before in
     let ok = r .before .before in
-    let first = ok .before in
-    reply-full _ _ _ (first .number-refusal .ensures) (ok .if1 .left) _ (r .replica-in .ensures)
-    _ (q .certificate-in .ensures) (tests .reply-refusal .ensures) (all .if2 .left) (made .reply-to .ensures)
-    (files .file .ensures _) (told .enum-told .given .1) (c .before .refusal-of .ensures) (c .refused3 .ensures)
-
-raise-min-view-requires : tie.Need-raise-min-view-requires
-raise-min-view-requires c κs =
-    let files = c .before .before .before .before .before .before .before .before in
-    let ok = files .before .before .before .before .before .before .before .before .before .before in
     let first = ok .before in
     let start = first .before .before .before .before .before .before .before in
-    let row = row-within _ _ (number-by _ _ _ (first .number-refusal .ensures) (ok .if1 .left) .ready) in
-    omega (arith, row, filed-length _ _ _ (files .file .ensures (start .args .blocks .now)))
-
-returns-4 : tie.Need-returns-4
-returns-4 c =
-    let raised = c .before .before .before in
-    let told = raised .before .before .before in
-    let files = told .before .before .before .before .before .before in
-    let made = files .before in
-    let all = made .before .before .before in
-    let tests = all .before in
-    let q = tests .before in
-    let r = q .before .before in
-    let ok = r .before .before in
-    let first = ok .before in
-    reply-issued _ _ _ (first .number-refusal .ensures) (ok .if1 .left) _ (r .replica-in .ensures)
+    reply-issues _ _ _ (first .number-refusal .ensures) (ok .if1 .left) _ (r .replica-in .ensures)
     _ (q .certificate-in .ensures) (tests .reply-refusal .ensures) (all .if2 .left) (made .reply-to .ensures)
-    (files .file .ensures _) (told .filed .given .1) (c .accepted .ensures) (raised .raise-min-view .ensures)
+    (issues .issue .ensures (start .args .blocks .now))
 
 pub reply-spec : {M : Type 1} → statement M
 reply-spec =
     tie.close
-    (tie.spec (λ c κs. search needs) (λ c κs. search needs) (λ c. search needs) (λ c. search needs) (λ c.
-    search needs) returns replica-in-requires certificate-in-requires (λ c κs. search needs) (λ c κs. search
-    needs) (λ c. search needs) (λ c. search needs) (λ c. search needs) returns-2 (λ c κs. search needs)
-    file-requires (λ c. search needs) (λ c. search needs) (λ c κs. search needs) (λ c κs. search needs) (λ c.
-    search needs) (λ c. search needs) (λ c. search needs) returns-3 raise-min-view-requires (λ c κs. search
-    needs) (λ c. search needs) (λ c. search needs) (λ c. search needs) returns-4)
+    (tie.spec (λ c κs. search needs) (λ c κs. search needs) (λ c. search needs) (λ c. search needs)
+    (λ c. search needs) returns replica-in-requires certificate-in-requires (λ c κs. search needs)
+    (λ c κs. search needs) (λ c. search needs) (λ c. search needs) (λ c. search needs) returns-2
+    (λ c κs. search needs) issue-requires (λ c. search needs) (λ c. search needs) (λ c. search needs)
+    returns-3)

@@ -1,10 +1,9 @@
-use native.Mathlib.Omega.{arith}
 use borrow.Author.Needs.{needs}
 use Rattle.protocol.specs.Calls.{issuing, request as requestRule}
 use Rattle.certificates.proofs.Fits.{log-fits}
 use Rattle.checks.proofs.Ready.{stopped}
 use Rattle.checks.proofs.Ends.{refuses, ready-by, row-within}
-use Rattle.recovery.proofs.Requesting.{request-refused, request-full, request-issued}
+use Rattle.recovery.proofs.Requesting.{request-refused, request-issues}
 use Rattle.recovery.proofs.request.Statement.{statement}
 use Rattle.recovery.proofs.request.Tie as tie
 
@@ -26,41 +25,29 @@ returns-2 c =
     request-refused _ _ (first .replica-refusal .ensures) (ok .if1 .left) _ (r .replica-in .ensures)
     (c .before .if2 .taken) (c .refused2 .ensures)
 
-file-requires : tie.Need-file-requires
-file-requires c κs =
+issue-requires : tie.Need-issue-requires
+issue-requires c κs =
     let ok = c .before .before .before .before .before .before .before in
     let first = ok .before in
-    log-fits _ (ready-by _ _ (first .replica-refusal .ensures) (ok .if1 .left) .formed)
+    let w = ready-by _ _ (first .replica-refusal .ensures) (ok .if1 .left) in
+    (log-fits _ (w .formed), row-within _ _ w)
 
 returns-3 : tie.Need-returns-3
 returns-3 c =
-    let told = c .before .before in
-    let files = told .before .before .before .before .before .before in
-    let made = files .before in
+    let issues = c .before .before .before .before in
+    let made = issues .before in
     let waits = made .before .before .before in
     let r = waits .before .before in
     let ok = r .before .before in
     let first = ok .before in
-    request-full _ _ (first .replica-refusal .ensures) (ok .if1 .left) _ (r .replica-in .ensures) (waits .if2 .left)
-    (made .req .ensures) (files .file .ensures _) (told .enum-told .given .1) (c .before .refusal-of .ensures) (c .refused3 .ensures)
-
-returns-4 : tie.Need-returns-4
-returns-4 c =
-    let told = c .before .before in
-    let files = told .before .before .before .before .before .before in
-    let made = files .before in
-    let waits = made .before .before .before in
-    let r = waits .before .before in
-    let ok = r .before .before in
-    let first = ok .before in
-    request-issued _ _ (first .replica-refusal .ensures) (ok .if1 .left) _ (r .replica-in .ensures) (waits .if2 .left)
-    (made .req .ensures) (files .file .ensures _) (told .filed .given .1) (c .accepted .ensures)
+    let start = first .before .before .before .before .before .before .before in
+    request-issues _ _ (first .replica-refusal .ensures) (ok .if1 .left) _ (r .replica-in .ensures) (waits .if2 .left)
+    (made .req .ensures) (issues .issue .ensures (start .args .blocks .now))
 
 pub request-spec : {M : Type 1} → statement M
 request-spec =
     tie.close
-    (tie.spec (λ c κs. search needs) (λ c κs. search needs) (λ c. search needs) (λ c. search needs) (λ c.
-    search needs) returns replica-in-requires (λ c κs. search needs) (λ c. search needs) (λ c. search needs) (λ
-    c. search needs) returns-2 (λ c κs. search needs) file-requires (λ c. search needs) (λ c. search needs) (λ
-    c κs. search needs) (λ c κs. search needs) (λ c. search needs) (λ c. search needs) (λ c. search needs)
-    returns-3 (λ c κs. search needs) (λ c. search needs) (λ c. search needs) (λ c. search needs) returns-4)
+    (tie.spec (λ c κs. search needs) (λ c κs. search needs) (λ c. search needs) (λ c. search needs)
+    (λ c. search needs) returns replica-in-requires (λ c κs. search needs) (λ c. search needs)
+    (λ c. search needs) (λ c. search needs) returns-2 (λ c κs. search needs) issue-requires (λ c. search needs)
+    (λ c. search needs) (λ c. search needs) returns-3)

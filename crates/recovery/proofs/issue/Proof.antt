@@ -1,0 +1,24 @@
+use borrow.Author.Needs.{needs}
+use Rattle.recovery.proofs.Issues.{full, issued}
+use Rattle.recovery.proofs.issue.Statement.{statement}
+use Rattle.recovery.proofs.issue.Tie as tie
+
+returns : tie.Need-returns
+returns c =
+    let told = c .before .before in
+    let files = told .before .before .before .before .before .before in
+    λ b. full _ _ _ _ (files .file .ensures b) (told .enum-told .given .1) (c .before .refusal-of .ensures) (c .refused .ensures)
+
+returns-2 : tie.Need-returns-2
+returns-2 c =
+    let raised = c .before .before .before in
+    let told = raised .before .before .before in
+    let files = told .before .before .before .before .before .before in
+    λ b. issued _ _ _ _ (files .file .ensures b) (told .filed .given .1) (c .accepted .ensures) (raised .raise-min-view .ensures)
+
+pub issue-spec : {M : Type 1} → statement M
+issue-spec =
+    tie.close
+    (tie.spec (λ c κs. search needs) (λ c. search needs) (λ c. search needs) (λ c κs. search needs)
+    (λ c κs. search needs) (λ c. search needs) (λ c. search needs) returns (λ c κs. search needs)
+    (λ c κs. search needs) (λ c. search needs) (λ c. search needs) returns-2)

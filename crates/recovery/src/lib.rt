@@ -45,7 +45,7 @@ fn raise_min_view(table: &mut [u32], replica: u32, min_view: u32, view: u32)
     }
 }
 
-// Issues a certificate; the replica's min view rises to the certificate's view.
+// Issues a certificate; the replica's min view rises to the certificate's view where that is above it. A REQ's view is the min view.
 fn issue(table: &mut [u32], log: &mut [u32], replica: u32, min_view: u32, c: Certificate) -> Answer
     requires { ⌜ LogFits (now table) (now log) × (rowAt replica + replicaWords ≤ length (now table)) ⌝ }
     ensures { λ r. ⌜ ((b : List ℕ) → left r (now (table .exit)) (now (log .exit)) b

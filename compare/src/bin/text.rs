@@ -1,30 +1,24 @@
 //! `text`: yard's loops over text, transcribed into plain Rust as the measure of their speed.
 //!
-//! Unlike everything else here it is made from the proved sources (crates/stream, script, field, codes), loop by loop.
-//! It is for timing only and judges nothing. It has no ledger: a line that makes a call gets 1, as before any opening.
+//! Unlike everything else here it is made from the proved sources (crates/stream, script, field), loop by loop.
+//! It is for timing only and judges nothing. It opens no ledger: a line of numbers is called as before any opening.
 
-use std::hint::black_box;
+use judge::call::{call, Outcome};
+use judge::memory::Memory;
+use judge::mistake::Correct;
 use std::io::{Read, Write};
 
 const INPUT_BLOCK: usize = 8192;
 const COLUMNS: usize = 8;
 const MIN_FIELDS: usize = 3;
 const MAX_FIELDS: usize = 34;
-const MAX_LIST: usize = 31;
 const MAX_NUMBER: u32 = 99_999_999;
 const NO_NUMBER: u32 = u32::MAX;
 const UNREADABLE: u32 = 10;
-const WRONG_FORM: u32 = 1;
 const FEED_STEP: usize = 16;
 /// One more byte than a readable line can have.
 const HELD_PLACES: usize = 273;
 const ANSWER_BYTES: usize = 33;
-
-struct Answer {
-    number: u32,
-    first: u32,
-    second: u32,
-}
 
 /// The line that goes on in the next block, and the number of lines answered.
 struct Progress {
@@ -110,13 +104,15 @@ fn line_end(block: &[u8], from: usize) -> usize {
     at
 }
 
-/// yard's answers come from a ledger, so the compiler may not know their values here either.
-fn answer_line(line: &[u8]) -> Answer {
+/// A line of numbers is called on a ledger that is not open, by the library: no table is lent.
+fn answer_line(line: &[u8]) -> Outcome {
     let mut given = [0; MAX_FIELDS];
     let count = read_numbers(line, &mut given);
-    let is_call = count != 0 && is_call(given[0], given[1], given[2], &given[MIN_FIELDS..count]);
-    let number = if is_call { WRONG_FORM } else { UNREADABLE };
-    black_box(Answer { number, first: 0, second: 0 })
+    if count == 0 {
+        return Outcome { answer: UNREADABLE, first: 0, second: 0 };
+    }
+    let mut memory = Memory { table: &mut [], log: &mut [], blocks: &mut [] };
+    call(Correct, &mut memory, given[0], given[1], given[2], &given[MIN_FIELDS..count])
 }
 
 /// Reads the line's numbers; gives how many there are, 0 for a line that cannot be read.
@@ -159,20 +155,8 @@ fn read_digits(field: &[u8], first: usize) -> u32 {
     number
 }
 
-fn is_call(code: u32, replica: u32, number: u32, list: &[u32]) -> bool {
-    match code {
-        0 | 8 | 9 | 10 => number == 0 && list.is_empty(),
-        1 => replica == 0 && list.is_empty(),
-        2 => list.len() == 1,
-        3 => list.len() <= MAX_LIST,
-        4 | 5 | 11 => list.is_empty(),
-        6 | 7 | 12 => number == 0 && list.len() <= MAX_LIST,
-        _ => false,
-    }
-}
-
-fn put_answer(text: &mut [u8], line: u32, answer: Answer) {
-    let numbers = [line, answer.number, answer.first, answer.second];
+fn put_answer(text: &mut [u8], line: u32, outcome: Outcome) {
+    let numbers = [line, outcome.answer, outcome.first, outcome.second];
     for (field, number) in text.chunks_exact_mut(COLUMNS).zip(numbers) {
         put_number(field, number);
     }

@@ -64,8 +64,8 @@ fn write_blanks(bytes: &mut [u8])
     bytes[7] = BLANK;
 }
 
-// Blanks, then the digits over them from the last column on.
-fn write_columns(number: u32, bytes: &mut [u8])
+// The field of a number that has one: blanks, then the digits over them from the last column on.
+pub fn write_columns(number: u32, bytes: &mut [u8])
     requires { ⌜ Writable number (now bytes) ⌝ }
     ensures { λ r. ⌜ now (bytes .exit) ≡ fieldOf number ⌝ }
 {

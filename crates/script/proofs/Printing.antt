@@ -1,28 +1,22 @@
 -- Text that grows by a field.
 use Prim.Native.Nat.{ℕ, suc, _+_, _*_, _≤_, _<_}
-use mathlib.Core.Path.{_≡_, refl, sym, ap, _∙_}
+use mathlib.Core.Path.{_≡_, sym, ap, _∙_}
 use mathlib.Core.List.{List, [], _∷_, _++_, append-assoc}
 use lib.ListN.{length, take, set, length-append}
 use lib.Seq.{take-at, take-suc-set, length-take-le}
 use native.Mathlib.Omega.{arith}
 use Rattle.protocol.specs.declared.Answer.{Answer}
-use Rattle.field.specs.Field.{columns, maxNumber, fieldOf, Written, written, writeField}
-use Rattle.field.proofs.Writing.{is-written}
+use Rattle.field.specs.Field.{columns, maxNumber, fieldOf}
 use Rattle.field.proofs.Theorems.{length-field}
 use Rattle.script.specs.Text.{lineFeed, answerText, answerBytes}
 
--- What a write leaves of eight columns, where the number fits.
-field-stands : (n : ℕ) (old part : List ℕ) {r : ℕ} → length old ≡ columns → n ≤ maxNumber → written r part ≡ writeField n old
-    → part ≡ fieldOf n
-field-stands n old part e h w = ap (λ (x : Written). x .bytes) (w ∙ sym (is-written n old (fieldOf n) e h refl))
-
-pub field-put : (text rest old part : List ℕ) (at n : ℕ) {r : ℕ} → at ≤ length text → length old ≡ columns → n ≤ maxNumber
-    → written r part ≡ writeField n old → take (at + columns) (take at text ++ (part ++ rest)) ≡ take at text ++ fieldOf n
-field-put text rest old part at n h e small w =
+pub field-put : (text rest part : List ℕ) (at n : ℕ) → at ≤ length text → n ≤ maxNumber → part ≡ fieldOf n
+    → take (at + columns) (take at text ++ (part ++ rest)) ≡ take at text ++ fieldOf n
+field-put text rest part at n h small e =
     let long = length-append (take at text) (fieldOf n) in
     let short = length-take-le at text h in
     let eight = length-field n small in
-    rw (field-stands n old part e small w)
+    rw e
     (ap (λ (l : List ℕ). take (at + columns) l) (sym (append-assoc (take at text) (fieldOf n) rest))
     ∙ take-at (take at text ++ fieldOf n) rest (at + columns) (omega (arith, long, short, eight)))
 

@@ -160,7 +160,7 @@ fn put_number(text: &mut [u8], at: usize, number: u32)
     ensures { λ _. ⌜ take (at + columns) (now (text .exit)) ≡ take at (now (text .entry)) ++ fieldOf number ⌝ }
 {
     let end = at + COLUMNS;
-    field::write_number(number, &mut text[at..end]);
+    field::write_columns(number, &mut text[at..end]);
 }
 
 // Writes the text of an answer.

@@ -1,9 +1,12 @@
 -- What holds between two turns of the program.
 use Prim.Native.Nat.{ℕ, _*_, _≤_}
 use mathlib.Core.Path.{_≡_}
+use mathlib.Core.List.{List}
+use lib.ListN.{take}
 use Rattle.script.specs.Text.{answerBytes}
 use Rattle.stream.specs.declared.Progress.{Progress}
-use Rattle.stream.specs.Stream.{heldPlaces}
+use Rattle.stream.specs.Stream.{Stream, heldPlaces, fed, emptied}
+use Rattle.stream.specs.Progress.{streamOf}
 use Rattle.yard.specs.declared.Turn.{Turn}
 use Rattle.yard.specs.declared.Turn.the-variants.{More, End}
 
@@ -19,6 +22,11 @@ pub record Flushed (p : Progress) : Type 0 where
   pub held : p .held ≤ heldPlaces
   pub written : p .written ≡ 0
 
-abbrev pub Goes : Turn → Type 0
-Goes (More p) = Flushed p
-Goes End = Unit {0}
+-- What a turn leaves of a stream, where the input goes on: a chunk was fed, so many bytes of those that were read, and its text written.
+pub record Fed (s : Stream) (chunk : List ℕ) (after : Stream) : Type 0 where
+  pub count : ℕ
+  pub same : after ≡ emptied (fed s (take count chunk))
+
+abbrev pub Goes : Stream → List ℕ → List ℕ → List ℕ → List ℕ → List ℕ → List ℕ → Turn → Type 0
+Goes s t l b line text chunk (More p) = Flushed p × Fed s chunk (streamOf p t l b line text)
+Goes s t l b line text chunk End = Unit {0}

@@ -1,6 +1,9 @@
 // yard: reads a script from standard input, and writes the answers to standard output (document 01, "Script program").
 ghost use mathlib.Core.Path.{_≡_};
+ghost use mathlib.Core.List.{[]};
 ghost use lib.ListN.{length};
+ghost use Rattle.stream.specs.Stream.{newStream};
+ghost use Rattle.stream.specs.Progress.{streamOf};
 ghost use Rattle.yard.specs.Turns.{chunkBytes, textBytes, Flushed, Goes};
 use libc::STDIN_FILENO;
 use libc::STDOUT_FILENO;
@@ -72,7 +75,7 @@ fn take_turn(
 ) -> Turn
     requires { ⌜ (length (now text) ≡ textBytes) × (length (now chunk) ≡ chunkBytes) ⌝ }
     requires { ⌜ Flushed p ⌝ }
-    ensures { λ r. ⌜ Goes r ⌝ }
+    ensures { λ r. ⌜ Goes (streamOf p (now (table .entry)) (now (log .entry)) (now (blocks .entry)) (now (line .entry)) (now (text .entry))) (now (table .exit)) (now (log .exit)) (now (blocks .exit)) (now (line .exit)) (now (text .exit)) (now (chunk .exit)) r ⌝ }
 {
     let got = read_chunk(chunk);
     if got < 0 {
@@ -101,6 +104,17 @@ fn take_turn(
     })
 }
 
+// Does nothing: its `requires` says what the program starts with.
+fn starts(
+    table: &[u32; TABLE_WORDS],
+    log: &[u32; LOG_WORDS],
+    blocks: &[u32; BLOCK_WORDS],
+    line: &[u8; stream::HELD_PLACES],
+    p: Progress,
+)
+    requires { ⌜ streamOf p (now table) (now log) (now blocks) (now line) [] ≡ newStream ⌝ }
+{}
+
 // A proved loop ends: it counts its turns, from a number that no run uses up.
 fn main() {
     let mut table = [0u32; TABLE_WORDS];
@@ -115,6 +129,7 @@ fn main() {
         held: 0,
         written: 0,
     };
+    starts(&table, &log, &blocks, &line, p);
     let mut turns = u64::MAX;
     while 0 < turns {
         turns -= 1;

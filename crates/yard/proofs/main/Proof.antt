@@ -6,13 +6,16 @@ use lib.ListN.{length}
 use Rattle.stream.specs.declared.Progress.{Progress}
 use Rattle.yard.specs.declared.Turn.{Turn}
 use Rattle.yard.specs.declared.Turn.the-variants.{More}
+use Rattle.stream.specs.Stream.{Stream}
 use Rattle.yard.specs.Turns.{chunkBytes, textBytes, Flushed, Goes}
+use mathlib.Core.List.{List}
 use borrow.Author.Needs.{needs}
 use Rattle.yard.proofs.main.Statement.{statement}
 use Rattle.yard.proofs.main.Tie as tie
 
-goes-on : {r : Turn} {p : Progress} → r ≡ More p → Goes r → Flushed p
-goes-on e g = subst Goes e g
+goes-on : (s : Stream) (t l b line text chunk : List ℕ) {r : Turn} {p : Progress} → r ≡ More p
+    → Goes s t l b line text chunk r → Flushed p
+goes-on s t l b line text chunk e g = subst (Goes s t l b line text chunk) e g .0
 
 abbrev Inv-loop : tie.InvT-loop
 Inv-loop table₀ log₀ blocks₀ line₀ text₀ chunk₀ p₀ turns₀ table log blocks line text chunk p turns =
@@ -20,6 +23,9 @@ Inv-loop table₀ log₀ blocks₀ line₀ text₀ chunk₀ p₀ turns₀ table 
 
 abbrev μ-loop : tie.MeasureT-loop
 μ-loop table₀ log₀ blocks₀ line₀ text₀ chunk₀ p₀ turns₀ table log blocks line text chunk p turns = turns
+
+starts-requires : tie.Need-starts-requires Inv-loop μ-loop
+starts-requires c κs = refl
 
 loop-holds : tie.Need-loop-holds Inv-loop μ-loop
 loop-holds c = (refl, refl, record { held = omega arith; written = refl })
@@ -49,9 +55,7 @@ loop-again c =
     let at-chunk2 = c .before .before .before in
     let at-text2 = at-chunk2 .before in
     let at-take-turn = at-text2 .before in
-    let looped = at-take-turn .before .before .before .before .before .before .before .before in
-    let l = looped .loop in
-    (at-text2 .text2 .given, at-chunk2 .chunk2 .given, goes-on (c .before .next .given .1) (at-take-turn .take-turn .ensures))
+    (at-text2 .text2 .given, at-chunk2 .chunk2 .given, goes-on _ _ _ _ _ _ _ (c .before .next .given .1) (at-take-turn .take-turn .ensures))
 
 returns-2 : tie.Need-returns-2 Inv-loop μ-loop
 returns-2 c = tt
@@ -59,5 +63,6 @@ returns-2 c = tt
 pub main-spec : {M : Type 1} → statement M
 main-spec =
     tie.close
-    (tie.spec Inv-loop μ-loop loop-holds sub-turns slice-aggregate-take-turn slice-aggregate-take-turn-2
-    take-turn-requires (λ c. search needs) (λ c. search needs) returns loop-less loop-again returns-2)
+    (tie.spec Inv-loop μ-loop starts-requires loop-holds sub-turns slice-aggregate-take-turn
+    slice-aggregate-take-turn-2 take-turn-requires (λ c. search needs) (λ c. search needs) returns loop-less
+    loop-again returns-2)

@@ -59,7 +59,7 @@ returns : tie.Need-returns Inv-loop μ-loop
 returns c =
     let l = c .before .before .before .loop in
     let start = c .before .before .before .before .before .before .before .before .before .before in (
-      sym (stopped (l .p) _ _ _ _ _ _ (l .at) (c .if1 .taken)) ∙ l .inv .same,
+      sym (stopped (l .p) _ _ _ _ _ _ (l .at) (omega (arith, c .if1 .taken))) ∙ l .inv .same,
       record { held = l .inv .held; written = omega (arith, l .inv .written, l .inv .within, start .pre .text) },
     )
 

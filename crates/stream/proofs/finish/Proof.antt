@@ -15,7 +15,7 @@ returns c =
 returns-2 : tie.Need-returns-2
 returns-2 c =
     let start = c .before .before .before .before .before .before .before .before in
-    (no-line-left (start .args .p) _ _ _ _ _ (c .if2 .taken), record { held = start .pre .held; written = omega (arith, start .pre .written) })
+    (no-line-left (start .args .p) _ _ _ _ _ (omega (arith, c .if2 .taken)), record { held = start .pre .held; written = omega (arith, start .pre .written) })
 
 slice-aggregate-answer : tie.Need-slice-aggregate-answer
 slice-aggregate-answer c =

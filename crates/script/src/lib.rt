@@ -145,7 +145,7 @@ pub fn answer_line(
     requires { ⌜ length (now table) ≡ maxTable ⌝ }
     ensures { λ r. ⌜ leaves r (now (faults .exit)) (now (table .exit)) (now (log .exit)) (now (blocks .exit)) ≡ answerLine (session (now (faults .entry)) (now (table .entry)) (now (log .entry)) (now (blocks .entry))) (now (line .entry)) ⌝ }
 {
-    let mut given = [0u32; 34];
+    let mut given = [0u32; MAX_FIELDS];
     let read = read_numbers(line, &mut given);
     let Read::Number(count) = read else {
         return refused(reader::refusal_of(read));

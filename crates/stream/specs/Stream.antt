@@ -1,4 +1,4 @@
--- The same byte by byte: what the program keeps between two bytes, and what each byte does to it.
+-- The output of Output.antt, byte by byte: what the program keeps between two bytes, and what each byte does to it.
 use Prim.Native.Nat.{ℕ, suc, _*_}
 use mathlib.Core.Bool.{cond, _&&_}
 use mathlib.Core.List.{List, [], _∷_, _++_}

@@ -16,7 +16,7 @@ const TRIES: u32 = 64;
 // How many bytes are read at once, and as many answers as these can ask for.
 const CHUNK_BYTES: usize = 8192;
 
-const TEXT_BYTES: usize = 270_336;
+const TEXT_BYTES: usize = stream::ANSWER_BYTES * CHUNK_BYTES;
 
 // The words that are lent: a table for the largest f, 2,048 certificates, 1,024 blocks.
 const TABLE_WORDS: usize = 552;

@@ -15,7 +15,7 @@ ghost use Rattle.field.specs.Field.{
   readField,
 };
 
-const COLUMNS: usize = 8;
+pub const COLUMNS: usize = 8;
 
 const LAST_COLUMN: usize = 7;
 
@@ -25,7 +25,8 @@ const DIGIT_ZERO: u8 = 48;
 
 const DIGIT_NINE: u8 = 57;
 
-const MAX_NUMBER: u32 = 99_999_999;
+// The greatest number of eight digits.
+pub const MAX_NUMBER: u32 = 99_999_999;
 
 // What a read gives for bytes that are no field.
 const NO_NUMBER: u32 = 4_294_967_295;

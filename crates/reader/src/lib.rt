@@ -1,9 +1,7 @@
 // The line reader: the bytes of a line and the column reached (document 01, "Script program").
 ghost use mathlib.Core.Path.{_≡_};
 ghost use Rattle.reader.specs.Reading.{fieldAt, refusalOf};
-
-// The greatest number of eight digits.
-const MAX_NUMBER: u32 = 99_999_999;
+use field::MAX_NUMBER;
 
 // The number of a script line that cannot be read.
 const UNREADABLE: u32 = 10;

@@ -20,15 +20,14 @@ ghost use Rattle.script.specs.Session.{
 };
 ghost use Rattle.script.specs.Text.{answerText, answerBytes, Printable};
 use checks::refused;
+use field::COLUMNS;
 use protocol::Answer;
 use reader::Read;
-
-const COLUMNS: usize = 8;
 
 // A line's fields.
 const MIN_FIELDS: usize = 3;
 
-const MAX_FIELDS: usize = 34;
+pub const MAX_FIELDS: usize = 34;
 
 const CODE_FIELD: usize = 0;
 
@@ -44,7 +43,10 @@ const OPEN_CODE: u32 = 0;
 // What a line returns that cannot be read.
 const UNREADABLE: u32 = 10;
 
-const LINE_FEED: u8 = 10;
+pub const LINE_FEED: u8 = 10;
+
+// Four fields and a line feed.
+pub const ANSWER_BYTES: usize = 4 * COLUMNS + 1;
 
 // Reads the numbers of a line; gives how many there are, or the refusal.
 fn read_numbers(line: &[u8], given: &mut [u32]) -> Read

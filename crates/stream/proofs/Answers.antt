@@ -2,7 +2,7 @@
 use Prim.Native.Nat.{ℕ, suc, _+_, _-_, _≤_, _<_}
 use mathlib.Core.Path.{_≡_, refl, sym, ap, subst, _∙_}
 use mathlib.Core.Bool.{true, false}
-use mathlib.Core.List.{List, [], _++_}
+use mathlib.Core.List.{List, [], _∷_, _++_}
 use native.Mathlib.Omega.{arith}
 use lib.Dec.{ltb}
 use lib.ListN.{length, take, drop, length-take}
@@ -10,12 +10,12 @@ use lib.Seq.{length-take-le}
 use Rattle.protocol.specs.declared.Answer.{Answer}
 use Rattle.protocol.proofs.Tests.{tests, by-test}
 use Rattle.script.specs.Session.{Session, session, Answered, leaves, answerLine}
-use Rattle.script.specs.Text.{answerText, answerBytes, Printable}
+use Rattle.script.specs.Text.{lineFeed, answerText, answerBytes, Printable}
 use Rattle.script.specs.Theorems.{AnswersPrintable}
 use Rattle.script.proofs.Theorems.{answers-printable}
 use Rattle.stream.specs.declared.Progress.{Progress}
 use Rattle.stream.specs.Output.{maxLines}
-use Rattle.stream.specs.Stream.{Stream, heldPlaces, endLine, finished}
+use Rattle.stream.specs.Stream.{Stream, endLine, byteIn, fed, finished}
 use Rattle.stream.specs.Progress.{streamOf, withHeld, begun, Ready, OneMore, Within}
 use Rattle.stream.specs.Holding.{lineSoFar, Held}
 use Rattle.stream.proofs.Fed.{line-ended}
@@ -66,14 +66,10 @@ module _ (p : Progress) (t l b line text : List ℕ) where
   unfolding finished
   nothing-held e = by-test (ltb (p .lines) maxLines) (λ t. rw (t, e) refl) (λ t. rw t refl)
 
-  pub no-line-left : maxLines ≤ p .lines → s ≡ finished s
-  unfolding finished
-  no-line-left h = let f : ltb (p .lines) maxLines ≡ false = omega tests in rw f refl
-
-  pub last-line : {o : Stream} → p .held ≤ length line → 0 < p .held → p .lines < maxLines → o ≡ endLine s → o ≡ finished s
-  unfolding finished
-  last-line fits some low e =
+  -- The line feed that the last line may lack.
+  pub feed-lacking : {o : Stream} → p .held ≤ length line → (p .held ≡ 0 → ⊥) → o ≡ fed s (lineFeed ∷ []) → o ≡ finished s
+  unfolding finished fed byteIn
+  feed-lacking fits some e =
       let long = length-take-le (p .held) line fits in
-      let t : ltb (p .lines) maxLines ≡ true = omega tests in
       let u : ltb 0 (length (take (p .held) line)) ≡ true = omega (tests, long) in
-      rw (t, u) e
+      by-test (ltb (p .lines) maxLines) (λ t. rw (t, u) (rw t at e)) (λ t. rw t (rw t at e))

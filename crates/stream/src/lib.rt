@@ -9,19 +9,16 @@ ghost use Rattle.stream.specs.Stream.{heldPlaces, endLine, fed, finished
 ghost use Rattle.stream.specs.Progress.{streamOf, withHeld, begun, Room, OneMore, Ready, Within};
 ghost use Rattle.stream.specs.Holding.{Holdable, lineSoFar, Held};
 ghost use Rattle.stream.specs.Feeds.{feedFrom, feedStep};
-
-const LINE_FEED: u8 = 10;
+use script::ANSWER_BYTES;
+use script::LINE_FEED;
 
 const FEED_STEP: usize = 16;
 
 // One more byte than a readable line can have.
-pub const HELD_PLACES: usize = 273;
+pub const HELD_PLACES: usize = field::COLUMNS * script::MAX_FIELDS + 1;
 
 // Reading stops after this line.
-pub const MAX_LINES: u32 = 99_999_999;
-
-// Four fields and a line feed.
-pub const ANSWER_BYTES: usize = 33;
+pub const MAX_LINES: u32 = field::MAX_NUMBER;
 
 // Where a stream stands: the f in use, how many lines were answered, how many bytes of a line are held, how many are to be written.
 pub struct Progress {
@@ -186,20 +183,17 @@ pub fn finish(
     table: &mut [u32],
     log: &mut [u32],
     blocks: &mut [u32],
-    line: &[u8],
+    line: &mut [u8],
     text: &mut [u8],
     p: Progress,
 ) -> Progress
     requires { ⌜ Ready p (now table) (now line) (now text) 1 ⌝ }
-    ensures { λ r. ⌜ streamOf r (now (table .exit)) (now (log .exit)) (now (blocks .exit)) (now (line .entry)) (now (text .exit)) ≡ finished (streamOf p (now (table .entry)) (now (log .entry)) (now (blocks .entry)) (now (line .entry)) (now (text .entry))) ⌝ }
+    ensures { λ r. ⌜ streamOf r (now (table .exit)) (now (log .exit)) (now (blocks .exit)) (now (line .exit)) (now (text .exit)) ≡ finished (streamOf p (now (table .entry)) (now (log .entry)) (now (blocks .entry)) (now (line .entry)) (now (text .entry))) ⌝ }
     ensures { λ r. ⌜ Within r (now (text .entry)) ⌝ }
 {
-    let held = p.held;
-    if held == 0 {
+    if p.held == 0 {
         return p;
     }
-    if MAX_LINES <= p.lines {
-        return p;
-    }
-    answer(table, log, blocks, text, p, &line[..held])
+    let lacking = [LINE_FEED];
+    feed(table, log, blocks, line, text, p, &lacking)
 }

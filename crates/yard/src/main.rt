@@ -16,12 +16,12 @@ const TRIES: u32 = 64;
 // How many bytes are read at once, and as many answers as these can ask for.
 const CHUNK_BYTES: usize = 8192;
 
-const TEXT_BYTES: usize = stream::ANSWER_BYTES * CHUNK_BYTES;
+const TEXT_BYTES: usize = script::ANSWER_BYTES * CHUNK_BYTES;
 
 // The words that are lent: a table for the largest f, 2,048 certificates, 1,024 blocks.
-const TABLE_WORDS: usize = 552;
+const TABLE_WORDS: usize = layout::ROW_START + 61 * layout::REPLICA_WORDS;
 
-const LOG_WORDS: usize = 14_336;
+const LOG_WORDS: usize = 2048 * layout::CERTIFICATE_WORDS;
 
 const BLOCK_WORDS: usize = 1024;
 

@@ -48,12 +48,12 @@ fn main() -> std::io::Result<()> {
 fn feed(progress: &mut Progress, block: &[u8], out: &mut [u8]) -> usize {
     let (mut at, mut written) = (0, 0);
     while at < block.len() {
+        if progress.lines == MAX_NUMBER {
+            return written;
+        }
         let end = line_end(block, at);
         if end == block.len() {
             hold(progress, &block[at..end]);
-            return written;
-        }
-        if progress.lines == MAX_NUMBER {
             return written;
         }
         let answer = if progress.held == 0 {
@@ -76,10 +76,7 @@ fn finish(progress: &mut Progress, out: &mut [u8]) -> usize {
     if progress.held == 0 {
         return 0;
     }
-    let answer = answer_line(&progress.line[..progress.held]);
-    progress.lines += 1;
-    put_answer(&mut out[..ANSWER_BYTES], progress.lines, answer);
-    ANSWER_BYTES
+    feed(progress, b"\n", out)
 }
 
 /// Holds bytes of a line that goes on, as far as there are places.

@@ -22,11 +22,7 @@ pub record Flushed (p : Progress) : Type 0 where
   pub held : p .held ≤ heldPlaces
   pub written : p .written ≡ 0
 
--- What a turn leaves of a stream, where the input goes on: a chunk was fed, so many bytes of those that were read, and its text written.
-pub record Fed (s : Stream) (chunk : List ℕ) (after : Stream) : Type 0 where
-  pub count : ℕ
-  pub same : after ≡ emptied (fed s (take count chunk))
-
+-- What a turn leaves of a stream, where the input goes on: these bytes were fed, and their text is written.
 abbrev pub Goes : Stream → List ℕ → List ℕ → List ℕ → List ℕ → List ℕ → List ℕ → Turn → Type 0
-Goes s t l b line text chunk (More p) = Flushed p × Fed s chunk (streamOf p t l b line text)
-Goes s t l b line text chunk End = Unit {0}
+Goes s t l b line text bytes (More p) = Flushed p × (streamOf p t l b line text ≡ emptied (fed s bytes))
+Goes s t l b line text bytes End = Unit {0}

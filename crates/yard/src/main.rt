@@ -1,7 +1,8 @@
 // yard: reads a script from standard input, and writes the answers to standard output (document 01, "Script program").
 ghost use mathlib.Core.Path.{_≡_};
 ghost use mathlib.Core.List.{[]};
-ghost use lib.ListN.{length};
+ghost use lib.ListN.{length, take};
+ghost use Rattle.io.specs.Counts.{clamped};
 ghost use Rattle.stream.specs.Stream.{newStream};
 ghost use Rattle.stream.specs.Progress.{streamOf};
 ghost use Rattle.yard.specs.Turns.{chunkBytes, textBytes, Flushed, Goes};
@@ -25,7 +26,7 @@ const LOG_WORDS: usize = 2048 * layout::CERTIFICATE_WORDS;
 
 const BLOCK_WORDS: usize = 1024;
 
-// Where a turn leaves the program.
+// Where a read leaves the program.
 enum Turn {
     More(Progress),
     End,
@@ -63,21 +64,21 @@ fn write_text(text: &[u8]) -> bool {
     false
 }
 
-// Reads a chunk, and writes the answers to the lines that end in it. After a read that fails nothing more is answered.
-fn take_turn(
+// Takes what a read gave: all bytes that came, or the end of the input; and writes the answers. After a read that failed nothing is answered.
+fn take_read(
     table: &mut [u32; TABLE_WORDS],
     log: &mut [u32; LOG_WORDS],
     blocks: &mut [u32; BLOCK_WORDS],
     line: &mut [u8; stream::HELD_PLACES],
     text: &mut [u8],
-    chunk: &mut [u8],
+    chunk: &[u8],
+    got: isize,
     p: Progress,
 ) -> Turn
     requires { ⌜ (length (now text) ≡ textBytes) × (length (now chunk) ≡ chunkBytes) ⌝ }
     requires { ⌜ Flushed p ⌝ }
-    ensures { λ r. ⌜ Goes (streamOf p (now (table .entry)) (now (log .entry)) (now (blocks .entry)) (now (line .entry)) (now (text .entry))) (now (table .exit)) (now (log .exit)) (now (blocks .exit)) (now (line .exit)) (now (text .exit)) (now (chunk .exit)) r ⌝ }
+    ensures { λ r. ⌜ Goes (streamOf p (now (table .entry)) (now (log .entry)) (now (blocks .entry)) (now (line .entry)) (now (text .entry))) (now (table .exit)) (now (log .exit)) (now (blocks .exit)) (now (line .exit)) (now (text .exit)) (take (clamped got (length (now (chunk .entry)))) (now (chunk .entry))) r ⌝ }
 {
-    let got = read_chunk(chunk);
     if got < 0 {
         return Turn::End;
     }
@@ -133,13 +134,15 @@ fn main() {
     let mut turns = u64::MAX;
     while 0 < turns {
         turns -= 1;
-        let Turn::More(next) = take_turn(
+        let got = read_chunk(&mut chunk);
+        let Turn::More(next) = take_read(
             &mut table,
             &mut log,
             &mut blocks,
             &mut line,
             &mut text,
-            &mut chunk,
+            &chunk,
+            got,
             p,
         ) else {
             return;

@@ -33,16 +33,17 @@ loop-holds c = (refl, refl, record { held = omega arith; written = refl })
 sub-turns : tie.Need-sub-turns Inv-loop μ-loop
 sub-turns c = omega arith
 
-slice-aggregate-take-turn : tie.Need-slice-aggregate-take-turn Inv-loop μ-loop
-slice-aggregate-take-turn c = sym (c .before .before .before .before .before .before .loop .inv .0)
+slice-aggregate-read-chunk : tie.Need-slice-aggregate-read-chunk Inv-loop μ-loop
+slice-aggregate-read-chunk c = sym (c .before .before .loop .inv .1)
 
-slice-aggregate-take-turn-2 : tie.Need-slice-aggregate-take-turn-2 Inv-loop μ-loop
-slice-aggregate-take-turn-2 c = sym (c .before .before .before .before .before .before .before .loop .inv .1)
+slice-aggregate-take-read : tie.Need-slice-aggregate-take-read Inv-loop μ-loop
+slice-aggregate-take-read c = sym (c .before .before .before .before .before .before .before .before .before .loop .inv .0)
 
-take-turn-requires : tie.Need-take-turn-requires Inv-loop μ-loop
-take-turn-requires c κs =
-    let l = c .before .before .before .before .before .before .before .loop in
-    ((l .inv .0, l .inv .1), l .inv .2)
+slice-aggregate-take-read-2 : tie.Need-slice-aggregate-take-read-2 Inv-loop μ-loop
+slice-aggregate-take-read-2 c = sym (c .before .before .before .before .before .before .chunk2 .given)
+
+take-read-requires : tie.Need-take-read-requires Inv-loop μ-loop
+take-read-requires c κs = let l = c .before .before .before .before .before .before .before .before .before .before .loop in ((l .inv .0, c .before .before .before .before .before .before .chunk2 .given), l .inv .2)
 
 returns : tie.Need-returns Inv-loop μ-loop
 returns c = tt
@@ -52,10 +53,7 @@ loop-less c = omega arith
 
 loop-again : tie.Need-loop-again Inv-loop μ-loop
 loop-again c =
-    let at-chunk2 = c .before .before .before in
-    let at-text2 = at-chunk2 .before in
-    let at-take-turn = at-text2 .before in
-    (at-text2 .text2 .given, at-chunk2 .chunk2 .given, goes-on _ _ _ _ _ _ _ (c .before .next .given .1) (at-take-turn .take-turn .ensures))
+    (c .before .before .before .text2 .given, c .before .before .before .before .before .before .before .before .before .before .before .chunk2 .given, goes-on _ _ _ _ _ _ _ (c .before .next .given .1) (c .before .before .before .before .take-read .ensures))
 
 returns-2 : tie.Need-returns-2 Inv-loop μ-loop
 returns-2 c = tt
@@ -63,6 +61,6 @@ returns-2 c = tt
 pub main-spec : {M : Type 1} → statement M
 main-spec =
     tie.close
-    (tie.spec Inv-loop μ-loop starts-requires loop-holds sub-turns slice-aggregate-take-turn
-    slice-aggregate-take-turn-2 take-turn-requires (λ c. search needs) (λ c. search needs) returns loop-less
-    loop-again returns-2)
+    (tie.spec Inv-loop μ-loop starts-requires loop-holds sub-turns slice-aggregate-read-chunk (λ c κs. search needs)
+    slice-aggregate-take-read slice-aggregate-take-read-2 take-read-requires (λ c. search needs) (λ c. search needs)
+    returns loop-less loop-again returns-2)

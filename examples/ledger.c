@@ -1,13 +1,13 @@
-/* A ledger of three boxes in C: open it, decide a block, cut one replica's power, recover it. Ends with 1 at the first wrong answer. */
+/* A ledger of three replicas in C: open it, decide a block, cut one replica's power, recover it. Its status is 1 if an answer was wrong. */
 #include "../include/yard.h"
 
 #include <stdio.h>
 
-enum { REPLICAS = 3, TABLE = 3 + 9 * REPLICAS, CERTIFICATES = 16, BLOCKS = 4 };
+enum { TABLE = YARD_TABLE_WORDS(1), LOG = 16 * YARD_CERTIFICATE_WORDS, BLOCKS = 4 };
 
 enum { OPEN, BLOCK, PREPARE, PREPARE_ON_COMMITS, STORE, VIEW, ACCUMULATE, DECIDE, REBOOT, RESERVE, REQUEST, REPLY, RECOVER };
 
-static uint32_t table[TABLE], log_words[7 * CERTIFICATES], blocks[BLOCKS];
+static uint32_t table[TABLE], log_words[LOG], blocks[BLOCKS];
 
 static int wrong;
 
@@ -15,8 +15,7 @@ static int wrong;
 static void call(uint32_t code, uint32_t replica, uint32_t number, const uint32_t *list, size_t length, uint32_t answer, uint32_t one,
                  uint32_t two) {
     uint32_t first, second;
-    uint32_t got =
-        yard_call(code, replica, number, list, length, table, TABLE, log_words, 7 * CERTIFICATES, blocks, BLOCKS, &first, &second);
+    uint32_t got = yard_call(code, replica, number, list, length, table, TABLE, log_words, LOG, blocks, BLOCKS, &first, &second);
     int right = got == answer && first == one && second == two;
     printf("%2u %u %2u: %u %u %u%s\n", code, replica, number, got, first, second, right ? "" : "  WRONG");
     if (!right)
@@ -25,7 +24,7 @@ static void call(uint32_t code, uint32_t replica, uint32_t number, const uint32_
 
 static void panel(uint32_t replica, uint32_t height) {
     uint32_t shown = 0;
-    uint32_t got = yard_panel(table, TABLE, log_words, 7 * CERTIFICATES, blocks, BLOCKS, replica, &shown);
+    uint32_t got = yard_panel(table, TABLE, log_words, LOG, blocks, BLOCKS, replica, &shown);
     printf("panel of %u: %u\n", replica, shown);
     if (got != 0 || shown != height)
         wrong = 1;

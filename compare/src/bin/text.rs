@@ -17,8 +17,8 @@ const NO_NUMBER: u32 = u32::MAX;
 const UNREADABLE: u32 = 10;
 const FEED_STEP: usize = 16;
 /// One more byte than a readable line can have.
-const HELD_PLACES: usize = 273;
-const ANSWER_BYTES: usize = 33;
+const HELD_PLACES: usize = COLUMNS * MAX_FIELDS + 1;
+const ANSWER_BYTES: usize = 4 * COLUMNS + 1;
 
 /// The line that goes on in the next block, and the number of lines answered.
 struct Progress {

@@ -6,6 +6,7 @@ ghost use Rattle.ledger.specs.Called.{called};
 ghost use Rattle.ledger.specs.Panel.{panelAnswer};
 ghost use Rattle.field.specs.Field.{readField, written, writeField};
 
+// A call by its code; both values are always written.
 #[no_mangle]
 pub extern "C" fn yard_call(
     code: u32,
@@ -26,6 +27,7 @@ pub extern "C" fn yard_call(
     answer.number
 }
 
+// The height of a replica's decided block.
 #[no_mangle]
 pub extern "C" fn yard_panel(
     table: &[u32],
@@ -41,7 +43,7 @@ pub extern "C" fn yard_panel(
     answer.number
 }
 
-// The number of eight columns, or 4294967295 for bytes that are no such field.
+// The number of eight columns, or 4,294,967,295 for bytes that are no such field.
 #[no_mangle]
 pub extern "C" fn yard_read_number(bytes: &[u8]) -> u32
     ensures { λ r. ⌜ r ≡ readField (now (bytes .entry)) ⌝ }

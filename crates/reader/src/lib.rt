@@ -36,7 +36,7 @@ pub fn next<'a>(reader: Reader<'a>) -> Read
     field_at(reader.line, reader.column)
 }
 
-// The same for a line and a column: a caller of this one makes no reader, so its proof has no walk.
+// The same for a line and a column. The proof of a function that makes a reader is written by hand, so callers use this one.
 pub fn read_field(line: &[u8], column: usize) -> Read
     ensures { λ r. ⌜ r ≡ fieldAt (now (line .entry)) column ⌝ }
 {

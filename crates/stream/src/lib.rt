@@ -28,7 +28,7 @@ pub struct Progress {
     pub written: usize,
 }
 
-// Whether one of sixteen bytes is a line feed. One caller, and tests joined by `|` alone: so it is inlined, and vectors compare.
+// Whether one of sixteen bytes is a line feed. It has one caller, and tests joined by `|` alone, so the compiler inlines it and uses vector instructions.
 fn has_feed(chunk: &[u8], at: usize) -> bool
     requires { ⌜ at + feedStep ≤ length (now chunk) ⌝ }
     ensures { λ r. ⌜ r ≡ ltb (feedFrom (drop at (now (chunk .entry)))) feedStep ⌝ }

@@ -11,10 +11,10 @@ use libc::STDOUT_FILENO;
 use stream::MAX_LINES;
 use stream::Progress;
 
-// How often a read or a write that fails is tried again: a signal may have come in between.
+// How often a read, or a text's writes, may fail: a signal may have come in between.
 const TRIES: u32 = 64;
 
-// How many bytes are read at once, and as many answers as these can ask for.
+// How many bytes are read at once. There is room for an answer to each, as each could be a line feed.
 const CHUNK_BYTES: usize = 8192;
 
 const TEXT_BYTES: usize = script::ANSWER_BYTES * CHUNK_BYTES;
@@ -64,7 +64,7 @@ fn write_text(text: &[u8]) -> bool {
     false
 }
 
-// Takes what a read gave: all bytes that came, or the end of the input; and writes the answers. After a read that failed nothing is answered.
+// Takes what a read gave, all bytes that came or the end of the input, and writes the answers. A read that failed ends the program.
 fn take_read(
     table: &mut [u32; TABLE_WORDS],
     log: &mut [u32; LOG_WORDS],

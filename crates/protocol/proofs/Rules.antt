@@ -1,4 +1,5 @@
--- What all twelve rules have in common: the numbers of their needs, and all but one the form as the first. So a refused call changes nothing, and the lowest number wins.
+-- What the rules have in common: the numbers of their needs and, but for opening, that the form is tested first. So a refused call
+-- changes nothing, and the lowest number wins.
 use Prim.Native.Nat.{ℕ}
 use mathlib.Core.Path.{_≡_, refl}
 use mathlib.Core.Bool.{true, false}

@@ -35,10 +35,12 @@ use Rattle.script.proofs.Ways.{lineLeaves, put-back, lentFor, made, by-
 
 -- ---- what a line tells is what its call tells
 
+-- The call, if there is one, tells this event where it is accepted with this answer.
 abbrev Tells : Answer → Event → Coded → Type 0
 Tells a e (Of call) = acceptedEvent call a ≡ e
 Tells a e Unreadable = Unit {0}
 
+-- The same of a table of calls and a table of events; past the last event nothing is told.
 abbrev AllTell : Answer → List Event → List Coded → Type 0
 AllTell a events [] = Unit {0}
 AllTell a [] (coded ∷ rest) = Tells a other coded × AllTell a [] rest
@@ -87,6 +89,7 @@ record Left (o : Outcome) (s : Session) : Type 0 where
   memory : o .memory ≡ ledgerOf s
   full : Full (s .faultBound) (s .memory)
 
+-- What is lent next is what the call left.
 taken-back : (s : Session) (f : ℕ) (o : Outcome) → length (o .memory .table) ≡ lentLength f
     → lent f (lineLeaves s f o .session .memory) ≡ o .memory
 taken-back s f o long = rw (← long, take-append-seam)

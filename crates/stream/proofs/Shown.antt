@@ -24,6 +24,7 @@ use Rattle.stream.proofs.Theorems.{lines-next}
 
 -- ---- no line feed in a field
 
+-- Bytes of which none is a line feed.
 data NoFeed : List ℕ → Type 0 where
   end : NoFeed []
   then : {byte : ℕ} {bytes : List ℕ} → eqb byte lineFeed ≡ false → NoFeed bytes → NoFeed (byte ∷ bytes)
@@ -45,6 +46,7 @@ no-feed : (n : ℕ) → NoFeed (fieldOf n)
 unfolding fieldOf
 no-feed n = both (no-feed-blanks (columns - digitCount n)) (no-feed-digits (digitCount n) n)
 
+-- The line that has begun ends at the first line feed.
 line-ends : (line rest : List ℕ) {bytes : List ℕ} → NoFeed bytes
     → linesFrom line (bytes ++ (lineFeed ∷ rest)) ≡ (line ++ bytes) ∷ linesFrom [] rest
 line-ends line rest end = rw (lines-next, append-nil)
@@ -52,6 +54,7 @@ line-ends line rest (then {byte} e h) = rw (lines-next, e) (rw append-assoc at (
 
 -- ---- a line of the output
 
+-- The four fields, without the line feed.
 abbrev fields : ℕ → Answer → List ℕ
 fields line a = fieldOf line ++ (fieldOf (a .number) ++ (fieldOf (a .first) ++ (fieldOf (a .second) ++ [])))
 
@@ -62,6 +65,7 @@ answer-line line a rest =
     let none = both (no-feed line) (both (no-feed (a .number)) (both (no-feed (a .first)) (both (no-feed (a .second)) end))) in
     rw e (line-ends [] rest none)
 
+-- What is read from the first field of a line, and from any other.
 module _ (n : ℕ) (small : n ≤ maxNumber) (rest : List ℕ) where
   field-here : numberAt (fieldOf n ++ rest) 0 ≡ n
   unfolding WrittenReadsBack
@@ -76,15 +80,12 @@ module _ (n : ℕ) (small : n ≤ maxNumber) (rest : List ℕ) where
 
 shows : (line : ℕ) (a : Answer) → line ≤ maxNumber → Printable a → answerShown (fields line a) ≡ a
 shows line a small p =
-    let second = field-here (a .second) (p .second) [] in
-    let first = field-here (a .first) (p .first) (fieldOf (a .second) ++ []) in
-    let number = field-here (a .number) (p .number) (fieldOf (a .first) ++ (fieldOf (a .second) ++ [])) in
-    let after-line = field-after line small (fieldOf (a .number) ++ (fieldOf (a .first) ++ (fieldOf (a .second) ++ []))) in
-    let after-number = field-after (a .number) (p .number) (fieldOf (a .first) ++ (fieldOf (a .second) ++ [])) in
-    let after-first = field-after (a .first) (p .first) (fieldOf (a .second) ++ []) in
-    let x = after-line 0 ∙ number in
-    let y = after-line 1 ∙ after-number 0 ∙ first in
-    let z = after-line 2 ∙ after-number 1 ∙ after-first 0 ∙ second in
+    let after-first = field-after (a .first) (p .first) _ 0 ∙ field-here (a .second) (p .second) [] in
+    let after-number = field-after (a .number) (p .number) _ in
+    let after-line = field-after line small _ in
+    let x = after-line 0 ∙ field-here (a .number) (p .number) _ in
+    let y = after-line 1 ∙ after-number 0 ∙ field-here (a .first) (p .first) _ in
+    let z = after-line 2 ∙ after-number 1 ∙ after-first in
     λ i. record { number = x i; first = y i; second = z i }
 
 -- ---- all lines

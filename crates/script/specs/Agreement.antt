@@ -33,6 +33,7 @@ eventTable replica number a =
     ∷ decided replica (a .first) (a .second)  -- 7 decide
     ∷ []
 
+-- The same by the line's numbers.
 abbrev pub acceptedLine : List ℕ → Answer → Event
 acceptedLine given a = getD (eventTable (replicaIn given) (numberIn given) a) (codeIn given) other
 

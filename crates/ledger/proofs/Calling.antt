@@ -6,15 +6,12 @@ use mathlib.Core.List.{List, []}
 use native.Mathlib.Omega.{arith}
 use Rattle.protocol.specs.declared.Answer.{Answer}
 use Rattle.protocol.specs.declared.Call.{Call}
-use Rattle.protocol.specs.declared.Call.the-variants.{Open, Block, Prepare, Store, View, Accumulate, Decide, Reboot, Reserve, Request}
-use Rattle.protocol.specs.declared.Call.the-variants.{Reply, Recover}
 use Rattle.protocol.specs.Memory.{Memory, memory}
 use Rattle.protocol.specs.Form.{wellFormed}
-use Rattle.protocol.specs.Outcome.{Outcome, left, wrongForm, unreadable, firstRefusal}
-use Rattle.protocol.specs.Calls.{issuing, block, prepare, store, view, accumulate, decide, reboot, reserve, request, reply, recover}
-use Rattle.protocol.specs.Runs.{ruleOf, step}
-use Rattle.protocol.specs.Theorems.{isOpening}
-use Rattle.protocol.proofs.Needs.{refusal, fails, refuses}
+use Rattle.protocol.specs.Outcome.{Outcome, left, wrongForm, unreadable}
+use Rattle.protocol.specs.Runs.{step}
+use Rattle.protocol.proofs.Needs.{refusal, refuses}
+use Rattle.protocol.proofs.Rules.{no-form}
 use Rattle.codes.specs.declared.Coded.{Coded}
 use Rattle.codes.specs.declared.Coded.the-variants.{Of, Unreadable}
 use Rattle.codes.specs.Codes.{codedCall}
@@ -48,23 +45,6 @@ by-call P m code replica number list none some = go (codedCall m code replica nu
     go : (c : Coded) → codedCall m code replica number list ≡ c → P (calledBy c m list)
     go (Of call) e = some call e
     go Unreadable e = none e
-
--- Each rule but opening's tests the form first.
-no-form : (m : Memory) (call : Call) (list : List ℕ) → isOpening call ≡ false → wellFormed m ≡ false
-    → firstRefusal (ruleOf m call list .needs) ≡ wrongForm
-unfolding ruleOf issuing block prepare store view accumulate decide reboot reserve request reply recover
-no-form m (Open f) list n e = cc
-no-form m (Block p) list n e = fails _ e
-no-form m (Prepare i b justification) list n e = fails _ e
-no-form m (Store i number) list n e = fails _ e
-no-form m (View i w) list n e = fails _ e
-no-form m (Accumulate i) list n e = fails _ e
-no-form m (Decide i) list n e = fails _ e
-no-form m (Reboot i) list n e = fails _ e
-no-form m (Reserve i) list n e = fails _ e
-no-form m (Request i) list n e = fails _ e
-no-form m (Reply i number) list n e = fails _ e
-no-form m (Recover i) list n e = fails _ e
 
 -- A call other than an opening, on memory of wrong form.
 pub called-formless : (m m′ : Memory) (code replica number : ℕ) (list : List ℕ) → wellFormed m ≡ false → (code ≡ 0 → ⊥)

@@ -1,8 +1,8 @@
 -- Demand 3: the theorems that specs/Agreement.antt states.
-use Prim.Native.Nat.{ℕ, zero, suc}
+use Prim.Native.Nat.{ℕ, zero, suc, _≤_}
 use mathlib.Core.Path.{_≡_, refl, sym, ap, _∙_}
 use mathlib.Core.Bool.{cond}
-use mathlib.Core.List.{List, [], _∷_, List·Memᴰ, List·Memᴰ·head, List·Memᴰ·tail, List·Memᴰ·not-nil}
+use mathlib.Core.List.{List, [], _∷_, _++_, List·Memᴰ, List·Memᴰ·head, List·Memᴰ·tail, List·Memᴰ·not-nil}
 use native.Mathlib.Omega.{arith}
 use lib.Dec.{eqb, eqb·suc-zero}
 use Rattle.protocol.specs.declared.Call.{Call}
@@ -14,8 +14,8 @@ use Rattle.protocol.specs.Outcome.{firstRefusal, answered, follow}
 use Rattle.protocol.specs.Calls.{opening, block, decide}
 use Rattle.protocol.specs.Runs.{Invocation, ruleOf, step, run}
 use Rattle.protocol.specs.Theorems.{Accepted}
-use Rattle.protocol.specs.History.{Event, reopened, other, acceptedEvent, eventOf, history, givenParent, shown}
-use Rattle.protocol.specs.Agreement.{Life, eventsOf, endOf, Agreement, WordsMatchHistory, Extends, OnlyAppended}
+use Rattle.protocol.specs.History.{Event, reopened, other, acceptedEvent, eventOf, history, givenParent, shown, panel}
+use Rattle.protocol.specs.Agreement.{PanelsRise, Life, eventsOf, endOf, Agreement, WordsMatchHistory, Extends, OnlyAppended}
 use Rattle.protocol.specs.Agreement.{WouldAgree}
 use Rattle.protocol.proofs.Needs.{Holds, no-refusal, accepted-after, accepted-first}
 use Rattle.protocol.proofs.Rules.{needs-hold}
@@ -140,10 +140,44 @@ start m f list accepted =
     })
 
 -- All that a life reaches.
-lives : (m : Memory) (f : ℕ) (list : List ℕ) (calls : List Invocation) → Life m f list calls
+pub lives : (m : Memory) (f : ℕ) (list : List ℕ) (calls : List Invocation) → Life m f list calls
     → Reached f (eventsOf m f list calls) (endOf m f list calls)
 lives m f list calls life =
     runs f [] [] (step m (Open f) list .memory) calls (start m f list (life .opened)) (life .once) .reached
+
+-- ---- a list of calls, and more calls
+
+history-on : (past : List Event) (m : Memory) (calls more : List Invocation)
+    → history past m (calls ++ more) ≡ history (history past m calls) (run m calls) more
+unfolding history run
+history-on past m [] more = refl
+history-on past m (q ∷ qs) more =
+    let o = step m (q .call) (q .list) in
+    history-on (eventOf (q .call) (o .answer) ∷ past) (o .memory) qs more
+
+-- The beginning of a life is one.
+pub begins : (m : Memory) (f : ℕ) (list : List ℕ) (calls more : List Invocation) → Life m f list (calls ++ more) → Life m f list calls
+begins m f list calls more life =
+    record {
+      opened = life .opened;
+      once = λ again. life .once (rw (history-on [] _ calls more) (kept (endOf m f list calls) more again));
+    }
+
+-- A panel after more calls is no lower.
+rises : (past : List Event) (m : Memory) (calls : List Invocation) → PanelsRise (history past m calls)
+    → ((i : ℕ) → panel past i ≤ panel (history past m calls) i) × PanelsRise past
+unfolding history
+rises past m [] up = (λ i. omega arith, up)
+rises past m (q ∷ qs) up =
+    let o = step m (q .call) (q .list) in
+    let now = rises (eventOf (q .call) (o .answer) ∷ past) (o .memory) qs up in
+    (λ i. let first = now .1 .0 i in let then = now .0 i in omega arith, now .1 .1)
+
+pub panel-stays-up : (m : Memory) (f : ℕ) (list : List ℕ) (calls more : List Invocation) → Life m f list (calls ++ more) → (i : ℕ)
+    → panel (eventsOf m f list calls) i ≤ panel (eventsOf m f list (calls ++ more)) i
+panel-stays-up m f list calls more life i =
+    let e = history-on [] (step m (Open f) list .memory) calls more in
+    rw e (rises (eventsOf m f list calls) (endOf m f list calls) more (rw e at (lives m f list (calls ++ more) life .panels)) .0 i)
 
 -- ---- the theorems
 

@@ -9,7 +9,7 @@ use lib.ListN.{getD}
 use lib.Dec.{ltb, leb, eqb}
 use Rattle.protocol.specs.Memory.{Memory, Replica, _becomes_, decidedViewAt, decidedBlockAt, replicaCount, faultBound}
 use Rattle.protocol.specs.Memory.{blockCount, replica, parent, appendBlock}
-use Rattle.protocol.specs.Ancestry.{stepsToRoot, heightBy, isAncestorBy}
+use Rattle.protocol.specs.Ancestry.{stepsToRoot, heightBy, height, isAncestorBy}
 use Rattle.protocol.specs.Form.{replicaFormed, certificateFormed}
 use Rattle.protocol.specs.Quorum.{certificatesOf, firstOf}
 use Rattle.protocol.specs.Calls.{block, decide}
@@ -85,6 +85,13 @@ module _ (f : ℕ) (past : List Event) (m : Memory) (h : Reached f past m) where
       let word = h .told .blocks i (omega tests) in
       omega tests)
       (λ e. rw (h .strangers i (omega tests)) (omega arith))
+
+  -- The height of the decided block, by the words, is the panel of the history.
+  pub panel-height : (i : ℕ) → i < replicaCount f → height m (replica m i .decidedBlock) ≡ panel past i
+  unfolding panel
+  panel-height i own =
+      ap (height m) (h .told .blocks i own)
+      ∙ height-same (parent m) (givenParent past) (blockCount m) (falls m (h .safe .formed)) (h .told .parents) _ (shown-known i)
 
   pub one-line : {v b w c : ℕ} → b < blockCount m → c < blockCount m → Chosen m v b → Chosen m w c → OneLine past b c
   one-line {v} {b} {w} {c} known-b known-c hb hc =

@@ -1,4 +1,5 @@
--- What all twelve rules have in common: the numbers of their needs. So a refused call changes nothing, and the lowest number wins.
+-- What the rules have in common: the numbers of their needs and, but for opening, that the form is tested first. So a refused call
+-- changes nothing, and the lowest number wins.
 use Prim.Native.Nat.{ℕ}
 use mathlib.Core.Path.{_≡_, refl}
 use mathlib.Core.Bool.{true, false}
@@ -8,12 +9,13 @@ use Rattle.protocol.specs.declared.Call.{Call}
 use Rattle.protocol.specs.declared.Call.the-variants.{Open, Block, Prepare, Store, View, Accumulate, Decide, Reboot}
 use Rattle.protocol.specs.declared.Call.the-variants.{Reserve, Request, Reply, Recover}
 use Rattle.protocol.specs.Memory.{Memory}
-use Rattle.protocol.specs.Outcome.{firstRefusal, answered, follow}
+use Rattle.protocol.specs.Form.{wellFormed}
+use Rattle.protocol.specs.Outcome.{wrongForm, firstRefusal, answered, follow}
 use Rattle.protocol.specs.Calls.{issuing, opening, block, prepare, store, view, accumulate, decide, reboot, reserve}
 use Rattle.protocol.specs.Calls.{request, reply, recover}
 use Rattle.protocol.specs.Runs.{ruleOf, step}
 use Rattle.protocol.specs.Theorems.{isOpening, RefusedChangesNothing, LowestWins, OpeningTestsFaultsFirst}
-use Rattle.protocol.proofs.Needs.{Holds, positive, risingFrom, all-needs, refused, lowest}
+use Rattle.protocol.proofs.Needs.{Holds, positive, risingFrom, all-needs, fails, refused, lowest}
 
 numbers-positive : (m : Memory) (call : Call) (list : List ℕ) → positive (ruleOf m call list .needs) ≡ true
 unfolding ruleOf issuing opening block prepare store view accumulate decide reboot reserve request reply recover
@@ -45,6 +47,23 @@ numbers-rise m (Reserve i) list e = refl
 numbers-rise m (Request i) list e = refl
 numbers-rise m (Reply i number) list e = refl
 numbers-rise m (Recover i) list e = refl
+
+-- Each rule but opening's tests the form first.
+pub no-form : (m : Memory) (call : Call) (list : List ℕ) → isOpening call ≡ false → wellFormed m ≡ false
+    → firstRefusal (ruleOf m call list .needs) ≡ wrongForm
+unfolding ruleOf issuing block prepare store view accumulate decide reboot reserve request reply recover
+no-form m (Open f) list n e = cc
+no-form m (Block p) list n e = fails _ e
+no-form m (Prepare i b justification) list n e = fails _ e
+no-form m (Store i number) list n e = fails _ e
+no-form m (View i w) list n e = fails _ e
+no-form m (Accumulate i) list n e = fails _ e
+no-form m (Decide i) list n e = fails _ e
+no-form m (Reboot i) list n e = fails _ e
+no-form m (Reserve i) list n e = fails _ e
+no-form m (Request i) list n e = fails _ e
+no-form m (Reply i number) list n e = fails _ e
+no-form m (Recover i) list n e = fails _ e
 
 -- Every need of a call that nothing refuses holds.
 pub needs-hold : (m : Memory) (call : Call) (list : List ℕ) → firstRefusal (ruleOf m call list .needs) ≡ 0

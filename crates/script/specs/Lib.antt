@@ -1,5 +1,6 @@
 -- A script line and its answer (document 01, "Script program").
 pub mod Lines
 pub mod Session
+pub mod Agreement
 pub mod Text
 pub mod Theorems

@@ -17,8 +17,10 @@ use Rattle.ledger.specs.Called.{calledBy, called}
 use Rattle.script.specs.Lines.{numbers, hasNumbers}
 use Rattle.script.specs.Session.{lentLength, lending, answerNumbers, answerLine}
 use Rattle.script.specs.Text.{answerText}
+use Rattle.script.specs.Agreement.{eventTable, lineEvent}
 use Rattle.stream.specs.Output.{linesFrom, answersTo, output}
-use Rattle.stream.specs.Cases.{lineOf, textOf, workedInput, workedOutput, WorkedScript}
+use Rattle.stream.specs.Agreement.{shownHistory}
+use Rattle.stream.specs.Cases.{lineOf, textOf, workedInput, workedOutput, WorkedScript, WorkedScriptTells}
 
 pub worked-script : WorkedScript
 unfolding update appendCertificate appendBlock allHold allBelow blockFormed replicaFormed certificateFormed lengthsFit
@@ -29,3 +31,8 @@ unfolding update appendCertificate appendBlock allHold allBelow blockFormed repl
     lending answerNumbers answerLine answerText linesFrom answersTo output lineOf textOf
     workedInput workedOutput WorkedScript
 worked-script = refl
+
+pub worked-script-tells : WorkedScriptTells
+unfolding leastFrom digitCount digits fieldOf continued unpadded justified readField numbers linesFrom lineOf textOf workedInput
+    workedOutput WorkedScript eventTable lineEvent shownHistory WorkedScriptTells
+worked-script-tells = rw worked-script refl

@@ -1,4 +1,5 @@
--- Laws of bytes fed, of line feeds, of bytes held and of text in front; then the theorem and the case that specs/ states.
+-- Laws of bytes fed, of line feeds, of bytes held, of text in front and of the lines of the output; the theorems and the case that specs/
+-- states.
 pub mod Long
 pub mod Fed
 pub mod Feeds
@@ -8,4 +9,6 @@ pub mod Answers
 pub mod Feeding
 pub mod Front
 pub mod Theorems
+pub mod Shown
+pub mod Agreement
 pub mod Cases

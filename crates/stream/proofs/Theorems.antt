@@ -15,7 +15,7 @@ use Rattle.stream.specs.Progress.{begun}
 use Rattle.stream.proofs.Fed.{answered, line-ended, at-feed, at-other, fed-stopped}
 use Rattle.stream.proofs.Front.{written-at-once}
 
-lines-next : (line : List ℕ) (byte : ℕ) (bytes : List ℕ)
+pub lines-next : (line : List ℕ) (byte : ℕ) (bytes : List ℕ)
     → linesFrom line (byte ∷ bytes) ≡ cond (eqb byte lineFeed) (line ∷ linesFrom [] bytes) (linesFrom (line ++ (byte ∷ [])) bytes)
 unfolding linesFrom
 lines-next [] byte bytes = refl

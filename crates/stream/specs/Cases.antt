@@ -2,9 +2,11 @@
 use Prim.Native.Nat.{ℕ}
 use mathlib.Core.Path.{_≡_}
 use mathlib.Core.List.{List, [], _∷_, _++_}
+use Rattle.protocol.specs.History.{added, decided, other}
 use Rattle.field.specs.Field.{fieldOf}
 use Rattle.script.specs.Text.{lineFeed}
 use Rattle.stream.specs.Output.{output}
+use Rattle.stream.specs.Agreement.{toldWithin}
 
 -- The fields of a line, and its line feed.
 unfoldable pub lineOf : List ℕ → List ℕ
@@ -49,3 +51,9 @@ workedOutput =
 
 unfoldable pub WorkedScript : Type 0
 WorkedScript = output (textOf workedInput) ≡ textOf workedOutput
+
+-- What the ten lines after its opening tell, the newest first: block 1 came on block 0, and replica 0 decided block 1 in view 1.
+unfoldable pub WorkedScriptTells : Type 0
+WorkedScriptTells =
+    toldWithin (textOf workedInput) 0 10
+    ≡ decided 0 1 1 ∷ other ∷ other ∷ other ∷ other ∷ other ∷ added 1 0 ∷ other ∷ other ∷ other ∷ []

@@ -5,4 +5,5 @@ pub mod Progress
 pub mod Feeds
 pub mod Holding
 pub mod Theorems
+pub mod Agreement
 pub mod Cases

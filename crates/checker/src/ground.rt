@@ -5,8 +5,8 @@ ghost use Rattle.protocol.specs.Outcome.{firstRefusal};
 ghost use Rattle.protocol.specs.Calls.{numbersOf};
 ghost use Rattle.quorum.specs.Lists.{certificatesIn};
 ghost use Rattle.checker.specs.Grounds.{Grounded, justificationNeeds, groundOf};
-use super::words::ACC;
 use super::words::signed_at;
+use layout::ACC;
 use protocol::Justification;
 
 // What a justification gives: the view to propose in, and the block to build on.

@@ -19,15 +19,6 @@ use layout::VIEW_LIMIT_AT;
 use layout::certificate_word;
 use layout::replica_word;
 
-// The kinds of certificates that the checker reads and issues.
-pub const PROP: u32 = 1;
-
-pub const COMMIT: u32 = 2;
-
-pub const NEWVIEW: u32 = 3;
-
-pub const ACC: u32 = 4;
-
 // The words of a replica that say what it may sign, and what it has stored.
 pub struct Standing {
     pub status: u32,

@@ -18,28 +18,17 @@ ghost use Rattle.quorum.specs.Lists.{
   Greatest,
 };
 ghost use Rattle.quorum.specs.Signers.{holds};
-
-const CERTIFICATE_WORDS: usize = 7;
-
-const KIND_AT: usize = 0;
-
-const SIGNER_AT: usize = 1;
-
-const VIEW_AT: usize = 2;
-
-const BLOCK_AT: usize = 3;
-
-const OF_VIEW_AT: usize = 4;
-
-const SUBJECT_AT: usize = 5;
-
-const BOOT_AT: usize = 6;
-
-const COMMIT: u32 = 2;
-
-const NEWVIEW: u32 = 3;
-
-const REPLY: u32 = 6;
+use layout::CERTIFICATE_WORDS;
+use layout::COMMIT;
+use layout::KIND_AT;
+use layout::NEWVIEW;
+use layout::OF_VIEW_AT;
+use layout::PROPOSED_BLOCK_AT;
+use layout::REPLY;
+use layout::SIGNER_AT;
+use layout::SUBJECT_AT;
+use layout::SUBJECT_BOOT_AT;
+use layout::VIEW_AT;
 
 // What each certificate of a quorum has to be.
 enum Wanted {
@@ -68,12 +57,12 @@ fn is_wanted(log: &[u32], number: u32, wanted: Wanted) -> bool
     match wanted {
         Wanted::Commit(view, block) => (kind == COMMIT)
             & (in_view == view)
-            & (word(log, number, BLOCK_AT) == block),
+            & (word(log, number, PROPOSED_BLOCK_AT) == block),
         Wanted::NewView(view) => (kind == NEWVIEW) & (in_view == view),
         Wanted::Reply(subject, boot, view) => {
             (kind == REPLY)
                 & (word(log, number, SUBJECT_AT) == subject)
-                & (word(log, number, BOOT_AT) == boot)
+                & (word(log, number, SUBJECT_BOOT_AT) == boot)
                 & (in_view == view)
                 & (word(log, number, SIGNER_AT) != subject)
         }

@@ -13,9 +13,9 @@ use Rattle.protocol.specs.Outcome.{_else_, wrongForm, outOfRange, unknownNumber
 use Rattle.protocol.specs.Calls.{isReplica, isBlock, numbersOf, isSized, proposalView, isAhead, prepare, store, view}
 use Rattle.checks.specs.Needs.{replicaNeeds, numberNeeds}
 use Rattle.checker.specs.Steps.{standingIn, signedIn, storeTests, viewTests}
-use Rattle.checker.specs.Grounds.{justificationNeeds, prepareTests}
+use Rattle.checker.specs.Justifications.{justificationNeeds, prepareTests}
 use Rattle.checker.proofs.Issue.{Issues}
-use Rattle.checker.proofs.Grounds.{swapped}
+use Rattle.checker.proofs.Justifications.{swapped}
 
 module _ (m : Memory) (i : ℕ) where
   pub preparing : (b : ℕ) (j : Justification) (list : List ℕ) → let cs = certificatesOf m (numbersOf j list) in

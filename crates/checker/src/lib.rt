@@ -17,7 +17,7 @@ ghost use Rattle.protocol.specs.Certificates.{propOf};
 ghost use Rattle.protocol.specs.Outcome.{left, firstRefusal, outcomeBy};
 ghost use Rattle.protocol.specs.Calls.{prepare as prepareRule, store as storeRule, view as viewRule};
 ghost use Rattle.certificates.specs.Filing.{certificateOf};
-ghost use Rattle.checker.specs.Grounds.{proposalTests};
+ghost use Rattle.checker.specs.Justifications.{proposalTests};
 ghost use Rattle.checker.specs.Steps.{
   Issuable,
   storeTests,
@@ -25,8 +25,8 @@ ghost use Rattle.checker.specs.Steps.{
   viewTests,
   issuance,
 };
-use self::ground::Given;
-use self::ground::Ground;
+use self::justification::Judgement;
+use self::justification::Justified;
 use self::words::Signed;
 use self::words::Standing;
 use self::words::of_kind;
@@ -60,7 +60,7 @@ use protocol::WRONG_CERTIFICATE;
 use protocol::WRONG_STATUS;
 use protocol::WRONG_VIEW;
 
-mod ground;
+mod justification;
 mod leader;
 mod words;
 
@@ -72,27 +72,27 @@ fn proposal_refusal(
     block: u32,
     parent: u32,
     r: Standing,
-    ground: Ground,
+    justified: Justified,
 ) -> u32
     requires { ⌜ f ≤ maxFaultBound ⌝ }
-    ensures { λ n. ⌜ n ≡ firstRefusal (proposalTests f replica block parent r ground) ⌝ }
+    ensures { λ n. ⌜ n ≡ firstRefusal (proposalTests f replica block parent r justified) ⌝ }
 {
-    if !leader::leads(f, ground.view, replica) {
+    if !leader::leads(f, justified.view, replica) {
         return WRONG_CERTIFICATE;
     }
     if block == 0 {
         return WRONG_BLOCK;
     }
-    if parent != ground.block {
+    if parent != justified.block {
         return WRONG_BLOCK;
     }
-    if r.min_view != ground.view {
+    if r.min_view != justified.view {
         return WRONG_VIEW;
     }
     if r.flag != LOWERED {
         return WRONG_VIEW;
     }
-    if r.view_limit <= ground.view {
+    if r.view_limit <= justified.view {
         return COUNTER_LIMIT;
     }
     0
@@ -126,7 +126,14 @@ pub fn prepare(
         ≡ outcomeBy (λ m. prepareRule m replica block justification (now (list .entry)))
         (now (table .entry)) (now (log .entry)) (now (blocks .entry)) ⌝ }
 {
-    let refusal = ground::justification_refusal(table, log, blocks, replica, justification, list);
+    let refusal = justification::justification_refusal(
+        table,
+        log,
+        blocks,
+        replica,
+        justification,
+        list,
+    );
     if refusal != 0 {
         return refused(refusal);
     }
@@ -137,17 +144,17 @@ pub fn prepare(
     if standing.status != LIVE {
         return refused(WRONG_STATUS);
     }
-    let given = ground::ground_of(log, replica, justification, list);
-    let Given::By(ground) = given else {
+    let judgement = justification::judge(log, replica, justification, list);
+    let Judgement::By(justified) = judgement else {
         return refused(WRONG_CERTIFICATE);
     };
     let f = table[FAULT_BOUND_AT];
     let parent = layout::parent(blocks, block);
-    let refusal = proposal_refusal(f, replica, block, parent, standing, ground);
+    let refusal = proposal_refusal(f, replica, block, parent, standing, justified);
     if refusal != 0 {
         return refused(refusal);
     }
-    propose(table, log, replica, ground.view, block)
+    propose(table, log, replica, justified.view, block)
 }
 
 // ---- store

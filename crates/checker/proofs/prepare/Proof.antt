@@ -5,7 +5,7 @@ use Rattle.protocol.proofs.Tests.{tests}
 use Rattle.checks.proofs.Ends.{row-within}
 use Rattle.checker.proofs.Issue.{issuable, stops-first, stops-further, passes}
 use Rattle.checker.proofs.Rules.{preparing}
-use Rattle.checker.proofs.Grounds.{ready-justification, not-known, not-live, no-ground, on-ground, given-by}
+use Rattle.checker.proofs.Justifications.{ready-justification, not-known, not-live, not-justified, on-justified, was-justified}
 use Rattle.checker.proofs.prepare.Statement.{statement}
 use Rattle.checker.proofs.prepare.Tie as tie
 
@@ -42,13 +42,13 @@ returns-3 c =
     (c .refused3 .ensures) (not-live _ _ _ _ _ (omega (tests, after-if2 .if2 .left))
     (rw (c .before .before .before .standing-of .ensures) at (c .before .if3 .taken))) (omega arith)
 
-ground-of-requires : tie.Need-ground-of-requires
-ground-of-requires c κs =
+judge-requires : tie.Need-judge-requires
+judge-requires c κs =
     let after-before = c .before .before .before .before .before in
     let after-before = after-before .before in
     let after-if1 = after-before .before in
     ready-justification _ _ _ _
-    (sym (after-if1 .before .justification-refusal .ensures) ∙ after-if1 .if1 .left) .grounded
+    (sym (after-if1 .before .justification-refusal .ensures) ∙ after-if1 .if1 .left) .within
 
 returns-4 : tie.Need-returns-4
 returns-4 c =
@@ -57,9 +57,9 @@ returns-4 c =
     let after-if2 = after-if3 .before .before .before .before in
     stops-further (preparing _ _ _ _ _)
     (sym (after-if2 .before .before .before .justification-refusal .ensures) ∙ after-if2 .before .before .if1 .left)
-    (c .refused4 .ensures) (no-ground _ _ _ _ _ (omega (tests, after-if2 .if2 .left))
+    (c .refused4 .ensures) (not-justified _ _ _ _ _ (omega (tests, after-if2 .if2 .left))
     (rw (after-if3 .before .before .standing-of .ensures) at (after-if3 .if3 .left))
-    (sym (c .before .enum-told .given .1) ∙ c .before .before .before .ground-of .ensures)) (omega arith)
+    (sym (c .before .enum-told .given .1) ∙ c .before .before .before .judge .ensures)) (omega arith)
 
 slice-read-f : tie.Need-slice-read-f
 slice-read-f c =
@@ -87,17 +87,17 @@ proposal-refusal-requires c κs =
 
 returns-5 : tie.Need-returns-5
 returns-5 c =
-    let after-given = c .before .before .before .before .before .before .before in
-    let after-if3 = after-given .before .before .before .before in
+    let after-judgement = c .before .before .before .before .before .before .before in
+    let after-if3 = after-judgement .before .before .before .before in
     let after-standing-of = after-if3 .before .before in
     let after-if1 = after-standing-of .before .before .before .before in
-    let given = sym (after-given .given .given .1) ∙ after-given .before .before .ground-of .ensures in
+    let judged = sym (after-judgement .judgement .given .1) ∙ after-judgement .before .before .judge .ensures in
     let tested = rw (c .before .before .before .parent .ensures, after-standing-of .standing-of .ensures)
     at (c .before .before .proposal-refusal .ensures) in
     stops-further (preparing _ _ _ _ _)
     (sym (after-if1 .before .justification-refusal .ensures) ∙ after-if1 .if1 .left) (c .refused5 .ensures)
-    (on-ground _ _ _ _ _ (omega (tests, after-standing-of .before .before .if2 .left))
-    (rw (after-standing-of .standing-of .ensures) at (after-if3 .if3 .left)) given tested)
+    (on-justified _ _ _ _ _ (omega (tests, after-standing-of .before .before .if2 .left))
+    (rw (after-standing-of .standing-of .ensures) at (after-if3 .if3 .left)) judged tested)
     (omega (arith, c .before .if4 .taken))
 
 propose-requires : tie.Need-propose-requires
@@ -113,19 +113,19 @@ returns-6 : tie.Need-returns-6
 returns-6 c =
     let after-propose = c .before .before .before .before in
     let after-proposal-refusal = after-propose .before .before .before .before in
-    let after-given = after-proposal-refusal .before .before .before .before .before in
-    let after-if3 = after-given .before .before .before .before in
+    let after-judgement = after-proposal-refusal .before .before .before .before .before in
+    let after-if3 = after-judgement .before .before .before .before in
     let after-standing-of = after-if3 .before .before in
     let after-if1 = after-standing-of .before .before .before .before in
     let after-args = after-if1 .before .before .before .before .before .before .before .before .before in
-    let given = sym (after-given .given .given .1) ∙ after-given .before .before .ground-of .ensures in
+    let judged = sym (after-judgement .judgement .given .1) ∙ after-judgement .before .before .judge .ensures in
     let tested = rw (after-proposal-refusal .before .parent .ensures, after-standing-of .standing-of .ensures)
     at (after-proposal-refusal .proposal-refusal .ensures) in
     passes (preparing _ _ _ _ _) (sym (after-if1 .before .justification-refusal .ensures) ∙ after-if1 .if1 .left)
-    (sym (on-ground _ _ _ _ _ (omega (tests, after-standing-of .before .before .if2 .left))
-    (rw (after-standing-of .standing-of .ensures) at (after-if3 .if3 .left)) given tested)
+    (sym (on-justified _ _ _ _ _ (omega (tests, after-standing-of .before .before .if2 .left))
+    (rw (after-standing-of .standing-of .ensures) at (after-if3 .if3 .left)) judged tested)
     ∙ after-propose .before .before .before .if4 .left)
-    (rw (given-by _ _ _ given .1) at (after-propose .propose .ensures (after-args .args .blocks .now)))
+    (rw (was-justified _ _ _ judged .1) at (after-propose .propose .ensures (after-args .args .blocks .now)))
 
 pub prepare-spec : {M : Type 1} → statement M
 prepare-spec =
@@ -133,7 +133,7 @@ prepare-spec =
     (tie.spec (λ c κs. search needs) (λ c κs. search needs) (λ c. search needs) (λ c. search needs)
     (λ c. search needs) returns slice-read-if2 (λ c κs. search needs) (λ c. search needs) (λ c. search needs)
     (λ c. search needs) returns-2 standing-of-requires (λ c κs. search needs) (λ c. search needs)
-    (λ c. search needs) (λ c. search needs) returns-3 ground-of-requires (λ c. search needs) (λ c. search needs)
+    (λ c. search needs) (λ c. search needs) returns-3 judge-requires (λ c. search needs) (λ c. search needs)
     (λ c κs. search needs) (λ c. search needs) (λ c. search needs) (λ c. search needs) returns-4 slice-read-f
     parent-requires proposal-refusal-requires (λ c κs. search needs) (λ c. search needs) (λ c. search needs)
     (λ c. search needs) returns-5 propose-requires (λ c. search needs) (λ c. search needs) (λ c. search needs)

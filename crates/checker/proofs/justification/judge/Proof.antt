@@ -1,9 +1,9 @@
 use mathlib.Core.Path.{sym, _∙_}
 use native.Mathlib.Omega.{arith}
 use borrow.Author.Needs.{needs}
-use Rattle.checker.proofs.Grounds.{acc-other-kind, acc-other-signer, acc-gives, no-quorum, quorum-gives, has-next}
-use Rattle.checker.proofs.ground.ground_of.Statement.{statement}
-use Rattle.checker.proofs.ground.ground_of.Tie as tie
+use Rattle.checker.proofs.Justifications.{acc-other-kind, acc-other-signer, acc-gives, no-quorum, quorum-gives, has-next}
+use Rattle.checker.proofs.justification.judge.Statement.{statement}
+use Rattle.checker.proofs.justification.judge.Tie as tie
 
 signed-at-requires : tie.Need-signed-at-requires
 signed-at-requires c κs =
@@ -55,8 +55,8 @@ returns-5 c =
     no-quorum (after-args .args .log .now) _ _ (c .before .before .before .justification2 .given .1)
     (sym (c .before .is-commit-quorum .ensures) ∙ c .if3 .left)
 
-pub ground-of-spec : {M : Type 1} → statement M
-ground-of-spec =
+pub judge-spec : {M : Type 1} → statement M
+judge-spec =
     tie.close
     (tie.spec (λ c. search needs) signed-at-requires returns returns-2 (λ c. search needs) is-commit-quorum-requires
     add-t13 returns-3 returns-4 returns-5)

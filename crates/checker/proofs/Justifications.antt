@@ -8,7 +8,7 @@ use lib.ListN.{getD}
 use lib.Dec.{eqb}
 use Rattle.protocol.specs.declared.Justification.{Justification}
 use Rattle.protocol.specs.declared.Justification.the-variants.{Acc, Commits}
-use Rattle.protocol.specs.Memory.{Memory, Certificate, ceiling, faultBound, live, memory, parent}
+use Rattle.protocol.specs.Memory.{Memory, Certificate, ceiling, faultBound, live, memory, replica, parent}
 use Rattle.protocol.specs.Form.{allHold}
 use Rattle.protocol.specs.Certificates.{ACC}
 use Rattle.protocol.specs.Quorum.{every, isIssued, allIssued, certificatesOf, isCommitQuorum}
@@ -18,14 +18,14 @@ use Rattle.protocol.proofs.Tests.{tests, by-test, and-true, all-hold}
 use Rattle.protocol.proofs.Needs.{all-needs, fails, holds}
 use Rattle.protocol.proofs.Formed.{Formed, formed, sizes}
 use Rattle.layout.proofs.Within.{certificate-bounds}
-use Rattle.quorum.specs.Lists.{certificatesIn}
+use Rattle.certificates.specs.declared.Certificate as code
+use Rattle.records.proofs.Reading.{certificateFrom}
+use Rattle.quorum.specs.Lists.{certificateIn, certificatesIn}
 use Rattle.quorum.proofs.Accepted.{listed, some-listed, every-at, commits}
 use Rattle.checks.specs.Needs.{numberNeeds, listNeeds}
 use Rattle.checks.proofs.Ready.{Ready}
-use Rattle.checker.specs.declared.words.Signed.{Signed}
 use Rattle.checker.specs.declared.justification.Justified.{Justified}
 use Rattle.checker.specs.declared.justification.Judgement.the-variants.{By, Unjustified}
-use Rattle.checker.specs.Steps.{standingIn, signedIn}
 use Rattle.checker.specs.Justifications.{justificationNeeds, CommitsIn, JustificationIn, justifiedBy, judgementOf, proposalTests}
 use Rattle.checker.specs.Justifications.{prepareTests}
 
@@ -111,7 +111,7 @@ second-fails true e = rw e refl
 second-fails false e = refl
 
 module _ (log list : List ℕ) (i : ℕ) {j : Justification} where
-  module _ {number : ℕ} (is : j ≡ Acc number) {p : Signed} (read : p ≡ signedIn log number) where
+  module _ {number : ℕ} (is : j ≡ Acc number) {p : code.Certificate} (read : p ≡ certificateFrom (certificateIn log number)) where
     pub acc-other-kind : (p .kind ≡ ACC → ⊥) → Unjustified ≡ judgementOf i j (certificatesIn log (numbersOf j list))
     acc-other-kind h =
         let other = rw read at h in
@@ -160,18 +160,18 @@ unfolding prepareTests
 not-known m i b j list e = sym (fails _ e)
 
 module _ (m : Memory) (i b : ℕ) (j : Justification) (list : List ℕ) (known : isBlock m b ≡ true) where
-  pub not-live : (standingIn (m .table) i .status ≡ live → ⊥) → wrongStatus ≡ firstRefusal (prepareTests m i b j list)
+  pub not-live : (replica m i .status ≡ live → ⊥) → wrongStatus ≡ firstRefusal (prepareTests m i b j list)
   unfolding prepareTests
   not-live h = sym (holds _ _ known ∙ fails _ (omega tests))
 
-  module _ (is-live : standingIn (m .table) i .status ≡ live) where
+  module _ (is-live : replica m i .status ≡ live) where
     pub not-justified : Unjustified ≡ judgementOf i j (certificatesOf m (numbersOf j list))
         → wrongCertificate ≡ firstRefusal (prepareTests m i b j list)
     unfolding prepareTests
     not-justified e = sym (holds _ _ known ∙ holds _ _ (omega tests) ∙ fails _ (was-unjustified i j _ e))
 
     pub on-justified : {g : Justified} {n : ℕ} → By g ≡ judgementOf i j (certificatesOf m (numbersOf j list))
-        → n ≡ firstRefusal (proposalTests (faultBound m) i b (parent m b) (standingIn (m .table) i) g)
+        → n ≡ firstRefusal (proposalTests (faultBound m) i b (parent m b) (replica m i) g)
         → n ≡ firstRefusal (prepareTests m i b j list)
     unfolding prepareTests
     on-justified e q =

@@ -12,7 +12,7 @@ use Rattle.protocol.specs.Quorum.{allIssued, certificatesOf}
 use Rattle.protocol.specs.Outcome.{_else_, wrongForm, outOfRange, unknownNumber}
 use Rattle.protocol.specs.Calls.{isReplica, isBlock, numbersOf, isSized, proposalView, isAhead, prepare, store, view}
 use Rattle.checks.specs.Needs.{replicaNeeds, numberNeeds}
-use Rattle.checker.specs.Steps.{standingIn, signedIn, storeTests, viewTests}
+use Rattle.checker.specs.Steps.{storeTests, viewTests}
 use Rattle.checker.specs.Justifications.{justificationNeeds, prepareTests}
 use Rattle.checker.proofs.Issue.{Issues}
 use Rattle.checker.proofs.Justifications.{swapped}
@@ -35,7 +35,7 @@ module _ (m : Memory) (i : ℕ) where
 
   pub storing : (number : ℕ) → let p = certificate m number in
       Issues m (store m i number) (numberNeeds m i number)
-      (storeTests (faultBound m) (standingIn (m .table) i) (signedIn (m .log) number)) i
+      (storeTests (faultBound m) (replica m i) p) i
       (storedViewAt becomes p .view ∷ storedBlockAt becomes p .block ∷ minViewAt becomes (p .view + 1)
       ∷ flagAt becomes lowered ∷ [])
       (commitOf i (p .view) (p .block))
@@ -43,7 +43,7 @@ module _ (m : Memory) (i : ℕ) where
   storing number = record { needs = _; is = refl; numbered = refl; first-numbered = refl; same-refusal = refl }
 
   pub viewing : (w : ℕ) → let r = replica m i in
-      Issues m (view m i w) (replicaNeeds m i) (viewTests (standingIn (m .table) i) w) i
+      Issues m (view m i w) (replicaNeeds m i) (viewTests (replica m i) w) i
       (flagAt becomes cond (isAhead r w) lowered (r .flag) ∷ minViewAt becomes w ∷ [])
       (newViewOf i w (r .storedBlock) (r .storedView))
   unfolding view

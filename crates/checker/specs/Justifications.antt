@@ -6,8 +6,8 @@ use lib.ListN.{length, getD}
 use lib.Dec.{ltb, eqb}
 use Rattle.protocol.specs.declared.Justification.{Justification}
 use Rattle.protocol.specs.declared.Justification.the-variants.{Acc, Commits}
-use Rattle.protocol.specs.Memory.{Memory, Certificate, ceiling, faultBound, certificateAt, certificateWords, live, lowered}
-use Rattle.protocol.specs.Memory.{parent}
+use Rattle.protocol.specs.Memory.{Memory, Replica, Certificate, ceiling, faultBound, certificateAt, certificateWords, live, lowered}
+use Rattle.protocol.specs.Memory.{replica, parent}
 use Rattle.protocol.specs.Quorum.{allIssued, certificatesOf}
 use Rattle.protocol.specs.Leader.{leads}
 use Rattle.protocol.specs.Outcome.{Need, _else_, outOfRange, unknownNumber, wrongStatus, wrongCertificate, wrongBlock, wrongView}
@@ -15,8 +15,6 @@ use Rattle.protocol.specs.Outcome.{counterLimit}
 use Rattle.protocol.specs.Calls.{isBlock, numbersOf, isSized, proposalView, justifiedBlock, isJustified}
 use Rattle.quorum.specs.Lists.{certificateIn, Listed}
 use Rattle.checks.specs.Needs.{replicaNeeds}
-use Rattle.checker.specs.Steps.{standingIn}
-use Rattle.checker.specs.declared.words.Standing.{Standing}
 use Rattle.checker.specs.declared.justification.Justified.{Justified}
 use Rattle.checker.specs.declared.justification.Judgement.{Judgement}
 use Rattle.checker.specs.declared.justification.Judgement.the-variants.{By, Unjustified}
@@ -42,20 +40,20 @@ justifiedBy j cs = record { view = proposalView j cs; block = justifiedBlock j c
 unfoldable pub judgementOf : ℕ → Justification → List Certificate → Judgement
 judgementOf i j cs = cond (isJustified i j cs) (By (justifiedBy j cs)) Unjustified
 
-abbrev pub proposalTests : ℕ → ℕ → ℕ → ℕ → Standing → Justified → List Need
+abbrev pub proposalTests : ℕ → ℕ → ℕ → ℕ → Replica → Justified → List Need
 proposalTests f i b parent r justified =
     leads f (justified .view) i else wrongCertificate
     ∷ not (eqb b 0) else wrongBlock
     ∷ eqb parent (justified .block) else wrongBlock
-    ∷ eqb (r .«min_view») (justified .view) else wrongView
+    ∷ eqb (r .minView) (justified .view) else wrongView
     ∷ eqb (r .flag) lowered else wrongView
-    ∷ ltb (justified .view) (r .«view_limit») else counterLimit
+    ∷ ltb (justified .view) (r .viewLimit) else counterLimit
     ∷ []
 
 -- All needs after those of the justification.
 unfoldable pub prepareTests : Memory → ℕ → ℕ → Justification → List ℕ → List Need
 prepareTests m i b j list =
-    let r = standingIn (m .table) i in
+    let r = replica m i in
     let cs = certificatesOf m (numbersOf j list) in
     isBlock m b else unknownNumber
     ∷ eqb (r .status) live else wrongStatus

@@ -5,16 +5,16 @@ ghost use Rattle.protocol.specs.Outcome.{firstRefusal};
 ghost use Rattle.protocol.specs.Calls.{numbersOf};
 ghost use Rattle.quorum.specs.Lists.{certificatesIn};
 ghost use Rattle.checker.specs.Justifications.{JustificationIn, justificationNeeds, judgementOf};
-use super::words::signed_at;
 use layout::ACC;
 use protocol::Justification;
 
-// What a justification gives: the view to propose in, and the block to build on.
+// What a justification that holds gives: the view to propose in, and the block to build on.
 pub struct Justified {
     pub view: u32,
     pub block: u32,
 }
 
+// Whether a justification holds, and what it gives then.
 pub enum Judgement {
     By(Justified),
     Unjustified,
@@ -47,7 +47,7 @@ pub fn judge(log: &[u32], replica: u32, justification: Justification, list: &[u3
 {
     match justification {
         Justification::Acc(number) => {
-            let acc = signed_at(log, number);
+            let acc = records::certificate_in(log, number);
             if acc.kind != ACC {
                 return Judgement::Unjustified;
             }

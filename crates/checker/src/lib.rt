@@ -17,9 +17,11 @@ ghost use Rattle.protocol.specs.Certificates.{propOf};
 ghost use Rattle.protocol.specs.Outcome.{left, firstRefusal, outcomeBy};
 ghost use Rattle.protocol.specs.Calls.{prepare as prepareRule, store as storeRule, view as viewRule};
 ghost use Rattle.certificates.specs.Filing.{certificateOf};
+ghost use Rattle.records.specs.Replicas.{replicaOf};
 ghost use Rattle.checker.specs.Justifications.{proposalTests};
 ghost use Rattle.checker.specs.Steps.{
   Issuable,
+  ofKind,
   storeTests,
   storedWords,
   viewTests,
@@ -27,11 +29,6 @@ ghost use Rattle.checker.specs.Steps.{
 };
 use self::justification::Judgement;
 use self::justification::Justified;
-use self::words::Signed;
-use self::words::Standing;
-use self::words::of_kind;
-use self::words::signed_at;
-use self::words::standing_of;
 use certificates::Certificate;
 use certificates::Filed;
 use checks::accepted;
@@ -59,10 +56,25 @@ use protocol::WRONG_BLOCK;
 use protocol::WRONG_CERTIFICATE;
 use protocol::WRONG_STATUS;
 use protocol::WRONG_VIEW;
+use records::Replica;
 
 mod justification;
 mod leader;
-mod words;
+
+// A certificate of the three kinds that the checker issues: they name no subject and no boot.
+fn of_kind(kind: u32, signer: u32, view: u32, block: u32, of_view: u32) -> Certificate
+    ensures { λ r. ⌜ certificateOf r ≡ ofKind kind signer view block «of_view» ⌝ }
+{
+    Certificate {
+        kind,
+        signer,
+        view,
+        block,
+        of_view,
+        subject: 0,
+        boot: 0,
+    }
+}
 
 // ---- prepare
 
@@ -71,11 +83,11 @@ fn proposal_refusal(
     replica: u32,
     block: u32,
     parent: u32,
-    r: Standing,
+    r: Replica,
     justified: Justified,
 ) -> u32
     requires { ⌜ f ≤ maxFaultBound ⌝ }
-    ensures { λ n. ⌜ n ≡ firstRefusal (proposalTests f replica block parent r justified) ⌝ }
+    ensures { λ n. ⌜ n ≡ firstRefusal (proposalTests f replica block parent (replicaOf r) justified) ⌝ }
 {
     if !leader::leads(f, justified.view, replica) {
         return WRONG_CERTIFICATE;
@@ -140,8 +152,8 @@ pub fn prepare(
     if table[BLOCK_COUNT_AT] <= block {
         return refused(UNKNOWN_NUMBER);
     }
-    let standing = standing_of(table, replica);
-    if standing.status != LIVE {
+    let r = records::replica_in(table, replica);
+    if r.status != LIVE {
         return refused(WRONG_STATUS);
     }
     let judgement = justification::judge(log, replica, justification, list);
@@ -150,7 +162,7 @@ pub fn prepare(
     };
     let f = table[FAULT_BOUND_AT];
     let parent = layout::parent(blocks, block);
-    let refusal = proposal_refusal(f, replica, block, parent, standing, justified);
+    let refusal = proposal_refusal(f, replica, block, parent, r, justified);
     if refusal != 0 {
         return refused(refusal);
     }
@@ -159,9 +171,9 @@ pub fn prepare(
 
 // ---- store
 
-fn store_refusal(f: u32, r: Standing, p: Signed) -> u32
+fn store_refusal(f: u32, r: Replica, p: Certificate) -> u32
     requires { ⌜ f ≤ maxFaultBound ⌝ }
-    ensures { λ n. ⌜ n ≡ firstRefusal (storeTests f r p) ⌝ }
+    ensures { λ n. ⌜ n ≡ firstRefusal (storeTests f (replicaOf r) (certificateOf p)) ⌝ }
 {
     if r.status != LIVE {
         return WRONG_STATUS;
@@ -226,9 +238,9 @@ pub fn store(
     if refusal != 0 {
         return refused(refusal);
     }
-    let standing = standing_of(table, replica);
-    let proposal = signed_at(log, number);
-    let refusal = store_refusal(table[FAULT_BOUND_AT], standing, proposal);
+    let r = records::replica_in(table, replica);
+    let proposal = records::certificate_in(log, number);
+    let refusal = store_refusal(table[FAULT_BOUND_AT], r, proposal);
     if refusal != 0 {
         return refused(refusal);
     }
@@ -245,8 +257,8 @@ pub fn store(
 
 // ---- view
 
-fn view_refusal(r: Standing, view: u32) -> u32
-    ensures { λ n. ⌜ n ≡ firstRefusal (viewTests r view) ⌝ }
+fn view_refusal(r: Replica, view: u32) -> u32
+    ensures { λ n. ⌜ n ≡ firstRefusal (viewTests (replicaOf r) view) ⌝ }
 {
     if view < 1 {
         return OUT_OF_RANGE;
@@ -267,7 +279,7 @@ fn view_refusal(r: Standing, view: u32) -> u32
 }
 
 // The flag in a view that a replica enters: lowered where the view is ahead of it.
-fn flag_in(r: Standing, view: u32) -> u32
+fn flag_in(r: Replica, view: u32) -> u32
     ensures { λ flag. ⌜ flag ≡ cond (ltb (r .«min_view») view) lowered (r .flag) ⌝ }
 {
     if r.min_view < view { LOWERED } else { r.flag }
@@ -310,17 +322,11 @@ pub fn view(
     if refusal != 0 {
         return refused(refusal);
     }
-    let standing = standing_of(table, replica);
-    let refusal = view_refusal(standing, view);
+    let r = records::replica_in(table, replica);
+    let refusal = view_refusal(r, view);
     if refusal != 0 {
         return refused(refusal);
     }
-    let new_view = of_kind(
-        NEWVIEW,
-        replica,
-        view,
-        standing.stored_block,
-        standing.stored_view,
-    );
-    enter(table, log, replica, view, flag_in(standing, view), new_view)
+    let new_view = of_kind(NEWVIEW, replica, view, r.stored_block, r.stored_view);
+    enter(table, log, replica, view, flag_in(r, view), new_view)
 }

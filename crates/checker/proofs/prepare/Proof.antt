@@ -3,6 +3,7 @@ use native.Mathlib.Omega.{arith}
 use borrow.Author.Needs.{needs}
 use Rattle.protocol.proofs.Tests.{tests}
 use Rattle.checks.proofs.Ends.{row-within}
+use Rattle.records.proofs.Reading.{replica-read}
 use Rattle.checker.proofs.Issue.{issuable, stops-first, stops-further, passes}
 use Rattle.checker.proofs.Rules.{preparing}
 use Rattle.checker.proofs.Justifications.{ready-justification, not-known, not-live, not-justified, on-justified, was-justified}
@@ -27,8 +28,8 @@ returns-2 c =
     (sym (after-justification-refusal .justification-refusal .ensures) ∙ c .before .before .before .if1 .left)
     (c .refused2 .ensures) (not-known _ _ _ _ _ (omega (tests, c .before .if2 .taken))) (omega arith)
 
-standing-of-requires : tie.Need-standing-of-requires
-standing-of-requires c κs =
+replica-in-requires : tie.Need-replica-in-requires
+replica-in-requires c κs =
     let after-justification-refusal = c .before .before .before .before in
     row-within _ _ (ready-justification _ _ _ _
     (sym (after-justification-refusal .justification-refusal .ensures) ∙ c .before .before .before .if1 .left) .ready)
@@ -40,7 +41,7 @@ returns-3 c =
     stops-further (preparing _ _ _ _ _)
     (sym (after-if2 .before .before .before .justification-refusal .ensures) ∙ after-if2 .before .before .if1 .left)
     (c .refused3 .ensures) (not-live _ _ _ _ _ (omega (tests, after-if2 .if2 .left))
-    (rw (c .before .before .before .standing-of .ensures) at (c .before .if3 .taken))) (omega arith)
+    (rw (replica-read (c .before .before .before .replica-in .ensures)) at (c .before .if3 .taken))) (omega arith)
 
 judge-requires : tie.Need-judge-requires
 judge-requires c κs =
@@ -58,7 +59,7 @@ returns-4 c =
     stops-further (preparing _ _ _ _ _)
     (sym (after-if2 .before .before .before .justification-refusal .ensures) ∙ after-if2 .before .before .if1 .left)
     (c .refused4 .ensures) (not-justified _ _ _ _ _ (omega (tests, after-if2 .if2 .left))
-    (rw (after-if3 .before .before .standing-of .ensures) at (after-if3 .if3 .left))
+    (rw (replica-read (after-if3 .before .before .replica-in .ensures)) at (after-if3 .if3 .left))
     (sym (c .before .enum-told .given .1) ∙ c .before .before .before .judge .ensures)) (omega arith)
 
 slice-read-f : tie.Need-slice-read-f
@@ -89,15 +90,15 @@ returns-5 : tie.Need-returns-5
 returns-5 c =
     let after-judgement = c .before .before .before .before .before .before .before in
     let after-if3 = after-judgement .before .before .before .before in
-    let after-standing-of = after-if3 .before .before in
-    let after-if1 = after-standing-of .before .before .before .before in
+    let after-replica-in = after-if3 .before .before in
+    let after-if1 = after-replica-in .before .before .before .before in
     let judged = sym (after-judgement .judgement .given .1) ∙ after-judgement .before .before .judge .ensures in
-    let tested = rw (c .before .before .before .parent .ensures, after-standing-of .standing-of .ensures)
+    let tested = rw (c .before .before .before .parent .ensures, replica-read (after-replica-in .replica-in .ensures))
     at (c .before .before .proposal-refusal .ensures) in
     stops-further (preparing _ _ _ _ _)
     (sym (after-if1 .before .justification-refusal .ensures) ∙ after-if1 .if1 .left) (c .refused5 .ensures)
-    (on-justified _ _ _ _ _ (omega (tests, after-standing-of .before .before .if2 .left))
-    (rw (after-standing-of .standing-of .ensures) at (after-if3 .if3 .left)) judged tested)
+    (on-justified _ _ _ _ _ (omega (tests, after-replica-in .before .before .if2 .left))
+    (rw (replica-read (after-replica-in .replica-in .ensures)) at (after-if3 .if3 .left)) judged tested)
     (omega (arith, c .before .if4 .taken))
 
 propose-requires : tie.Need-propose-requires
@@ -115,15 +116,15 @@ returns-6 c =
     let after-proposal-refusal = after-propose .before .before .before .before in
     let after-judgement = after-proposal-refusal .before .before .before .before .before in
     let after-if3 = after-judgement .before .before .before .before in
-    let after-standing-of = after-if3 .before .before in
-    let after-if1 = after-standing-of .before .before .before .before in
+    let after-replica-in = after-if3 .before .before in
+    let after-if1 = after-replica-in .before .before .before .before in
     let after-args = after-if1 .before .before .before .before .before .before .before .before .before in
     let judged = sym (after-judgement .judgement .given .1) ∙ after-judgement .before .before .judge .ensures in
-    let tested = rw (after-proposal-refusal .before .parent .ensures, after-standing-of .standing-of .ensures)
+    let tested = rw (after-proposal-refusal .before .parent .ensures, replica-read (after-replica-in .replica-in .ensures))
     at (after-proposal-refusal .proposal-refusal .ensures) in
     passes (preparing _ _ _ _ _) (sym (after-if1 .before .justification-refusal .ensures) ∙ after-if1 .if1 .left)
-    (sym (on-justified _ _ _ _ _ (omega (tests, after-standing-of .before .before .if2 .left))
-    (rw (after-standing-of .standing-of .ensures) at (after-if3 .if3 .left)) judged tested)
+    (sym (on-justified _ _ _ _ _ (omega (tests, after-replica-in .before .before .if2 .left))
+    (rw (replica-read (after-replica-in .replica-in .ensures)) at (after-if3 .if3 .left)) judged tested)
     ∙ after-propose .before .before .before .if4 .left)
     (rw (was-justified _ _ _ judged .1) at (after-propose .propose .ensures (after-args .args .blocks .now)))
 
@@ -132,7 +133,7 @@ prepare-spec =
     tie.close
     (tie.spec (λ c κs. search needs) (λ c κs. search needs) (λ c. search needs) (λ c. search needs)
     (λ c. search needs) returns slice-read-if2 (λ c κs. search needs) (λ c. search needs) (λ c. search needs)
-    (λ c. search needs) returns-2 standing-of-requires (λ c κs. search needs) (λ c. search needs)
+    (λ c. search needs) returns-2 replica-in-requires (λ c κs. search needs) (λ c. search needs)
     (λ c. search needs) (λ c. search needs) returns-3 judge-requires (λ c. search needs) (λ c. search needs)
     (λ c κs. search needs) (λ c. search needs) (λ c. search needs) (λ c. search needs) returns-4 slice-read-f
     parent-requires proposal-refusal-requires (λ c κs. search needs) (λ c. search needs) (λ c. search needs)

@@ -69,11 +69,11 @@ justification-within m (Commits view block) list f s e =
     let issued = every-at (isIssued m) list 0 e 0 some in
     record { listed = listed m list f e; some = some; view = certificate-bounds m f (getD list 0 0) (omega tests) .view }
 
-pub ready-justification : (m : Memory) (i : ℕ) (j : Justification) (list : List ℕ)
-    → firstRefusal (justificationNeeds m i j list) ≡ 0 → ReadyJustification m i j list
+pub ready-justification : {n : ℕ} (m : Memory) (i : ℕ) (j : Justification) (list : List ℕ)
+    → n ≡ firstRefusal (justificationNeeds m i j list) → n ≡ 0 → ReadyJustification m i j list
 unfolding justificationNeeds
-ready-justification m i j list e =
-    let h = all-needs (justificationNeeds m i j list) refl e in
+ready-justification m i j list e z =
+    let h = all-needs (justificationNeeds m i j list) refl (sym e ∙ z) in
     let f = formed m (h .0) in
     record {
       ready = record { formed = f; sizes = sizes m f; own = h .1 .0 };

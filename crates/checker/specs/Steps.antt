@@ -3,13 +3,12 @@ use Prim.Native.Nat.{ℕ, _+_, _≤_}
 use mathlib.Core.List.{List, [], _∷_}
 use lib.ListN.{length}
 use lib.Dec.{ltb, leb, eqb}
-use Rattle.protocol.specs.Memory.{Memory, Replica, Certificate, Assignment, ceiling, rowAt, replicaWords, live}
+use Rattle.protocol.specs.Memory.{Replica, Certificate, Assignment, ceiling, rowAt, replicaWords, live}
 use Rattle.protocol.specs.Memory.{_becomes_, minViewAt, flagAt, storedViewAt, storedBlockAt}
 use Rattle.protocol.specs.Certificates.{PROP}
 use Rattle.protocol.specs.Leader.{leads}
-use Rattle.protocol.specs.Outcome.{Outcome, Need, _else_, follow, outOfRange, wrongStatus, wrongCertificate, wrongView}
+use Rattle.protocol.specs.Outcome.{Need, _else_, outOfRange, wrongStatus, wrongCertificate, wrongView}
 use Rattle.protocol.specs.Outcome.{counterLimit}
-use Rattle.protocol.specs.Calls.{issuing}
 use Rattle.certificates.specs.Filing.{LogFits}
 use Rattle.checker.specs.declared.Stored.{Stored}
 
@@ -52,7 +51,3 @@ storedWords s =
     ∷ minViewAt becomes s .«min_view»
     ∷ flagAt becomes s .flag
     ∷ []
-
--- What a call gives once its other needs hold.
-unfoldable pub issuance : Memory → ℕ → List Assignment → Certificate → Outcome
-issuance m i changes c = follow m (issuing m [] i changes c)

@@ -6,7 +6,6 @@ ghost use Prim.Native.Nat.{ℕ, _≤_};
 ghost use lib.Dec.{ltb};
 ghost use Rattle.protocol.specs.Memory.{
   _becomes_,
-  memory,
   maxFaultBound,
   minViewAt,
   flagAt,
@@ -15,7 +14,7 @@ ghost use Rattle.protocol.specs.Memory.{
 };
 ghost use Rattle.protocol.specs.Certificates.{propOf};
 ghost use Rattle.protocol.specs.Outcome.{left, firstRefusal, outcomeBy};
-ghost use Rattle.protocol.specs.Calls.{prepare as prepareRule, store as storeRule, view as viewRule};
+ghost use Rattle.protocol.specs.Calls.{issuing, prepare as prepareRule, store as storeRule, view as viewRule};
 ghost use Rattle.certificates.specs.Filing.{certificateOf};
 ghost use Rattle.records.specs.Replicas.{replicaOf};
 ghost use Rattle.checker.specs.Justifications.{proposalTests};
@@ -25,7 +24,6 @@ ghost use Rattle.checker.specs.Steps.{
   storeTests,
   storedWords,
   viewTests,
-  issuance,
 };
 use self::justification::Judgement;
 use self::justification::Justified;
@@ -114,8 +112,8 @@ fn proposal_refusal(
 fn propose(table: &mut [u32], log: &mut [u32], replica: u32, view: u32, block: u32) -> Answer
     requires { ⌜ Issuable (now table) (now log) replica ⌝ }
     ensures { λ r. ⌜ ((b : List ℕ) → left r (now (table .exit)) (now (log .exit)) b
-        ≡ issuance (memory (now (table .entry)) (now (log .entry)) b) replica (flagAt becomes raised ∷ [])
-        (propOf replica view block)) ⌝ }
+        ≡ outcomeBy (λ m. issuing m [] replica (flagAt becomes raised ∷ []) (propOf replica view block))
+        (now (table .entry)) (now (log .entry)) b) ⌝ }
 {
     let filed = certificates::file(table, log, of_kind(PROP, replica, view, block, 0));
     let Filed::At(number) = filed else {
@@ -211,7 +209,7 @@ fn commit(
 ) -> Answer
     requires { ⌜ Issuable (now table) (now log) replica ⌝ }
     ensures { λ r. ⌜ ((b : List ℕ) → left r (now (table .exit)) (now (log .exit)) b
-        ≡ issuance (memory (now (table .entry)) (now (log .entry)) b) replica (storedWords stored) (certificateOf c)) ⌝ }
+        ≡ outcomeBy (λ m. issuing m [] replica (storedWords stored) (certificateOf c)) (now (table .entry)) (now (log .entry)) b) ⌝ }
 {
     let filed = certificates::file(table, log, c);
     let Filed::At(number) = filed else {
@@ -296,8 +294,8 @@ fn enter(
 ) -> Answer
     requires { ⌜ Issuable (now table) (now log) replica ⌝ }
     ensures { λ r. ⌜ ((b : List ℕ) → left r (now (table .exit)) (now (log .exit)) b
-        ≡ issuance (memory (now (table .entry)) (now (log .entry)) b) replica
-        (flagAt becomes flag ∷ minViewAt becomes view ∷ []) (certificateOf c)) ⌝ }
+        ≡ outcomeBy (λ m. issuing m [] replica (flagAt becomes flag ∷ minViewAt becomes view ∷ []) (certificateOf c))
+        (now (table .entry)) (now (log .entry)) b) ⌝ }
 {
     let filed = certificates::file(table, log, c);
     let Filed::At(number) = filed else {

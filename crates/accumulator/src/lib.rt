@@ -11,10 +11,9 @@ ghost use Rattle.accumulator.specs.Needs.{accumulateNeeds};
 ghost use Rattle.protocol.specs.Calls.{accumulate as accumulateRule, decide as decideRule};
 use certificates::Certificate;
 use certificates::Filed;
-use checks::WRONG_CERTIFICATE;
-use checks::WRONG_STATUS;
 use checks::accepted;
 use checks::refused;
+use layout::ACC;
 use layout::DECIDED_BLOCK_AT;
 use layout::DECIDED_VIEW_AT;
 use layout::LIVE;
@@ -26,8 +25,8 @@ use layout::certificate_word;
 use layout::replica_word;
 use layout::set_replica_word;
 use protocol::Answer;
-
-const ACC: u32 = 4;
+use protocol::WRONG_CERTIFICATE;
+use protocol::WRONG_STATUS;
 
 // The refusals of accumulate, but for the last: a place in the log.
 fn accumulate_refusal(table: &[u32], log: &[u32], blocks: &[u32], replica: u32, list: &[u32]) -> u32

@@ -1,60 +1,47 @@
--- A call that issues a certificate: what it gives, from its needs and from filing the certificate.
-use Prim.Native.Nat.{ℕ, zero, suc}
-use mathlib.Core.Path.{_≡_, refl, ap, sym, _∙_}
+-- A call that issues a certificate, once its other needs hold: what it gives, from what filing the certificate gives.
+use Prim.Native.Nat.{ℕ}
+use mathlib.Core.Path.{_≡_, ap, sym, _∙_}
 use mathlib.Core.Bool.{true, false}
-use mathlib.Core.List.{List}
-use Rattle.protocol.specs.Memory.{Memory, Certificate, Assignment, words, update}
+use mathlib.Core.List.{List, []}
+use Rattle.protocol.specs.declared.Answer.{Answer}
+use Rattle.protocol.specs.Memory.{Memory, Certificate, Assignment, memory, rowAt, words, assign, update}
 use Rattle.protocol.specs.Certificates.{numberFor, canFile, file}
-use Rattle.protocol.specs.Outcome.{Outcome, Need, firstRefusal, answered, follow, noRoom}
+use Rattle.protocol.specs.Outcome.{firstRefusal, answered, follow, noRoom}
 use Rattle.protocol.specs.Calls.{issuing}
-use Rattle.protocol.proofs.Needs.{positive, refused-first, all-pass}
+use Rattle.protocol.proofs.Needs.{refusal, acceptance}
 use Rattle.certificates.specs.declared.Filed.{Filed}
 use Rattle.certificates.specs.declared.Filed.the-variants.{At, Refused}
-use Rattle.certificates.specs.Filing.{Result, filing}
+use Rattle.certificates.specs.Filing.{Result, filing, refusalOf}
 use Rattle.certificates.proofs.Places.{placed, not-placed}
 
--- A refused call, and an accepted one that issues a certificate.
-abbrev pub refusal : ℕ → Memory → Outcome
-refusal n m = record { answer = record { number = n; first = 0; second = 0 }; memory = m }
+module _ (m : Memory) (i : ℕ) (changes : List Assignment) (c : Certificate) where
+  refused-no-room : canFile m (words c) ≡ false → follow m (issuing m [] i changes c) ≡ refusal noRoom m
+  unfolding follow issuing answered firstRefusal
+  refused-no-room full = rw full
 
-abbrev pub issuance : ℕ → Memory → Outcome
-issuance number m = record { answer = record { number = 0; first = number; second = 0 }; memory = m }
+  issues : canFile m (words c) ≡ true
+      → follow m (issuing m [] i changes c) ≡ acceptance (numberFor m (words c)) 0 (update (file m (words c)) i changes)
+  unfolding follow issuing answered firstRefusal
+  issues can = rw can
 
-module _ (m : Memory) (needs : List Need) (i : ℕ) (changes : List Assignment) (c : Certificate) where
-  -- ---- the three ways that an issuing call goes
-
-  pub refused-by-needs : (firstRefusal needs ≡ 0 → ⊥) → follow m (issuing m needs i changes c) ≡ refusal (firstRefusal needs) m
-  unfolding follow issuing answered
-  refused-by-needs h = rw (refused-first needs _ h) (go (firstRefusal needs) h)
-    where
-      go : (n : ℕ) → (n ≡ 0 → ⊥) → answered n m (issuing m needs i changes c) ≡ refusal n m
-      go zero h = absurd (h refl)
-      go (suc n) h = refl
-
-  module _ (numbered : positive needs ≡ true) (pass : firstRefusal needs ≡ 0) where
-    pub refused-no-room : canFile m (words c) ≡ false → follow m (issuing m needs i changes c) ≡ refusal noRoom m
-    unfolding follow issuing answered firstRefusal
-    refused-no-room full = rw (all-pass needs _ numbered pass, full)
-
-    pub issues : canFile m (words c) ≡ true
-        → follow m (issuing m needs i changes c) ≡ issuance (numberFor m (words c)) (update (file m (words c)) i changes)
-    unfolding follow issuing answered firstRefusal
-    issues can = rw (all-pass needs _ numbered pass, can)
-
-    -- ---- the same, from what `file` gives
-
-    pub issued-at : {r : Filed} {n : ℕ} {m′ : Memory} → r ≡ At n → record { outcome = r; memory = m′ } ≡ filing m (words c)
-        → follow m (issuing m needs i changes c) ≡ issuance n (update m′ i changes)
+  -- From what `file`, `refusal_of`, `refused` and `accepted` give.
+  module _ {d : Certificate} (same : d ≡ c) {r : Filed} {n : ℕ} {m′ : Memory}
+      (filed : record { outcome = r; memory = m′ } ≡ filing m (words d)) where
+    pub full : {a : Answer} {k : ℕ} → r ≡ Refused n → k ≡ refusalOf r → a ≡ record { number = k; first = 0; second = 0 }
+        → record { answer = a; memory = m′ } ≡ follow m (issuing m [] i changes c)
     unfolding filing
-    issued-at {r} {n} {m′} at e =
-        let p = placed m (words c) n (sym at ∙ ap (λ (x : Result). x .outcome) e) in
-        let after : m′ ≡ file m (words c) = (rw (p .0) at (ap (λ (x : Result). x .memory) e)) in
-        issues (p .0) ∙ (rw (p .1, after))
+    full at e p =
+        let files = rw same at filed in
+        let q = not-placed m (words c) n (sym at ∙ ap (λ (x : Result). x .outcome) files) in
+        let after : m′ ≡ m = (rw (q .0) at (ap (λ (x : Result). x .memory) files)) in
+        rw (p, e, at, q .1, after) (sym (refused-no-room (q .0)))
 
-    pub refused-at : {r : Filed} {n : ℕ} {m′ : Memory} → r ≡ Refused n → record { outcome = r; memory = m′ } ≡ filing m (words c)
-        → follow m (issuing m needs i changes c) ≡ refusal n m′
-    unfolding filing
-    refused-at {r} {n} {m′} at e =
-        let p = not-placed m (words c) n (sym at ∙ ap (λ (x : Result). x .outcome) e) in
-        let after : m′ ≡ m = (rw (p .0) at (ap (λ (x : Result). x .memory) e)) in
-        refused-no-room (p .0) ∙ (rw (p .1, after))
+    pub issued : {a : Answer} {t : List ℕ} → r ≡ At n → a ≡ record { number = 0; first = n; second = 0 }
+        → t ≡ assign (m′ .table) (rowAt i) changes
+        → record { answer = a; memory = memory t (m′ .log) (m′ .blocks) } ≡ follow m (issuing m [] i changes c)
+    unfolding filing update
+    issued at p e =
+        let files = rw same at filed in
+        let q = placed m (words c) n (sym at ∙ ap (λ (x : Result). x .outcome) files) in
+        let after : m′ ≡ file m (words c) = (rw (q .0) at (ap (λ (x : Result). x .memory) files)) in
+        rw (p, e, ← q .1, after) (sym (issues (q .0)))

@@ -16,29 +16,16 @@ ghost use Rattle.certificates.specs.Filing.{
   filing,
   refusalOf,
 };
-
-// Where the table has the number of certificates issued.
-const CERTIFICATE_COUNT: usize = 1;
-
-// How many words a certificate has in the log, and their order.
-const CERTIFICATE_WORDS: usize = 7;
-
-const KIND: usize = 0;
-
-const SIGNER: usize = 1;
-
-const VIEW: usize = 2;
-
-const BLOCK: usize = 3;
-
-const OF_VIEW: usize = 4;
-
-const SUBJECT: usize = 5;
-
-const BOOT: usize = 6;
-
-// The refusal where no place of the log is free.
-const NO_ROOM: u32 = 9;
+use layout::CERTIFICATE_COUNT_AT;
+use layout::CERTIFICATE_WORDS;
+use layout::KIND_AT;
+use layout::OF_VIEW_AT;
+use layout::PROPOSED_BLOCK_AT;
+use layout::SIGNER_AT;
+use layout::SUBJECT_AT;
+use layout::SUBJECT_BOOT_AT;
+use layout::VIEW_AT;
+use protocol::NO_ROOM;
 
 pub struct Certificate {
     pub kind: u32,
@@ -72,15 +59,15 @@ fn is_equal(log: &[u32], start: usize, c: Certificate) -> bool
     ensures { λ r. ⌜ r ≡ equalFrom (now (log .entry)) start (words (certificateOf c)) ⌝ }
 {
     let view = c.view;
-    if log[start + VIEW] != view {
+    if log[start + VIEW_AT] != view {
         return false;
     }
-    (log[start + KIND] == c.kind)
-        & (log[start + SIGNER] == c.signer)
-        & (log[start + BLOCK] == c.block)
-        & (log[start + OF_VIEW] == c.of_view)
-        & (log[start + SUBJECT] == c.subject)
-        & (log[start + BOOT] == c.boot)
+    (log[start + KIND_AT] == c.kind)
+        & (log[start + SIGNER_AT] == c.signer)
+        & (log[start + PROPOSED_BLOCK_AT] == c.block)
+        & (log[start + OF_VIEW_AT] == c.of_view)
+        & (log[start + SUBJECT_AT] == c.subject)
+        & (log[start + SUBJECT_BOOT_AT] == c.boot)
 }
 
 // The first of so many certificates that equals this one, or their count.
@@ -103,7 +90,7 @@ fn place_for(table: &[u32], log: &[u32], c: Certificate) -> Filed
     requires { ⌜ LogFits (now table) (now log) ⌝ }
     ensures { λ r. ⌜ ((b : List ℕ) → r ≡ placeFor (memory (now (table .entry)) (now (log .entry)) b) (words (certificateOf c))) ⌝ }
 {
-    let count = table[CERTIFICATE_COUNT];
+    let count = table[CERTIFICATE_COUNT_AT];
     let number = find(log, count, c);
     if number < count {
         return Filed::At(number);
@@ -120,16 +107,16 @@ fn append(table: &mut [u32], log: &mut [u32], c: Certificate)
     ensures { λ _. ⌜ ((b : List ℕ) → memory (now (table .exit)) (now (log .exit)) b
         ≡ appendCertificate (memory (now (table .entry)) (now (log .entry)) b) (words (certificateOf c))) ⌝ }
 {
-    let count = table[CERTIFICATE_COUNT];
+    let count = table[CERTIFICATE_COUNT_AT];
     let start = CERTIFICATE_WORDS * (count as usize);
-    log[start + KIND] = c.kind;
-    log[start + SIGNER] = c.signer;
-    log[start + VIEW] = c.view;
-    log[start + BLOCK] = c.block;
-    log[start + OF_VIEW] = c.of_view;
-    log[start + SUBJECT] = c.subject;
-    log[start + BOOT] = c.boot;
-    table[CERTIFICATE_COUNT] = count + 1;
+    log[start + KIND_AT] = c.kind;
+    log[start + SIGNER_AT] = c.signer;
+    log[start + VIEW_AT] = c.view;
+    log[start + PROPOSED_BLOCK_AT] = c.block;
+    log[start + OF_VIEW_AT] = c.of_view;
+    log[start + SUBJECT_AT] = c.subject;
+    log[start + SUBJECT_BOOT_AT] = c.boot;
+    table[CERTIFICATE_COUNT_AT] = count + 1;
 }
 
 // Files a certificate: the number of the first equal one, or of a new one; where there is no room, the refusal and no change.
@@ -142,7 +129,7 @@ pub fn file(table: &mut [u32], log: &mut [u32], c: Certificate) -> Filed
     let Filed::At(number) = place else {
         return place;
     };
-    if number < table[CERTIFICATE_COUNT] {
+    if number < table[CERTIFICATE_COUNT_AT] {
         return place;
     }
     append(table, log, c);

@@ -1,4 +1,3 @@
 -- Laws that belong to no one function.
-pub mod Issue
-pub mod Grounds
+pub mod Justifications
 pub mod Rules

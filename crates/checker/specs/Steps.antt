@@ -1,62 +1,35 @@
--- The steps of a call: the words that it reads; its needs after the shared first ones, over those words; issuing a certificate.
+-- The steps of a call: its needs after the shared first ones, over the replica and the certificate that it reads; issuing a certificate.
 use Prim.Native.Nat.{ℕ, _+_, _≤_}
 use mathlib.Core.List.{List, [], _∷_}
 use lib.ListN.{length}
 use lib.Dec.{ltb, leb, eqb}
-use Rattle.protocol.specs.Memory.{Memory, Assignment, memory, ceiling, rowAt, replicaWords, replicaWord, certificateWord, live}
-use Rattle.protocol.specs.Memory.{_becomes_, statusAt, minViewAt, viewLimitAt, flagAt, storedViewAt, storedBlockAt, kindAt}
-use Rattle.protocol.specs.Memory.{signerAt, viewAt, proposedBlockAt}
-use Rattle.protocol.specs.Memory as Memory
+use Rattle.protocol.specs.Memory.{Replica, Certificate, Assignment, ceiling, rowAt, replicaWords, live}
+use Rattle.protocol.specs.Memory.{_becomes_, minViewAt, flagAt, storedViewAt, storedBlockAt}
 use Rattle.protocol.specs.Certificates.{PROP}
 use Rattle.protocol.specs.Leader.{leads}
-use Rattle.protocol.specs.Outcome.{Outcome, Need, _else_, follow, outOfRange, wrongStatus, wrongCertificate, wrongView}
+use Rattle.protocol.specs.Outcome.{Need, _else_, outOfRange, wrongStatus, wrongCertificate, wrongView}
 use Rattle.protocol.specs.Outcome.{counterLimit}
-use Rattle.protocol.specs.Calls.{issuing}
 use Rattle.certificates.specs.Filing.{LogFits}
-use Rattle.checker.specs.declared.words.Standing.{Standing}
-use Rattle.checker.specs.declared.words.Signed.{Signed}
 use Rattle.checker.specs.declared.Stored.{Stored}
-
-abbrev pub standingIn : List ℕ → ℕ → Standing
-standingIn table i =
-    let m = memory table [] [] in
-    record {
-      status = replicaWord m i statusAt;
-      «min_view» = replicaWord m i minViewAt;
-      «view_limit» = replicaWord m i viewLimitAt;
-      flag = replicaWord m i flagAt;
-      «stored_view» = replicaWord m i storedViewAt;
-      «stored_block» = replicaWord m i storedBlockAt;
-    }
-
-abbrev pub signedIn : List ℕ → ℕ → Signed
-signedIn log number =
-    let m = memory [] log [] in
-    record {
-      kind = certificateWord m number kindAt;
-      signer = certificateWord m number signerAt;
-      view = certificateWord m number viewAt;
-      block = certificateWord m number proposedBlockAt;
-    }
 
 -- ---- the needs after the shared first ones
 
-abbrev pub storeTests : ℕ → Standing → Signed → List Need
+abbrev pub storeTests : ℕ → Replica → Certificate → List Need
 storeTests f r p =
     eqb (r .status) live else wrongStatus
     ∷ eqb (p .kind) PROP else wrongCertificate
     ∷ leads f (p .view) (p .signer) else wrongCertificate
-    ∷ leb (r .«min_view») (p .view) else wrongView
-    ∷ ltb (p .view) (r .«view_limit») else counterLimit
+    ∷ leb (r .minView) (p .view) else wrongView
+    ∷ ltb (p .view) (r .viewLimit) else counterLimit
     ∷ []
 
-abbrev pub viewTests : Standing → ℕ → List Need
+abbrev pub viewTests : Replica → ℕ → List Need
 viewTests r view =
     leb 1 view else outOfRange
     ∷ leb view ceiling else outOfRange
     ∷ eqb (r .status) live else wrongStatus
-    ∷ leb (r .«min_view») view else wrongView
-    ∷ ltb view (r .«view_limit») else counterLimit
+    ∷ leb (r .minView) view else wrongView
+    ∷ ltb view (r .viewLimit) else counterLimit
     ∷ []
 
 -- ---- issuing
@@ -66,7 +39,7 @@ pub record Issuable (table log : List ℕ) (i : ℕ) : Type 0 where
   pub fits : LogFits table log
   pub row : rowAt i + replicaWords ≤ length table
 
-abbrev pub ofKind : ℕ → ℕ → ℕ → ℕ → ℕ → Memory.Certificate
+abbrev pub ofKind : ℕ → ℕ → ℕ → ℕ → ℕ → Certificate
 ofKind kind signer view block ofView =
     record { kind = kind; signer = signer; view = view; block = block; ofView = ofView; subject = 0; boot = 0 }
 
@@ -78,7 +51,3 @@ storedWords s =
     ∷ minViewAt becomes s .«min_view»
     ∷ flagAt becomes s .flag
     ∷ []
-
--- What a call gives once its other needs hold.
-unfoldable pub issuance : Memory → ℕ → List Assignment → Memory.Certificate → Outcome
-issuance m i changes c = follow m (issuing m [] i changes c)

@@ -6,7 +6,6 @@ ghost use Prim.Native.Nat.{ℕ, _≤_};
 ghost use lib.Dec.{ltb};
 ghost use Rattle.protocol.specs.Memory.{
   _becomes_,
-  memory,
   maxFaultBound,
   minViewAt,
   flagAt,
@@ -15,54 +14,65 @@ ghost use Rattle.protocol.specs.Memory.{
 };
 ghost use Rattle.protocol.specs.Certificates.{propOf};
 ghost use Rattle.protocol.specs.Outcome.{left, firstRefusal, outcomeBy};
-ghost use Rattle.protocol.specs.Calls.{prepare as prepareRule, store as storeRule, view as viewRule};
+ghost use Rattle.protocol.specs.Calls.{issuing, prepare as prepareRule, store as storeRule, view as viewRule};
 ghost use Rattle.certificates.specs.Filing.{certificateOf};
-ghost use Rattle.checker.specs.Grounds.{proposalTests};
+ghost use Rattle.records.specs.Replicas.{replicaOf};
+ghost use Rattle.checker.specs.Justifications.{proposalTests};
 ghost use Rattle.checker.specs.Steps.{
   Issuable,
+  ofKind,
   storeTests,
   storedWords,
   viewTests,
-  issuance,
 };
-use self::ground::Given;
-use self::ground::Ground;
-use self::words::COMMIT;
-use self::words::NEWVIEW;
-use self::words::PROP;
-use self::words::Signed;
-use self::words::Standing;
-use self::words::of_kind;
-use self::words::signed_at;
-use self::words::standing_of;
+use self::justification::Judgement;
+use self::justification::Justified;
 use certificates::Certificate;
 use certificates::Filed;
-use checks::COUNTER_LIMIT;
-use checks::OUT_OF_RANGE;
-use checks::UNKNOWN_NUMBER;
-use checks::WRONG_BLOCK;
-use checks::WRONG_CERTIFICATE;
-use checks::WRONG_STATUS;
-use checks::WRONG_VIEW;
 use checks::accepted;
 use checks::refused;
 use layout::BLOCK_COUNT_AT;
 use layout::CEILING;
+use layout::COMMIT;
 use layout::FAULT_BOUND_AT;
 use layout::FLAG_AT;
 use layout::LIVE;
 use layout::LOWERED;
 use layout::MIN_VIEW_AT;
+use layout::NEWVIEW;
+use layout::PROP;
 use layout::RAISED;
 use layout::STORED_BLOCK_AT;
 use layout::STORED_VIEW_AT;
 use layout::set_replica_word;
 use protocol::Answer;
+use protocol::COUNTER_LIMIT;
 use protocol::Justification;
+use protocol::OUT_OF_RANGE;
+use protocol::UNKNOWN_NUMBER;
+use protocol::WRONG_BLOCK;
+use protocol::WRONG_CERTIFICATE;
+use protocol::WRONG_STATUS;
+use protocol::WRONG_VIEW;
+use records::Replica;
 
-mod ground;
+mod justification;
 mod leader;
-mod words;
+
+// A certificate of the three kinds that the checker issues: they name no subject and no boot.
+fn of_kind(kind: u32, signer: u32, view: u32, block: u32, of_view: u32) -> Certificate
+    ensures { λ r. ⌜ certificateOf r ≡ ofKind kind signer view block «of_view» ⌝ }
+{
+    Certificate {
+        kind,
+        signer,
+        view,
+        block,
+        of_view,
+        subject: 0,
+        boot: 0,
+    }
+}
 
 // ---- prepare
 
@@ -71,28 +81,28 @@ fn proposal_refusal(
     replica: u32,
     block: u32,
     parent: u32,
-    r: Standing,
-    ground: Ground,
+    r: Replica,
+    justified: Justified,
 ) -> u32
     requires { ⌜ f ≤ maxFaultBound ⌝ }
-    ensures { λ n. ⌜ n ≡ firstRefusal (proposalTests f replica block parent r ground) ⌝ }
+    ensures { λ n. ⌜ n ≡ firstRefusal (proposalTests f replica block parent (replicaOf r) justified) ⌝ }
 {
-    if !leader::leads(f, ground.view, replica) {
+    if !leader::leads(f, justified.view, replica) {
         return WRONG_CERTIFICATE;
     }
     if block == 0 {
         return WRONG_BLOCK;
     }
-    if parent != ground.block {
+    if parent != justified.block {
         return WRONG_BLOCK;
     }
-    if r.min_view != ground.view {
+    if r.min_view != justified.view {
         return WRONG_VIEW;
     }
     if r.flag != LOWERED {
         return WRONG_VIEW;
     }
-    if r.view_limit <= ground.view {
+    if r.view_limit <= justified.view {
         return COUNTER_LIMIT;
     }
     0
@@ -102,8 +112,8 @@ fn proposal_refusal(
 fn propose(table: &mut [u32], log: &mut [u32], replica: u32, view: u32, block: u32) -> Answer
     requires { ⌜ Issuable (now table) (now log) replica ⌝ }
     ensures { λ r. ⌜ ((b : List ℕ) → left r (now (table .exit)) (now (log .exit)) b
-        ≡ issuance (memory (now (table .entry)) (now (log .entry)) b) replica (flagAt becomes raised ∷ [])
-        (propOf replica view block)) ⌝ }
+        ≡ outcomeBy (λ m. issuing m [] replica (flagAt becomes raised ∷ []) (propOf replica view block))
+        (now (table .entry)) (now (log .entry)) b) ⌝ }
 {
     let filed = certificates::file(table, log, of_kind(PROP, replica, view, block, 0));
     let Filed::At(number) = filed else {
@@ -126,35 +136,42 @@ pub fn prepare(
         ≡ outcomeBy (λ m. prepareRule m replica block justification (now (list .entry)))
         (now (table .entry)) (now (log .entry)) (now (blocks .entry)) ⌝ }
 {
-    let refusal = ground::justification_refusal(table, log, blocks, replica, justification, list);
+    let refusal = justification::justification_refusal(
+        table,
+        log,
+        blocks,
+        replica,
+        justification,
+        list,
+    );
     if refusal != 0 {
         return refused(refusal);
     }
     if table[BLOCK_COUNT_AT] <= block {
         return refused(UNKNOWN_NUMBER);
     }
-    let standing = standing_of(table, replica);
-    if standing.status != LIVE {
+    let r = records::replica_in(table, replica);
+    if r.status != LIVE {
         return refused(WRONG_STATUS);
     }
-    let given = ground::ground_of(log, replica, justification, list);
-    let Given::By(ground) = given else {
+    let judgement = justification::judge(log, replica, justification, list);
+    let Judgement::By(justified) = judgement else {
         return refused(WRONG_CERTIFICATE);
     };
     let f = table[FAULT_BOUND_AT];
     let parent = layout::parent(blocks, block);
-    let refusal = proposal_refusal(f, replica, block, parent, standing, ground);
+    let refusal = proposal_refusal(f, replica, block, parent, r, justified);
     if refusal != 0 {
         return refused(refusal);
     }
-    propose(table, log, replica, ground.view, block)
+    propose(table, log, replica, justified.view, block)
 }
 
 // ---- store
 
-fn store_refusal(f: u32, r: Standing, p: Signed) -> u32
+fn store_refusal(f: u32, r: Replica, p: Certificate) -> u32
     requires { ⌜ f ≤ maxFaultBound ⌝ }
-    ensures { λ n. ⌜ n ≡ firstRefusal (storeTests f r p) ⌝ }
+    ensures { λ n. ⌜ n ≡ firstRefusal (storeTests f (replicaOf r) (certificateOf p)) ⌝ }
 {
     if r.status != LIVE {
         return WRONG_STATUS;
@@ -192,7 +209,7 @@ fn commit(
 ) -> Answer
     requires { ⌜ Issuable (now table) (now log) replica ⌝ }
     ensures { λ r. ⌜ ((b : List ℕ) → left r (now (table .exit)) (now (log .exit)) b
-        ≡ issuance (memory (now (table .entry)) (now (log .entry)) b) replica (storedWords stored) (certificateOf c)) ⌝ }
+        ≡ outcomeBy (λ m. issuing m [] replica (storedWords stored) (certificateOf c)) (now (table .entry)) (now (log .entry)) b) ⌝ }
 {
     let filed = certificates::file(table, log, c);
     let Filed::At(number) = filed else {
@@ -219,9 +236,9 @@ pub fn store(
     if refusal != 0 {
         return refused(refusal);
     }
-    let standing = standing_of(table, replica);
-    let proposal = signed_at(log, number);
-    let refusal = store_refusal(table[FAULT_BOUND_AT], standing, proposal);
+    let r = records::replica_in(table, replica);
+    let proposal = records::certificate_in(log, number);
+    let refusal = store_refusal(table[FAULT_BOUND_AT], r, proposal);
     if refusal != 0 {
         return refused(refusal);
     }
@@ -238,8 +255,8 @@ pub fn store(
 
 // ---- view
 
-fn view_refusal(r: Standing, view: u32) -> u32
-    ensures { λ n. ⌜ n ≡ firstRefusal (viewTests r view) ⌝ }
+fn view_refusal(r: Replica, view: u32) -> u32
+    ensures { λ n. ⌜ n ≡ firstRefusal (viewTests (replicaOf r) view) ⌝ }
 {
     if view < 1 {
         return OUT_OF_RANGE;
@@ -260,7 +277,7 @@ fn view_refusal(r: Standing, view: u32) -> u32
 }
 
 // The flag in a view that a replica enters: lowered where the view is ahead of it.
-fn flag_in(r: Standing, view: u32) -> u32
+fn flag_in(r: Replica, view: u32) -> u32
     ensures { λ flag. ⌜ flag ≡ cond (ltb (r .«min_view») view) lowered (r .flag) ⌝ }
 {
     if r.min_view < view { LOWERED } else { r.flag }
@@ -277,8 +294,8 @@ fn enter(
 ) -> Answer
     requires { ⌜ Issuable (now table) (now log) replica ⌝ }
     ensures { λ r. ⌜ ((b : List ℕ) → left r (now (table .exit)) (now (log .exit)) b
-        ≡ issuance (memory (now (table .entry)) (now (log .entry)) b) replica
-        (flagAt becomes flag ∷ minViewAt becomes view ∷ []) (certificateOf c)) ⌝ }
+        ≡ outcomeBy (λ m. issuing m [] replica (flagAt becomes flag ∷ minViewAt becomes view ∷ []) (certificateOf c))
+        (now (table .entry)) (now (log .entry)) b) ⌝ }
 {
     let filed = certificates::file(table, log, c);
     let Filed::At(number) = filed else {
@@ -303,17 +320,11 @@ pub fn view(
     if refusal != 0 {
         return refused(refusal);
     }
-    let standing = standing_of(table, replica);
-    let refusal = view_refusal(standing, view);
+    let r = records::replica_in(table, replica);
+    let refusal = view_refusal(r, view);
     if refusal != 0 {
         return refused(refusal);
     }
-    let new_view = of_kind(
-        NEWVIEW,
-        replica,
-        view,
-        standing.stored_block,
-        standing.stored_view,
-    );
-    enter(table, log, replica, view, flag_in(standing, view), new_view)
+    let new_view = of_kind(NEWVIEW, replica, view, r.stored_block, r.stored_view);
+    enter(table, log, replica, view, flag_in(r, view), new_view)
 }

@@ -1,18 +1,19 @@
 -- How a call ends: what it gives where a need fails, and where all hold.
-use Prim.Native.Nat.{ℕ, zero, suc, _+_, _≤_, _<_}
-use mathlib.Core.Path.{_≡_, refl, sym, ap, _∙_}
+use Prim.Native.Nat.{ℕ, _+_, _≤_, _<_}
+use mathlib.Core.Path.{_≡_, sym, _∙_}
 use mathlib.Core.Bool.{Bool, true, false}
-use mathlib.Core.List.{List, [], _∷_}
+use mathlib.Core.List.{List, _∷_}
 use native.Mathlib.Omega.{arith}
-use lib.ListN.{length}
+use lib.ListN.{length, getD}
 use Rattle.protocol.specs.declared.Answer.{Answer}
-use Rattle.protocol.specs.Memory.{Memory, Certificate, Assignment, rowAt, replicaWords, certificateCount, certificateAt, certificateWords}
-use Rattle.protocol.specs.Outcome.{Need, _else_, Rule, firstRefusal, answered, follow}
-use Rattle.protocol.specs.Calls.{issuing}
+use Rattle.protocol.specs.Memory.{Memory, rowAt, replicaWords, certificateCount, certificateAt, certificateWords}
+use Rattle.protocol.specs.Outcome.{Need, _else_, Rule, firstRefusal, follow}
 use Rattle.protocol.proofs.Tests.{tests}
 use Rattle.protocol.proofs.Needs as Needs
-use Rattle.protocol.proofs.Needs.{positive, all-pass, fails, holds}
+use Rattle.protocol.proofs.Needs.{fails, holds}
 use Rattle.protocol.proofs.Formed.{Sizes}
+use Rattle.quorum.specs.Lists.{Listed, Greatest}
+use Rattle.quorum.proofs.Accepted.{listed, some-listed, greatest-issued}
 use Rattle.checks.specs.Needs.{replicaNeeds, numberNeeds, listNeeds}
 use Rattle.checks.proofs.Ready.{Ready, ready, ReadyNumber, ready-number, ReadyList, ready-list}
 
@@ -34,26 +35,30 @@ module _ (m : Memory) (rule : Rule) where
       → m′ ≡ rule .after → 0 ≡ firstRefusal (rule .needs) → record { answer = a; memory = m′ } ≡ follow m rule
   accepts e after r = rw (e, after) (Needs.accepts m rule r)
 
--- A call that issues a certificate: the needs before its place in the log do not matter once they hold.
-pub issues-alike : (m : Memory) (needs : List Need) (i : ℕ) (changes : List Assignment) (c : Certificate) → positive needs ≡ true
-    → 0 ≡ firstRefusal needs → follow m (issuing m [] i changes c) ≡ follow m (issuing m needs i changes c)
-unfolding follow answered issuing
-issues-alike m needs i changes c numbered pass =
-    go (firstRefusal (issuing m [] i changes c .needs))
-    ∙ ap (λ (n : ℕ). answered n m (issuing m needs i changes c)) (sym (all-pass needs _ numbered (sym pass)))
-  where
-    go : (n : ℕ) → answered n m (issuing m [] i changes c) ≡ answered n m (issuing m needs i changes c)
-    go zero = refl
-    go (suc n) = refl
-
--- ---- what reading asks: the row of a replica that the first needs accept, the words of a certificate that is issued
+-- ---- what reading asks, once the first needs hold: a replica's row, a certificate's words, a list's certificates
 
 pub row-within : (m : Memory) (i : ℕ) → Ready m i → rowAt i + replicaWords ≤ length (m .table)
 row-within m i w = omega (tests, w .own, w .sizes)
 
-pub certificate-there : (m : Memory) (number : ℕ) → Sizes m → number < certificateCount m
+certificate-there : (m : Memory) (number : ℕ) → Sizes m → number < certificateCount m
     → certificateAt number + certificateWords ≤ length (m .log)
 certificate-there m number s h = omega arith
+
+pub number-there : (m : Memory) (i number : ℕ) → ReadyNumber m i number → certificateAt number + certificateWords ≤ length (m .log)
+number-there m i number w = let issued = w .issued in certificate-there m number (w .ready .sizes) (omega tests)
+
+module _ (m : Memory) (i : ℕ) (list : List ℕ) (w : ReadyList m i list) where
+  pub all-listed : Listed (m .log) list
+  all-listed = listed m list (w .ready .formed) (w .issued)
+
+  pub some-there : 0 < length list
+  some-there = some-listed m list (w .size)
+
+  pub first-there : certificateAt (getD list 0 0) + certificateWords ≤ length (m .log)
+  first-there = all-listed .inLog 0 some-there .within
+
+  pub greatest-there : (g : ℕ) → Greatest (m .log) list g → certificateAt g + certificateWords ≤ length (m .log)
+  greatest-there g is = certificate-there m g (w .ready .sizes) (greatest-issued m list g (w .issued) is)
 
 -- ---- the first needs hold: `checks::replica_refusal`, `number_refusal` or `list_refusal` gave 0
 

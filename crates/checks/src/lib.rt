@@ -6,25 +6,9 @@ ghost use Rattle.checks.specs.Needs.{replicaNeeds, numberNeeds, listNeed
 use layout::CERTIFICATE_COUNT_AT;
 use layout::FAULT_BOUND_AT;
 use protocol::Answer;
-
-// The column "Returned" of document 01's table.
-pub const WRONG_FORM: u32 = 1;
-
-pub const OUT_OF_RANGE: u32 = 2;
-
-pub const UNKNOWN_NUMBER: u32 = 3;
-
-pub const WRONG_STATUS: u32 = 4;
-
-pub const WRONG_CERTIFICATE: u32 = 5;
-
-pub const WRONG_BLOCK: u32 = 6;
-
-pub const WRONG_VIEW: u32 = 7;
-
-pub const COUNTER_LIMIT: u32 = 8;
-
-pub const NO_ROOM: u32 = 9;
+use protocol::OUT_OF_RANGE;
+use protocol::UNKNOWN_NUMBER;
+use protocol::WRONG_FORM;
 
 pub fn accepted(first: u32, second: u32) -> Answer
     ensures { λ r. ⌜ r ≡ record { number = 0; first = first; second = second } ⌝ }

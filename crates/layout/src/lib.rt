@@ -1,5 +1,5 @@
 // The words of a ledger's memory (document 01, "Memory"): where each stands, how it is read and written, what form they have.
-// The constants have the names of protocol/specs/Memory.antt, in upper case.
+// The constants have the names of protocol/specs/Memory.antt and Certificates.antt, in upper case.
 ghost use mathlib.Core.Path.{_≡_};
 ghost use Prim.Native.Nat.{_+_, _≤_, _<_};
 ghost use lib.ListN.{length, getD, set};
@@ -73,7 +73,20 @@ pub const SUBJECT_BOOT_AT: usize = 6;
 
 pub const MAX_CERTIFICATES: u32 = 4096;
 
-pub const LAST_KIND: u32 = 6;
+// A certificate's kind.
+pub const PROP: u32 = 1;
+
+pub const COMMIT: u32 = 2;
+
+pub const NEWVIEW: u32 = 3;
+
+pub const ACC: u32 = 4;
+
+pub const REQ: u32 = 5;
+
+pub const REPLY: u32 = 6;
+
+pub const LAST_KIND: u32 = REPLY;
 
 // The blocks.
 pub const MAX_BLOCKS: u32 = 4096;

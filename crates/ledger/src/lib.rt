@@ -11,9 +11,7 @@ use codes::Coded;
 use layout::DECIDED_BLOCK_AT;
 use protocol::Answer;
 use protocol::Call;
-
-// What is returned where a code and what is beside it are no call.
-const UNREADABLE: u32 = 10;
+use protocol::UNREADABLE;
 
 // One of the twelve calls, with the list beside it.
 pub fn invoke(

@@ -24,6 +24,10 @@ use layout::STORED_VIEW_AT;
 use layout::VIEW_LIMIT_AT;
 use layout::set_replica_word;
 use protocol::Answer;
+use protocol::NO_ROOM;
+use protocol::OUT_OF_RANGE;
+use protocol::UNKNOWN_NUMBER;
+use protocol::WRONG_FORM;
 
 // A replica as opening leaves it.
 fn fresh_row(table: &mut [u32], replica: u32, limit: u32)
@@ -67,9 +71,9 @@ pub fn open_ledger(table: &mut [u32], log: &mut [u32], blocks: &mut [u32], f: u3
             fresh_rows(table, replicas, counter::counter_step(0));
             return accepted(replicas, 0);
         }
-        return refused(checks::WRONG_FORM);
+        return refused(WRONG_FORM);
     }
-    refused(checks::OUT_OF_RANGE)
+    refused(OUT_OF_RANGE)
 }
 
 // A block on an added one.
@@ -79,15 +83,15 @@ pub fn block(table: &mut [u32], log: &mut [u32], blocks: &mut [u32], parent: u32
     if layout::form::is_well_formed(table, log, blocks) {
         let count = table[BLOCK_COUNT_AT];
         if count <= parent {
-            return refused(checks::UNKNOWN_NUMBER);
+            return refused(UNKNOWN_NUMBER);
         }
         let at = layout::block_at(count);
         if blocks.len() <= at {
-            return refused(checks::NO_ROOM);
+            return refused(NO_ROOM);
         }
         table[BLOCK_COUNT_AT] = count + 1;
         blocks[at] = parent;
         return accepted(count, 0);
     }
-    refused(checks::WRONG_FORM)
+    refused(WRONG_FORM)
 }

@@ -15,36 +15,41 @@ use Rattle.protocol.specs.Theorems.{SameLengths}
 use Rattle.protocol.proofs.Words.{assigned, withinRow, avoids-row, length-assign, assign-elsewhere, assign-at}
 use Rattle.protocol.proofs.Words.{sets-elsewhere, sets-at}
 
--- A replica or a certificate is as before where its words are.
+-- A replica and a certificate, by the words at their places.
+abbrev replicaBy : ((k : ℕ) → k < replicaWords → ℕ) → Replica
+replicaBy word =
+    record {
+      status = word 0 (omega arith);
+      boot = word 1 (omega arith);
+      minView = word 2 (omega arith);
+      viewLimit = word 3 (omega arith);
+      flag = word 4 (omega arith);
+      storedView = word 5 (omega arith);
+      storedBlock = word 6 (omega arith);
+      decidedView = word 7 (omega arith);
+      decidedBlock = word 8 (omega arith);
+    }
+
+abbrev certificateBy : ((k : ℕ) → k < certificateWords → ℕ) → Certificate
+certificateBy word =
+    record {
+      kind = word 0 (omega arith);
+      signer = word 1 (omega arith);
+      view = word 2 (omega arith);
+      block = word 3 (omega arith);
+      ofView = word 4 (omega arith);
+      subject = word 5 (omega arith);
+      boot = word 6 (omega arith);
+    }
+
+-- They are as before where their words are.
 pub replica-same : (m m′ : Memory) (i : ℕ) → ((k : ℕ) → k < replicaWords → replicaWord m i k ≡ replicaWord m′ i k)
     → replica m i ≡ replica m′ i
-replica-same m m′ i h =
-    λ d.
-    record {
-      status = h 0 (omega arith) d;
-      boot = h 1 (omega arith) d;
-      minView = h 2 (omega arith) d;
-      viewLimit = h 3 (omega arith) d;
-      flag = h 4 (omega arith) d;
-      storedView = h 5 (omega arith) d;
-      storedBlock = h 6 (omega arith) d;
-      decidedView = h 7 (omega arith) d;
-      decidedBlock = h 8 (omega arith) d;
-    }
+replica-same m m′ i h = λ d. replicaBy (λ k l. h k l d)
 
 pub certificate-same : (m m′ : Memory) (c : ℕ) → ((k : ℕ) → k < certificateWords → certificateWord m c k ≡ certificateWord m′ c k)
     → certificate m c ≡ certificate m′ c
-certificate-same m m′ c h =
-    λ d.
-    record {
-      kind = h 0 (omega arith) d;
-      signer = h 1 (omega arith) d;
-      view = h 2 (omega arith) d;
-      block = h 3 (omega arith) d;
-      ofView = h 4 (omega arith) d;
-      subject = h 5 (omega arith) d;
-      boot = h 6 (omega arith) d;
-    }
+certificate-same m m′ c h = λ d. certificateBy (λ k l. h k l d)
 
 -- ---- words of a replica
 
@@ -80,37 +85,13 @@ module _ (m : Memory) (i : ℕ) (cs : List Assignment) (within : withinRow cs �
 
   pub update-own : rowAt i + replicaWords ≤ length (m .table) → replica (update m i cs) i ≡ changed cs (replica m i)
   unfolding update
-  update-own room =
-      λ d.
-      record {
-        status = word 0 d;
-        boot = word 1 d;
-        minView = word 2 d;
-        viewLimit = word 3 d;
-        flag = word 4 d;
-        storedView = word 5 d;
-        storedBlock = word 6 d;
-        decidedView = word 7 d;
-        decidedBlock = word 8 d;
-      }
-    where
-      word : (k : ℕ) → replicaWord (update m i cs) i k ≡ assigned cs k (replicaWord m i k)
-      word k = assign-at cs (m .table) (rowAt i) k within room
+  update-own room = λ d. replicaBy (λ k l. assign-at cs (m .table) (rowAt i) k within room d)
 
 -- ---- a certificate more
 
 -- The certificate that a list of words is.
 abbrev pub certificateFrom : List ℕ → Certificate
-certificateFrom ws =
-    record {
-      kind = getD ws 0 0;
-      signer = getD ws 1 0;
-      view = getD ws 2 0;
-      block = getD ws 3 0;
-      ofView = getD ws 4 0;
-      subject = getD ws 5 0;
-      boot = getD ws 6 0;
-    }
+certificateFrom ws = certificateBy (λ k l. getD ws k 0)
 
 module _ (m : Memory) (ws : List ℕ) (whole : length ws ≡ certificateWords) where
   pub append-lengths : SameLengths (appendCertificate m ws) m
@@ -143,19 +124,7 @@ module _ (m : Memory) (ws : List ℕ) (whole : length ws ≡ certificateWords) w
       → certificate (appendCertificate m ws) (certificateCount m) ≡ certificateFrom ws
   unfolding appendCertificate
   append-new room =
-      λ d.
-      record {
-        kind = word 0 (omega arith) d;
-        signer = word 1 (omega arith) d;
-        view = word 2 (omega arith) d;
-        block = word 3 (omega arith) d;
-        ofView = word 4 (omega arith) d;
-        subject = word 5 (omega arith) d;
-        boot = word 6 (omega arith) d;
-      }
-    where
-      word : (k : ℕ) → k < certificateWords → certificateWord (appendCertificate m ws) (certificateCount m) k ≡ getD ws k 0
-      word k h = sets-at ws (m .log) (certificateAt (certificateCount m)) k (omega arith) (omega arith)
+      λ d. certificateBy (λ k l. sets-at ws (m .log) (certificateAt (certificateCount m)) k (omega arith) (omega arith) d)
 
 -- ---- a block more
 

@@ -31,25 +31,25 @@ one-leader : (f v i j : ℕ) → leads f v i ≡ true → leads f v j ≡ true �
 unfolding leads
 one-leader f v i j a b = omega tests
 
--- A proposal of block p in a view that is not below v.
-record Grounded (m : Memory) (p v : ℕ) : Type 0 where
+-- Block p was proposed in a view that is not below v.
+record ProposedFrom (m : Memory) (p v : ℕ) : Type 0 where
   view : ℕ
   proposed : Proposed m view p
   covers : v ≤ view
 
-grounded : (m : Memory) (i : ℕ) (j : Justification) (list : List ℕ) → Safe m → isSized m j list ≡ true
+justified-proposed : (m : Memory) (i : ℕ) (j : Justification) (list : List ℕ) → Safe m → isSized m j list ≡ true
     → allIssued m (numbersOf j list) ≡ true → isJustified i j (certificatesOf m (numbersOf j list)) ≡ true → (v : ℕ) → 1 ≤ v
     → v < proposalView j (certificatesOf m (numbersOf j list)) → Choosable m v
-    → Grounded m (justifiedBlock j (certificatesOf m (numbersOf j list))) v
+    → ProposedFrom m (justifiedBlock j (certificatesOf m (numbersOf j list))) v
 unfolding every isCommitQuorum
-grounded m i (Acc number) list safe size issued justified v low below ch =
+justified-proposed m i (Acc number) list safe size issued justified v low below ch =
     let known = and-true (isIssued m number) true issued in
     let t = each _ justified in
     let a = clause m (certificate m number) ACC (omega tests) (safe .log number (omega tests)) in
     let le = a .covers v low below ch in
     ⊎-elim (λ z. let none = z .0 in absurd (omega arith)) (λ p. record { view = certificate m number .ofView; proposed = p; covers = le })
     (a .origin)
-grounded m i (Commits u b) list safe size issued justified v low below ch =
+justified-proposed m i (Commits u b) list safe size issued justified v low below ch =
     let tested = each _ justified in
     let commits =
     each-tested m (CertificateSafe m) (λ c. Proposed m u b) _ list issued (safe .log) (tested .0)
@@ -89,7 +89,7 @@ prepare-safe m i b j list hold safe =
       chain =
           λ v a l ch.
           let before = choosable-before m _ mv ch in
-          let g = grounded m i j list safe (h .1 .1 .0) (ranged .1 .0) (justified .0) v a l before in
+          let g = justified-proposed m i j list safe (h .1 .1 .0) (ranged .1 .0) (justified .0) v a l before in
           ancestor-after m _ mv (safe .formed) (omega tests)
           (extend m safe (g .view) (justifiedBlock j cs) b v (g .proposed) (omega (tests, not-true (eqb b 0) (block .0))) (omega tests) a (g .covers) before);
     })

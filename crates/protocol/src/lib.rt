@@ -1,4 +1,4 @@
-// What the code and the definitions share: a call, the answer to it, and what lets a leader propose.
+// What the code and the definitions share: a call, the answer to it with its refusals, and what lets a leader propose.
 
 // The number that a call returns, 0 where it is accepted, and its two values.
 pub struct Answer {
@@ -6,6 +6,28 @@ pub struct Answer {
     pub first: u32,
     pub second: u32,
 }
+
+// The numbers that are not 0, as document 01's table "Calls" has them. They have the names of specs/Outcome.antt, in upper case.
+pub const WRONG_FORM: u32 = 1;
+
+pub const OUT_OF_RANGE: u32 = 2;
+
+pub const UNKNOWN_NUMBER: u32 = 3;
+
+pub const WRONG_STATUS: u32 = 4;
+
+pub const WRONG_CERTIFICATE: u32 = 5;
+
+pub const WRONG_BLOCK: u32 = 6;
+
+pub const WRONG_VIEW: u32 = 7;
+
+pub const COUNTER_LIMIT: u32 = 8;
+
+pub const NO_ROOM: u32 = 9;
+
+// "script line unreadable": for a line or a code that gives no call.
+pub const UNREADABLE: u32 = 10;
 
 // What lets a leader propose (document 01: the ground of a proposal): the number of an ACC, or the view and the block of a
 // commit quorum, whose numbers are the list beside the call.

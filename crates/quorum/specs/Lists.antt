@@ -5,7 +5,7 @@ use mathlib.Core.Bool.{Bool, true, not}
 use mathlib.Core.List.{List, [], _∷_}
 use lib.ListN.{length, getD}
 use lib.Dec.{eqb}
-use Rattle.protocol.specs.Memory.{Certificate, memory, certificateWords, certificateAt, certificateWord, certificate}
+use Rattle.protocol.specs.Memory.{Certificate, memory, certificateWords, certificateAt, certificate}
 use Rattle.protocol.specs.Memory.{maxCertificates}
 use Rattle.protocol.specs.Form.{allHold}
 use Rattle.protocol.specs.Certificates.{isKind, COMMIT, NEWVIEW, REPLY}
@@ -14,9 +14,6 @@ use Rattle.quorum.specs.declared.Wanted.{Wanted}
 use Rattle.quorum.specs.declared.Wanted.the-variants.{Commit, NewView, Reply}
 
 -- Certificates are read from the log alone: in any memory with this log they are the same.
-abbrev pub wordIn : List ℕ → ℕ → ℕ → ℕ
-wordIn log number place = certificateWord (memory [] log []) number place
-
 abbrev pub certificateIn : List ℕ → ℕ → Certificate
 certificateIn log number = certificate (memory [] log []) number
 

@@ -4,13 +4,11 @@ ghost use mathlib.Core.Path.{_≡_};
 ghost use lib.Bits.{bitOr};
 ghost use lib.Dec.{ltb};
 ghost use lib.ListN.{length};
-ghost use Rattle.protocol.specs.Memory.{certificateWords};
 ghost use Rattle.protocol.specs.Quorum.{every, isCommitQuorum, isNewViewQuorum, isReplyQuorum};
 ghost use Rattle.quorum.specs.Lists.{
   certificateIn,
   certificatesIn,
   maxSigners,
-  wordIn,
   InLog,
   Listed,
   isQuorum,
@@ -18,28 +16,17 @@ ghost use Rattle.quorum.specs.Lists.{
   Greatest,
 };
 ghost use Rattle.quorum.specs.Signers.{holds};
-
-const CERTIFICATE_WORDS: usize = 7;
-
-const KIND_AT: usize = 0;
-
-const SIGNER_AT: usize = 1;
-
-const VIEW_AT: usize = 2;
-
-const BLOCK_AT: usize = 3;
-
-const OF_VIEW_AT: usize = 4;
-
-const SUBJECT_AT: usize = 5;
-
-const BOOT_AT: usize = 6;
-
-const COMMIT: u32 = 2;
-
-const NEWVIEW: u32 = 3;
-
-const REPLY: u32 = 6;
+use layout::COMMIT;
+use layout::KIND_AT;
+use layout::NEWVIEW;
+use layout::OF_VIEW_AT;
+use layout::PROPOSED_BLOCK_AT;
+use layout::REPLY;
+use layout::SIGNER_AT;
+use layout::SUBJECT_AT;
+use layout::SUBJECT_BOOT_AT;
+use layout::VIEW_AT;
+use layout::certificate_word;
 
 // What each certificate of a quorum has to be.
 enum Wanted {
@@ -51,31 +38,23 @@ enum Wanted {
     Reply(u32, u32, u32),
 }
 
-// A word of a certificate, by its place in the record.
-fn word(log: &[u32], number: u32, place: usize) -> u32
-    requires { ⌜ InLog (now log) number × (place < certificateWords) ⌝ }
-    ensures { λ r. ⌜ r ≡ wordIn (now (log .entry)) number place ⌝ }
-{
-    log[CERTIFICATE_WORDS * (number as usize) + place]
-}
-
 fn is_wanted(log: &[u32], number: u32, wanted: Wanted) -> bool
     requires { ⌜ InLog (now log) number ⌝ }
     ensures { λ r. ⌜ r ≡ wants wanted (certificateIn (now (log .entry)) number) ⌝ }
 {
-    let kind = word(log, number, KIND_AT);
-    let in_view = word(log, number, VIEW_AT);
+    let kind = certificate_word(log, number, KIND_AT);
+    let in_view = certificate_word(log, number, VIEW_AT);
     match wanted {
         Wanted::Commit(view, block) => (kind == COMMIT)
             & (in_view == view)
-            & (word(log, number, BLOCK_AT) == block),
+            & (certificate_word(log, number, PROPOSED_BLOCK_AT) == block),
         Wanted::NewView(view) => (kind == NEWVIEW) & (in_view == view),
         Wanted::Reply(subject, boot, view) => {
             (kind == REPLY)
-                & (word(log, number, SUBJECT_AT) == subject)
-                & (word(log, number, BOOT_AT) == boot)
+                & (certificate_word(log, number, SUBJECT_AT) == subject)
+                & (certificate_word(log, number, SUBJECT_BOOT_AT) == boot)
                 & (in_view == view)
-                & (word(log, number, SIGNER_AT) != subject)
+                & (certificate_word(log, number, SIGNER_AT) != subject)
         }
     }
 }
@@ -105,7 +84,7 @@ fn is_quorum(log: &[u32], list: &[u32], wanted: Wanted) -> bool
     let mut i = 0;
     while i < list.len() {
         let number = list[i];
-        let signer = word(log, number, SIGNER_AT);
+        let signer = certificate_word(log, number, SIGNER_AT);
         ok = ok & is_wanted(log, number, wanted) & !is_seen(seen, signer);
         seen = with_signer(seen, signer);
         i += 1;
@@ -153,11 +132,11 @@ pub fn greatest(log: &[u32], list: &[u32]) -> u32
     ensures { λ r. ⌜ Greatest (now (log .entry)) (now (list .entry)) r ⌝ }
 {
     let mut best = list[0];
-    let mut best_view = word(log, best, OF_VIEW_AT);
+    let mut best_view = certificate_word(log, best, OF_VIEW_AT);
     let mut i = 1;
     while i < list.len() {
         let number = list[i];
-        let of_view = word(log, number, OF_VIEW_AT);
+        let of_view = certificate_word(log, number, OF_VIEW_AT);
         if best_view < of_view {
             best = number;
             best_view = of_view;

@@ -1,4 +1,2 @@
-pub mod Issues
-pub mod Requesting
-pub mod Replying
+pub mod Rules
 pub mod Recovering

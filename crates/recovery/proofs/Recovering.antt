@@ -4,10 +4,9 @@ use mathlib.Core.Path.{_≡_, refl, sym, ap, _∙_}
 use mathlib.Core.Bool.{Bool, true, false}
 use mathlib.Core.List.{List}
 use native.Mathlib.Omega.{arith}
-use lib.ListN.{length}
 use Rattle.protocol.specs.declared.Answer.{Answer}
 use Rattle.protocol.specs.Memory as Memory
-use Rattle.protocol.specs.Memory.{Memory, memory, rowAt, recovering, replica, certificateAt, certificateWords, certificate, assign}
+use Rattle.protocol.specs.Memory.{Memory, memory, rowAt, recovering, replica, certificate, assign}
 use Rattle.protocol.specs.Memory.{update}
 use Rattle.protocol.specs.Quorum.{certificatesOf, isReplyQuorum, greatest}
 use Rattle.protocol.specs.Outcome.{firstRefusal, follow, wrongStatus, wrongCertificate, counterLimit}
@@ -16,32 +15,21 @@ use Rattle.protocol.proofs.Tests.{tests}
 use Rattle.certificates.specs.declared.Certificate.{Certificate}
 use Rattle.certificates.specs.Filing.{certificateOf}
 use Rattle.layout.proofs.Within.{certificate-bounds}
-use Rattle.quorum.specs.Lists.{Listed, Greatest}
-use Rattle.quorum.proofs.Accepted.{listed, some-listed, greatest-issued}
+use Rattle.quorum.specs.Lists.{Greatest}
+use Rattle.quorum.proofs.Accepted.{greatest-issued}
 use Rattle.checks.specs.Needs.{listNeeds}
 use Rattle.checks.proofs.Ready.{ReadyList, last, further}
 use Rattle.records.specs.declared.Replica.{Replica}
 use Rattle.records.specs.Replicas.{replicaOf}
 use Rattle.recovery.specs.Tests.{restored}
-use Rattle.checks.proofs.Ends.{stops, passes, refuses, accepts, certificate-there}
+use Rattle.checks.proofs.Ends.{stops, passes, refuses, accepts}
 
--- ---- what the functions that read the list ask, from the first needs
-
-module _ (m : Memory) (i : ℕ) (list : List ℕ) (w : ReadyList m i list) where
-  pub all-listed : Listed (m .log) list
-  all-listed = listed m list (w .ready .formed) (w .issued)
-
-  pub some-there : 0 < length list
-  some-there = some-listed m list (w .size)
-
-  module _ (g : ℕ) (is : Greatest (m .log) list g) where
-    pub greatest-within : certificateAt g + certificateWords ≤ length (m .log)
-    greatest-within = certificate-there m g (w .ready .sizes) (greatest-issued m list g (w .issued) is)
-
-    pub of-view-fits : (c : Certificate) → certificateOf c ≡ certificate m g → c .«of_view» + 1 < 2 ^ 32
-    of-view-fits c e =
-        let b = certificate-bounds m (w .ready .formed) g (greatest-issued m list g (w .issued) is) in
-        omega (arith, ap (λ (x : Memory.Certificate). x .ofView) e)
+-- One more than the greatest of-view fits a word.
+pub of-view-fits : (m : Memory) (i : ℕ) (list : List ℕ) → ReadyList m i list → (g : ℕ) → Greatest (m .log) list g → (c : Certificate)
+    → certificateOf c ≡ certificate m g → c .«of_view» + 1 < 2 ^ 32
+of-view-fits m i list w g is c e =
+    let b = certificate-bounds m (w .ready .formed) g (greatest-issued m list g (w .issued) is) in
+    omega (arith, ap (λ (x : Memory.Certificate). x .ofView) e)
 
 -- ---- the ways that it goes
 

@@ -12,9 +12,6 @@ ghost use Rattle.records.specs.Replicas.{replicaOf};
 ghost use Rattle.recovery.specs.Tests.{replyTests, raising, restored};
 use certificates::Certificate;
 use certificates::Filed;
-use checks::COUNTER_LIMIT;
-use checks::WRONG_CERTIFICATE;
-use checks::WRONG_STATUS;
 use checks::accepted;
 use checks::refused;
 use layout::FLAG_AT;
@@ -22,17 +19,17 @@ use layout::LIVE;
 use layout::LOWERED;
 use layout::MIN_VIEW_AT;
 use layout::RECOVERING;
+use layout::REPLY;
+use layout::REQ;
 use layout::STATUS_AT;
 use layout::STORED_BLOCK_AT;
 use layout::STORED_VIEW_AT;
 use layout::set_replica_word;
 use protocol::Answer;
+use protocol::COUNTER_LIMIT;
+use protocol::WRONG_CERTIFICATE;
+use protocol::WRONG_STATUS;
 use records::Replica;
-
-// The kinds of certificates that the calls here read and issue.
-const REQ: u32 = 5;
-
-const REPLY: u32 = 6;
 
 // The min view rises to a view that is above it, and the flag is lowered then.
 fn raise_min_view(table: &mut [u32], replica: u32, min_view: u32, view: u32)

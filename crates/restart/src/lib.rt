@@ -7,8 +7,6 @@ ghost use Rattle.protocol.specs.Outcome.{left, firstRefusal, outcomeBy};
 ghost use Rattle.protocol.specs.Calls.{reserve as reserveRule, reboot as rebootRule};
 ghost use Rattle.records.specs.Replicas.{replicaOf};
 ghost use Rattle.restart.specs.Tests.{reserveTests, retiring, restarted};
-use checks::COUNTER_LIMIT;
-use checks::WRONG_STATUS;
 use checks::accepted;
 use checks::refused;
 use layout::BOOT_AT;
@@ -24,6 +22,8 @@ use layout::STORED_VIEW_AT;
 use layout::VIEW_LIMIT_AT;
 use layout::set_replica_word;
 use protocol::Answer;
+use protocol::COUNTER_LIMIT;
+use protocol::WRONG_STATUS;
 use records::Replica;
 
 // Whether a reboot, to this boot and view limit, retires the replica.

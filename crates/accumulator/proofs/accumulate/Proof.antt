@@ -1,58 +1,91 @@
 use native.Mathlib.Omega.{arith}
-use mathlib.Core.Path.{sym, _∙_}
+use mathlib.Core.Path.{refl}
 use borrow.Author.Needs.{needs}
-use Rattle.protocol.specs.Memory.{memory}
+use Rattle.protocol.specs.Outcome.{firstRefusal}
 use Rattle.certificates.proofs.Fits.{log-fits}
-use Rattle.accumulator.proofs.Lists.{some, all-listed, first-within, greatest-within}
-use Rattle.accumulator.proofs.Ways.{accumulate-ready, accumulate-refused, accumulate-rule, accumulate-full, accumulate-issued}
+use Rattle.certificates.proofs.Issuing.{full, issued}
+use Rattle.checks.proofs.Ends.{all-listed, some-there, first-there, greatest-there}
+use Rattle.checks.proofs.Issues.{stops-first, goes-through}
+use Rattle.accumulator.proofs.Ways.{accumulate-ready, accumulating, acc-is}
 use Rattle.accumulator.proofs.accumulate.Statement.{statement}
 use Rattle.accumulator.proofs.accumulate.Tie as tie
 
 returns : tie.Need-returns
-returns c = rw (c .refused .ensures) (accumulate-refused _ _ _ (c .before .before .accumulate-refusal .ensures) (omega (arith, c .before .if1 .taken)))
+returns c =
+    stops-first (accumulating _ _ _) (c .before .before .accumulate-refusal .ensures) (c .refused .ensures) (c .before .if1 .taken)
 
 greatest-requires : tie.Need-greatest-requires
-greatest-requires c κs = let r = accumulate-ready (memory (c .before .before .before .before .before .before .before .before .before .before .args .table .now) (c .before .before .before .before .before .before .before .before .before .before .args .log .now) (c .before .before .before .before .before .before .before .before .before .before .args .blocks .now)) (c .before .before .before .before .before .before .before .before .before .before .args .replica)
-    (c .before .before .before .before .before .before .before .before .before .before .args .list .now) (sym (c .before .before .accumulate-refusal .ensures) ∙ c .before .if1 .left) in
-    (all-listed _ _ _ r, some _ _ _ r)
+greatest-requires c κs =
+    let ok = c .before in
+    let w = accumulate-ready _ _ _ (ok .before .accumulate-refusal .ensures) (ok .if1 .left) in
+    (all-listed _ _ _ w, some-there _ _ _ w)
 
 shared-slice-read-certificate-word : tie.Need-shared-slice-read-certificate-word
-shared-slice-read-certificate-word c = some _ _ _ (accumulate-ready (memory (c .before .before .before .before .before .before .before .before .before .before .before .before .before .args .table .now) (c .before .before .before .before .before .before .before .before .before .before .before .before .before .args .log .now) (c .before .before .before .before .before .before .before .before .before .before .before .before .before .args .blocks .now)) (c .before .before .before .before .before .before .before .before .before .before .before .before .before .args .replica)
-    (c .before .before .before .before .before .before .before .before .before .before .before .before .before .args .list .now) (sym (c .before .before .before .before .before .accumulate-refusal .ensures) ∙ c .before .before .before .before .if1 .left))
+shared-slice-read-certificate-word c =
+    let ok = c .before .before .before .before in
+    some-there _ _ _ (accumulate-ready _ _ _ (ok .before .accumulate-refusal .ensures) (ok .if1 .left))
 
 certificate-word-requires : tie.Need-certificate-word-requires
-certificate-word-requires c κs = first-within _ _ _ (accumulate-ready (memory (c .before .before .before .before .before .before .before .before .before .before .before .before .before .args .table .now) (c .before .before .before .before .before .before .before .before .before .before .before .before .before .args .log .now) (c .before .before .before .before .before .before .before .before .before .before .before .before .before .args .blocks .now)) (c .before .before .before .before .before .before .before .before .before .before .before .before .before .args .replica)
-    (c .before .before .before .before .before .before .before .before .before .before .before .before .before .args .list .now) (sym (c .before .before .before .before .before .accumulate-refusal .ensures) ∙ c .before .before .before .before .if1 .left)) 2 (omega arith)
+certificate-word-requires c κs =
+    let ok = c .before .before .before .before in
+    let there = first-there _ _ _ (accumulate-ready _ _ _ (ok .before .accumulate-refusal .ensures) (ok .if1 .left)) in
+    omega (arith, there)
 
 certificate-word-requires-2 : tie.Need-certificate-word-requires-2
-certificate-word-requires-2 c κs = greatest-within _ _ _ (accumulate-ready (memory (c .before .before .before .before .before .before .before .before .before .before .before .before .before .before .before .args .table .now) (c .before .before .before .before .before .before .before .before .before .before .before .before .before .before .before .args .log .now) (c .before .before .before .before .before .before .before .before .before .before .before .before .before .before .before .args .blocks .now)) (c .before .before .before .before .before .before .before .before .before .before .before .before .before .before .before .args .replica)
-    (c .before .before .before .before .before .before .before .before .before .before .before .before .before .before .before .args .list .now) (sym (c .before .before .before .before .before .before .before .accumulate-refusal .ensures) ∙ c .before .before .before .before .before .before .if1 .left)) _ (c .before .before .before .before .greatest .ensures) 3 (omega arith)
+certificate-word-requires-2 c κs =
+    let best = c .before .before .before .before in
+    let ok = best .before .before in
+    let w = accumulate-ready _ _ _ (ok .before .accumulate-refusal .ensures) (ok .if1 .left) in
+    omega (arith, greatest-there _ _ _ w _ (best .greatest .ensures))
 
 certificate-word-requires-3 : tie.Need-certificate-word-requires-3
-certificate-word-requires-3 c κs = greatest-within _ _ _ (accumulate-ready (memory (c .before .before .before .before .before .before .before .before .before .before .before .before .before .before .before .before .before .args .table .now) (c .before .before .before .before .before .before .before .before .before .before .before .before .before .before .before .before .before .args .log .now) (c .before .before .before .before .before .before .before .before .before .before .before .before .before .before .before .before .before .args .blocks .now)) (c .before .before .before .before .before .before .before .before .before .before .before .before .before .before .before .before .before .args .replica)
-    (c .before .before .before .before .before .before .before .before .before .before .before .before .before .before .before .before .before .args .list .now) (sym (c .before .before .before .before .before .before .before .before .before .accumulate-refusal .ensures) ∙ c .before .before .before .before .before .before .before .before .if1 .left)) _ (c .before .before .before .before .before .before .greatest .ensures) 4 (omega arith)
+certificate-word-requires-3 c κs =
+    let best = c .before .before .before .before .before .before in
+    let ok = best .before .before in
+    let w = accumulate-ready _ _ _ (ok .before .accumulate-refusal .ensures) (ok .if1 .left) in
+    omega (arith, greatest-there _ _ _ w _ (best .greatest .ensures))
 
 file-requires : tie.Need-file-requires
-file-requires c κs = log-fits _ (accumulate-ready (memory (c .before .before .before .before .before .before .before .before .before .before .before .before .before .before .before .before .before .before .before .before .args .table .now) (c .before .before .before .before .before .before .before .before .before .before .before .before .before .before .before .before .before .before .before .before .args .log .now) (c .before .before .before .before .before .before .before .before .before .before .before .before .before .before .before .before .before .before .before .before .args .blocks .now)) (c .before .before .before .before .before .before .before .before .before .before .before .before .before .before .before .before .before .before .before .before .args .replica)
-    (c .before .before .before .before .before .before .before .before .before .before .before .before .before .before .before .before .before .before .before .before .args .list .now) (sym (c .before .before .before .before .before .before .before .before .before .before .before .before .accumulate-refusal .ensures) ∙ c .before .before .before .before .before .before .before .before .before .before .before .if1 .left) .ready .formed)
+file-requires c κs =
+    let ok = c .before .before .before .before .before .before .before .before .before .before .before in
+    log-fits _ (accumulate-ready _ _ _ (ok .before .accumulate-refusal .ensures) (ok .if1 .left) .ready .formed)
 
 returns-2 : tie.Need-returns-2
+unfolding firstRefusal
 returns-2 c =
-    let r = accumulate-ready (memory (c .before .before .before .before .before .before .before .before .before .before .before .before .before .before .before .before .before .before .before .before .before .before .before .before .before .before .before .before .before .args .table .now) (c .before .before .before .before .before .before .before .before .before .before .before .before .before .before .before .before .before .before .before .before .before .before .before .before .before .before .before .before .before .args .log .now) (c .before .before .before .before .before .before .before .before .before .before .before .before .before .before .before .before .before .before .before .before .before .before .before .before .before .before .before .before .before .args .blocks .now)) (c .before .before .before .before .before .before .before .before .before .before .before .before .before .before .before .before .before .before .before .before .before .before .before .before .before .before .before .before .before .args .replica)
-    (c .before .before .before .before .before .before .before .before .before .before .before .before .before .before .before .before .before .before .before .before .before .before .before .before .before .before .before .before .before .args .list .now) (sym (c .before .before .before .before .before .before .before .before .before .before .before .before .before .before .before .before .before .before .before .before .before .accumulate-refusal .ensures) ∙ c .before .before .before .before .before .before .before .before .before .before .before .before .before .before .before .before .before .before .before .before .if1 .left) in
-    rw (c .refused2 .ensures)
-    (accumulate-full _ _ _ _ _ _ (accumulate-rule _ _ _ _ _ _ _ (r .size) (c .before .before .before .before .before .before .before .before .before .before .before .before .before .before .before .before .before .before .greatest .ensures .is) (c .before .before .before .before .before .before .before .before .before .before .before .before .before .before .before .certificate-word .ensures)
-    (c .before .before .before .before .before .before .before .before .before .before .before .before .before .certificate-word2 .ensures) (c .before .before .before .before .before .before .before .before .before .before .before .certificate-word3 .ensures))
-    (sym (c .before .before .before .before .before .before .before .before .before .before .before .before .before .before .before .before .before .before .before .before .before .accumulate-refusal .ensures) ∙ c .before .before .before .before .before .before .before .before .before .before .before .before .before .before .before .before .before .before .before .before .if1 .left) (c .before .before .before .before .before .before .before .before .file .ensures (c .before .before .before .before .before .before .before .before .before .before .before .before .before .before .before .before .before .before .before .before .before .before .before .before .before .before .before .before .before .args .blocks .now)) (c .before .before .enum-told .given .1) (c .before .refusal-of .ensures))
+    let told = c .before .before in
+    let files = told .before .before .before .before .before .before in
+    let of-view = files .before .before .before in
+    let block = of-view .before .before in
+    let view = block .before .before in
+    let best = view .before .before .before in
+    let ok = best .before .before in
+    let first = ok .before in
+    let start = first .before .before .before .before .before .before .before .before in
+    let w = accumulate-ready _ _ _ (first .accumulate-refusal .ensures) (ok .if1 .left) in
+    let acc = acc-is w (view .certificate-word .ensures) _ (best .greatest .ensures .is) (block .certificate-word2 .ensures)
+    (of-view .certificate-word3 .ensures) in
+    goes-through (accumulating _ _ _) (first .accumulate-refusal .ensures) (ok .if1 .left) refl refl
+    (full _ _ _ _ acc (files .file .ensures (start .args .blocks .now)) (told .enum-told .given .1)
+    (c .before .refusal-of .ensures) (c .refused2 .ensures))
 
 returns-3 : tie.Need-returns-3
+unfolding firstRefusal
 returns-3 c =
-    let r = accumulate-ready (memory (c .before .before .before .before .before .before .before .before .before .before .before .before .before .before .before .before .before .before .before .before .before .before .before .before .before .before .before .before .before .args .table .now) (c .before .before .before .before .before .before .before .before .before .before .before .before .before .before .before .before .before .before .before .before .before .before .before .before .before .before .before .before .before .args .log .now) (c .before .before .before .before .before .before .before .before .before .before .before .before .before .before .before .before .before .before .before .before .before .before .before .before .before .before .before .before .before .args .blocks .now)) (c .before .before .before .before .before .before .before .before .before .before .before .before .before .before .before .before .before .before .before .before .before .before .before .before .before .before .before .before .before .args .replica)
-    (c .before .before .before .before .before .before .before .before .before .before .before .before .before .before .before .before .before .before .before .before .before .before .before .before .before .before .before .before .before .args .list .now) (sym (c .before .before .before .before .before .before .before .before .before .before .before .before .before .before .before .before .before .before .before .before .before .accumulate-refusal .ensures) ∙ c .before .before .before .before .before .before .before .before .before .before .before .before .before .before .before .before .before .before .before .before .if1 .left) in
-    rw (c .accepted .ensures)
-    (accumulate-issued _ _ _ _ _ _ (accumulate-rule _ _ _ _ _ _ _ (r .size) (c .before .before .before .before .before .before .before .before .before .before .before .before .before .before .before .before .before .before .greatest .ensures .is) (c .before .before .before .before .before .before .before .before .before .before .before .before .before .before .before .certificate-word .ensures)
-    (c .before .before .before .before .before .before .before .before .before .before .before .before .before .certificate-word2 .ensures) (c .before .before .before .before .before .before .before .before .before .before .before .certificate-word3 .ensures))
-    (sym (c .before .before .before .before .before .before .before .before .before .before .before .before .before .before .before .before .before .before .before .before .before .accumulate-refusal .ensures) ∙ c .before .before .before .before .before .before .before .before .before .before .before .before .before .before .before .before .before .before .before .before .if1 .left) (c .before .before .before .before .before .before .before .before .file .ensures (c .before .before .before .before .before .before .before .before .before .before .before .before .before .before .before .before .before .before .before .before .before .before .before .before .before .before .before .before .before .args .blocks .now)) (c .before .before .filed .given .1))
+    let told = c .before .before in
+    let files = told .before .before .before .before .before .before in
+    let of-view = files .before .before .before in
+    let block = of-view .before .before in
+    let view = block .before .before in
+    let best = view .before .before .before in
+    let ok = best .before .before in
+    let first = ok .before in
+    let start = first .before .before .before .before .before .before .before .before in
+    let w = accumulate-ready _ _ _ (first .accumulate-refusal .ensures) (ok .if1 .left) in
+    let acc = acc-is w (view .certificate-word .ensures) _ (best .greatest .ensures .is) (block .certificate-word2 .ensures)
+    (of-view .certificate-word3 .ensures) in
+    goes-through (accumulating _ _ _) (first .accumulate-refusal .ensures) (ok .if1 .left) refl refl
+    (issued _ _ _ _ acc (files .file .ensures (start .args .blocks .now)) (told .filed .given .1) (c .accepted .ensures) refl)
 
 pub accumulate-spec : {M : Type 1} → statement M
 accumulate-spec =

@@ -1,43 +1,51 @@
 use native.Mathlib.Omega.{arith}
 use mathlib.Core.Path.{sym, _∙_}
 use borrow.Author.Needs.{needs}
-use Rattle.protocol.specs.Memory.{memory}
-use Rattle.protocol.proofs.Needs.{refuses}
-use Rattle.accumulator.proofs.Lists.{some, first-within, row-whole}
+use Rattle.checks.proofs.Ends.{refuses, row-within, some-there, first-there}
 use Rattle.accumulator.proofs.Ways.{decide-ready, decided}
 use Rattle.accumulator.proofs.decide.Statement.{statement}
 use Rattle.accumulator.proofs.decide.Tie as tie
 
 returns : tie.Need-returns
-returns c = rw (c .refused .ensures) (refuses _ _ _ (c .before .before .decide-refusal .ensures) (omega (arith, c .before .if1 .taken)))
+returns c = refuses _ _ (c .refused .ensures) (c .before .if1 .taken) (c .before .before .decide-refusal .ensures)
 
 shared-slice-read-certificate-word : tie.Need-shared-slice-read-certificate-word
-shared-slice-read-certificate-word c = some _ _ _ (decide-ready (memory (c .before .before .before .before .before .before .before .before .before .before .before .args .table .now) (c .before .before .before .before .before .before .before .before .before .before .before .args .log .now) (c .before .before .before .before .before .before .before .before .before .before .before .args .blocks .now)) (c .before .before .before .before .before .before .before .before .before .before .before .args .replica)
-    (c .before .before .before .before .before .before .before .before .before .before .before .args .list .now) (sym (c .before .before .before .decide-refusal .ensures) ∙ c .before .before .if1 .left))
+shared-slice-read-certificate-word c =
+    let ok = c .before .before in
+    some-there _ _ _ (decide-ready _ _ _ (ok .before .decide-refusal .ensures) (ok .if1 .left))
 
 certificate-word-requires : tie.Need-certificate-word-requires
-certificate-word-requires c κs = first-within _ _ _ (decide-ready (memory (c .before .before .before .before .before .before .before .before .before .before .before .args .table .now) (c .before .before .before .before .before .before .before .before .before .before .before .args .log .now) (c .before .before .before .before .before .before .before .before .before .before .before .args .blocks .now)) (c .before .before .before .before .before .before .before .before .before .before .before .args .replica)
-    (c .before .before .before .before .before .before .before .before .before .before .before .args .list .now) (sym (c .before .before .before .decide-refusal .ensures) ∙ c .before .before .if1 .left)) 2 (omega arith)
+certificate-word-requires c κs =
+    let ok = c .before .before in
+    let there = first-there _ _ _ (decide-ready _ _ _ (ok .before .decide-refusal .ensures) (ok .if1 .left)) in
+    omega (arith, there)
 
 shared-slice-read-certificate-word-2 : tie.Need-shared-slice-read-certificate-word-2
-shared-slice-read-certificate-word-2 c = some _ _ _ (decide-ready (memory (c .before .before .before .before .before .before .before .before .before .before .before .before .before .before .args .table .now) (c .before .before .before .before .before .before .before .before .before .before .before .before .before .before .args .log .now) (c .before .before .before .before .before .before .before .before .before .before .before .before .before .before .args .blocks .now)) (c .before .before .before .before .before .before .before .before .before .before .before .before .before .before .args .replica)
-    (c .before .before .before .before .before .before .before .before .before .before .before .before .before .before .args .list .now) (sym (c .before .before .before .before .before .before .decide-refusal .ensures) ∙ c .before .before .before .before .before .if1 .left))
+shared-slice-read-certificate-word-2 c =
+    let ok = c .before .before .before .before .before in
+    some-there _ _ _ (decide-ready _ _ _ (ok .before .decide-refusal .ensures) (ok .if1 .left))
 
 certificate-word-requires-2 : tie.Need-certificate-word-requires-2
-certificate-word-requires-2 c κs = first-within _ _ _ (decide-ready (memory (c .before .before .before .before .before .before .before .before .before .before .before .before .before .before .args .table .now) (c .before .before .before .before .before .before .before .before .before .before .before .before .before .before .args .log .now) (c .before .before .before .before .before .before .before .before .before .before .before .before .before .before .args .blocks .now)) (c .before .before .before .before .before .before .before .before .before .before .before .before .before .before .args .replica)
-    (c .before .before .before .before .before .before .before .before .before .before .before .before .before .before .args .list .now) (sym (c .before .before .before .before .before .before .decide-refusal .ensures) ∙ c .before .before .before .before .before .if1 .left)) 3 (omega arith)
+certificate-word-requires-2 c κs =
+    let ok = c .before .before .before .before .before in
+    let there = first-there _ _ _ (decide-ready _ _ _ (ok .before .decide-refusal .ensures) (ok .if1 .left)) in
+    omega (arith, there)
 
 set-decided-requires : tie.Need-set-decided-requires
-set-decided-requires c κs = row-whole _ _ _ (decide-ready (memory (c .before .before .before .before .before .before .before .before .before .before .before .before .before .before .before .before .args .table .now) (c .before .before .before .before .before .before .before .before .before .before .before .before .before .before .before .before .args .log .now) (c .before .before .before .before .before .before .before .before .before .before .before .before .before .before .before .before .args .blocks .now)) (c .before .before .before .before .before .before .before .before .before .before .before .before .before .before .before .before .args .replica)
-    (c .before .before .before .before .before .before .before .before .before .before .before .before .before .before .before .before .args .list .now) (sym (c .before .before .before .before .before .before .before .before .decide-refusal .ensures) ∙ c .before .before .before .before .before .before .before .if1 .left))
+set-decided-requires c κs =
+    let ok = c .before .before .before .before .before .before .before in
+    row-within _ _ (decide-ready _ _ _ (ok .before .decide-refusal .ensures) (ok .if1 .left) .ready)
 
 returns-2 : tie.Need-returns-2
 returns-2 c =
-    let r = decide-ready (memory (c .before .before .before .before .before .before .before .before .before .before .before .before .before .before .before .before .before .before .before .before .args .table .now) (c .before .before .before .before .before .before .before .before .before .before .before .before .before .before .before .before .before .before .before .before .args .log .now) (c .before .before .before .before .before .before .before .before .before .before .before .before .before .before .before .before .before .before .before .before .args .blocks .now)) (c .before .before .before .before .before .before .before .before .before .before .before .before .before .before .before .before .before .before .before .before .args .replica)
-    (c .before .before .before .before .before .before .before .before .before .before .before .before .before .before .before .before .before .before .before .before .args .list .now) (sym (c .before .before .before .before .before .before .before .before .before .before .before .before .decide-refusal .ensures) ∙ c .before .before .before .before .before .before .before .before .before .before .before .if1 .left) in
-    rw (c .accepted .ensures, c .before .before .before .set-decided .ensures)
-    (decided _ _ _ _ _ (sym (c .before .before .before .before .before .before .before .before .before .before .before .if1 .left) ∙ c .before .before .before .before .before .before .before .before .before .before .before .before .decide-refusal .ensures) (r .size) (c .before .before .before .before .before .before .before .before .certificate-word .ensures)
-    (c .before .before .before .before .before .certificate-word2 .ensures))
+    let written = c .before .before .before in
+    let block = written .before .before in
+    let view = block .before .before .before in
+    let ok = view .before .before .before in
+    let first = ok .before in
+    decided (decide-ready _ _ _ (first .decide-refusal .ensures) (ok .if1 .left)) (view .certificate-word .ensures)
+    (block .certificate-word2 .ensures) (c .accepted .ensures) (written .set-decided .ensures)
+    (sym (ok .if1 .left) ∙ first .decide-refusal .ensures)
 
 pub decide-spec : {M : Type 1} → statement M
 decide-spec =

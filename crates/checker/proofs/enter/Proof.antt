@@ -1,6 +1,6 @@
 use mathlib.Core.Path.{refl}
 use borrow.Author.Needs.{needs}
-use Rattle.checker.proofs.Issue.{full, issued}
+use Rattle.certificates.proofs.Issuing.{full, issued}
 use Rattle.checker.proofs.enter.Statement.{statement}
 use Rattle.checker.proofs.enter.Tie as tie
 

@@ -3,137 +3,127 @@ use native.Mathlib.Omega.{arith}
 use borrow.Author.Needs.{needs}
 use Rattle.protocol.proofs.Tests.{tests}
 use Rattle.checks.proofs.Ends.{row-within}
-use Rattle.checker.proofs.Issue.{issuable, stops-first, stops-further, passes}
-use Rattle.checker.proofs.Rules.{preparing}
-use Rattle.checker.proofs.Grounds.{ready-justification, not-known, not-live, no-ground, on-ground, given-by}
+use Rattle.checks.proofs.Issues.{stops-first, stops-further, goes-through}
+use Rattle.records.proofs.Reading.{replica-read}
+use Rattle.checker.proofs.Rules.{issuable, preparing}
+use Rattle.checker.proofs.Justifications.{ready-justification, not-known, not-live, not-justified, on-justified, was-justified}
 use Rattle.checker.proofs.prepare.Statement.{statement}
 use Rattle.checker.proofs.prepare.Tie as tie
 
 returns : tie.Need-returns
 returns c =
-    stops-first (preparing _ _ _ _ _) (c .refused .ensures) (c .before .before .justification-refusal .ensures)
-    (omega (arith, c .before .if1 .taken))
+    stops-first (preparing _ _ _ _ _) (c .before .before .justification-refusal .ensures) (c .refused .ensures)
+    (c .before .if1 .taken)
 
 slice-read-if2 : tie.Need-slice-read-if2
 slice-read-if2 c =
-    let z = ready-justification _ _ _ _
-    (sym (c .before .before .justification-refusal .ensures) ∙ c .before .if1 .left) .ready .sizes in
+    let ok = c .before in
+    let z = ready-justification _ _ _ _ (ok .before .justification-refusal .ensures) (ok .if1 .left) .ready .sizes in
     omega (arith, z)
 
 returns-2 : tie.Need-returns-2
 returns-2 c =
-    let after-justification-refusal = c .before .before .before .before in
-    stops-further (preparing _ _ _ _ _)
-    (sym (after-justification-refusal .justification-refusal .ensures) ∙ c .before .before .before .if1 .left)
-    (c .refused2 .ensures) (not-known _ _ _ _ _ (omega (tests, c .before .if2 .taken))) (omega arith)
+    let ok = c .before .before .before in
+    stops-further (preparing _ _ _ _ _) (ok .before .justification-refusal .ensures) (ok .if1 .left)
+    (not-known _ _ _ _ _ (omega (tests, c .before .if2 .taken))) (c .refused2 .ensures) (λ z. omega arith)
 
-standing-of-requires : tie.Need-standing-of-requires
-standing-of-requires c κs =
-    let after-justification-refusal = c .before .before .before .before in
-    row-within _ _ (ready-justification _ _ _ _
-    (sym (after-justification-refusal .justification-refusal .ensures) ∙ c .before .before .before .if1 .left) .ready)
+replica-in-requires : tie.Need-replica-in-requires
+replica-in-requires c κs =
+    let ok = c .before .before .before in
+    row-within _ _ (ready-justification _ _ _ _ (ok .before .justification-refusal .ensures) (ok .if1 .left) .ready)
 
 returns-3 : tie.Need-returns-3
 returns-3 c =
-    let after-before = c .before .before .before .before in
-    let after-if2 = after-before .before in
-    stops-further (preparing _ _ _ _ _)
-    (sym (after-if2 .before .before .before .justification-refusal .ensures) ∙ after-if2 .before .before .if1 .left)
-    (c .refused3 .ensures) (not-live _ _ _ _ _ (omega (tests, after-if2 .if2 .left))
-    (rw (c .before .before .before .standing-of .ensures) at (c .before .if3 .taken))) (omega arith)
+    let r = c .before .before .before in
+    let known = r .before .before in
+    let ok = known .before .before in
+    stops-further (preparing _ _ _ _ _) (ok .before .justification-refusal .ensures) (ok .if1 .left)
+    (not-live _ _ _ _ _ (omega (tests, known .if2 .left)) (rw (replica-read (r .replica-in .ensures)) at (c .before .if3 .taken)))
+    (c .refused3 .ensures) (λ z. omega arith)
 
-ground-of-requires : tie.Need-ground-of-requires
-ground-of-requires c κs =
-    let after-before = c .before .before .before .before .before in
-    let after-before = after-before .before in
-    let after-if1 = after-before .before in
-    ready-justification _ _ _ _
-    (sym (after-if1 .before .justification-refusal .ensures) ∙ after-if1 .if1 .left) .grounded
+judge-requires : tie.Need-judge-requires
+judge-requires c κs =
+    let ok = c .before .before .before .before .before .before .before in
+    ready-justification _ _ _ _ (ok .before .justification-refusal .ensures) (ok .if1 .left) .within
 
 returns-4 : tie.Need-returns-4
 returns-4 c =
-    let after-before = c .before .before .before .before in
-    let after-if3 = after-before .before in
-    let after-if2 = after-if3 .before .before .before .before in
-    stops-further (preparing _ _ _ _ _)
-    (sym (after-if2 .before .before .before .justification-refusal .ensures) ∙ after-if2 .before .before .if1 .left)
-    (c .refused4 .ensures) (no-ground _ _ _ _ _ (omega (tests, after-if2 .if2 .left))
-    (rw (after-if3 .before .before .standing-of .ensures) at (after-if3 .if3 .left))
-    (sym (c .before .enum-told .given .1) ∙ c .before .before .before .ground-of .ensures)) (omega arith)
+    let judged = c .before .before .before in
+    let live = judged .before .before in
+    let r = live .before .before in
+    let known = r .before .before in
+    let ok = known .before .before in
+    stops-further (preparing _ _ _ _ _) (ok .before .justification-refusal .ensures) (ok .if1 .left)
+    (not-justified _ _ _ _ _ (omega (tests, known .if2 .left))
+    (rw (replica-read (r .replica-in .ensures)) at (live .if3 .left))
+    (sym (c .before .enum-told .given .1) ∙ judged .judge .ensures))
+    (c .refused4 .ensures) (λ z. omega arith)
 
 slice-read-f : tie.Need-slice-read-f
 slice-read-f c =
-    let middle = c .before .before .before .before .before .before in
-    let after-if1 = middle .before .before .before .before .before .before in
-    let z = ready-justification _ _ _ _
-    (sym (after-if1 .before .justification-refusal .ensures) ∙ after-if1 .if1 .left) .ready .sizes in
+    let ok = c .before .before .before .before .before .before .before .before .before .before .before .before in
+    let z = ready-justification _ _ _ _ (ok .before .justification-refusal .ensures) (ok .if1 .left) .ready .sizes in
     omega (arith, z)
 
 parent-requires : tie.Need-parent-requires
 parent-requires c κs =
-    let after-if2 = c .before .before .before .before .before .before .before .before .before .before .before in
-    let z = ready-justification _ _ _ _ (sym (after-if2 .before .before .before .justification-refusal .ensures)
-    ∙ after-if2 .before .before .if1 .left) .ready .sizes in
-    omega (arith, z, after-if2 .if2 .left)
+    let known = c .before .before .before .before .before .before .before .before .before .before .before in
+    let ok = known .before .before in
+    let z = ready-justification _ _ _ _ (ok .before .justification-refusal .ensures) (ok .if1 .left) .ready .sizes in
+    omega (arith, z, known .if2 .left)
 
 proposal-refusal-requires : tie.Need-proposal-refusal-requires
 proposal-refusal-requires c κs =
-    let after-before = c .before .before .before .before .before in
-    let after-before = after-before .before in
-    let middle = after-before .before in
-    let after-if1 = middle .before .before .before .before .before .before .before in
-    ready-justification _ _ _ _
-    (sym (after-if1 .before .justification-refusal .ensures) ∙ after-if1 .if1 .left) .ready .sizes .faultsHigh
+    let ok = c .before .before .before .before .before .before .before .before .before .before .before .before .before .before in
+    ready-justification _ _ _ _ (ok .before .justification-refusal .ensures) (ok .if1 .left) .ready .sizes .faultsHigh
 
 returns-5 : tie.Need-returns-5
 returns-5 c =
-    let after-given = c .before .before .before .before .before .before .before in
-    let after-if3 = after-given .before .before .before .before in
-    let after-standing-of = after-if3 .before .before in
-    let after-if1 = after-standing-of .before .before .before .before in
-    let given = sym (after-given .given .given .1) ∙ after-given .before .before .ground-of .ensures in
-    let tested = rw (c .before .before .before .parent .ensures, after-standing-of .standing-of .ensures)
-    at (c .before .before .proposal-refusal .ensures) in
-    stops-further (preparing _ _ _ _ _)
-    (sym (after-if1 .before .justification-refusal .ensures) ∙ after-if1 .if1 .left) (c .refused5 .ensures)
-    (on-ground _ _ _ _ _ (omega (tests, after-standing-of .before .before .if2 .left))
-    (rw (after-standing-of .standing-of .ensures) at (after-if3 .if3 .left)) given tested)
-    (omega (arith, c .before .if4 .taken))
+    let tested = c .before .before in
+    let given = tested .before .before .before .before .before in
+    let live = given .before .before .before .before in
+    let r = live .before .before in
+    let known = r .before .before in
+    let ok = known .before .before in
+    stops-further (preparing _ _ _ _ _) (ok .before .justification-refusal .ensures) (ok .if1 .left)
+    (on-justified _ _ _ _ _ (omega (tests, known .if2 .left))
+    (rw (replica-read (r .replica-in .ensures)) at (live .if3 .left))
+    (sym (given .judgement .given .1) ∙ given .before .before .judge .ensures)
+    (rw (tested .before .parent .ensures, replica-read (r .replica-in .ensures)) at (tested .proposal-refusal .ensures)))
+    (c .refused5 .ensures) (c .before .if4 .taken)
 
 propose-requires : tie.Need-propose-requires
 propose-requires c κs =
-    let after-before = c .before .before .before .before .before .before .before in
-    let after-before = after-before .before in
-    let middle = after-before .before in
-    let after-if1 = middle .before .before .before .before .before .before .before .before .before in
-    issuable _ _ (ready-justification _ _ _ _
-    (sym (after-if1 .before .justification-refusal .ensures) ∙ after-if1 .if1 .left) .ready)
+    let middle = c .before .before .before .before .before .before .before .before .before in
+    let ok = middle .before .before .before .before .before .before .before .before .before in
+    issuable _ _ (ready-justification _ _ _ _ (ok .before .justification-refusal .ensures) (ok .if1 .left) .ready)
 
 returns-6 : tie.Need-returns-6
 returns-6 c =
-    let after-propose = c .before .before .before .before in
-    let after-proposal-refusal = after-propose .before .before .before .before in
-    let after-given = after-proposal-refusal .before .before .before .before .before in
-    let after-if3 = after-given .before .before .before .before in
-    let after-standing-of = after-if3 .before .before in
-    let after-if1 = after-standing-of .before .before .before .before in
-    let after-args = after-if1 .before .before .before .before .before .before .before .before .before in
-    let given = sym (after-given .given .given .1) ∙ after-given .before .before .ground-of .ensures in
-    let tested = rw (after-proposal-refusal .before .parent .ensures, after-standing-of .standing-of .ensures)
-    at (after-proposal-refusal .proposal-refusal .ensures) in
-    passes (preparing _ _ _ _ _) (sym (after-if1 .before .justification-refusal .ensures) ∙ after-if1 .if1 .left)
-    (sym (on-ground _ _ _ _ _ (omega (tests, after-standing-of .before .before .if2 .left))
-    (rw (after-standing-of .standing-of .ensures) at (after-if3 .if3 .left)) given tested)
-    ∙ after-propose .before .before .before .if4 .left)
-    (rw (given-by _ _ _ given .1) at (after-propose .propose .ensures (after-args .args .blocks .now)))
+    let proposes = c .before .before .before .before in
+    let all = proposes .before .before .before in
+    let tested = all .before in
+    let given = tested .before .before .before .before .before in
+    let live = given .before .before .before .before in
+    let r = live .before .before in
+    let known = r .before .before in
+    let ok = known .before .before in
+    let start = ok .before .before .before .before .before .before .before .before .before in
+    let judged = sym (given .judgement .given .1) ∙ given .before .before .judge .ensures in
+    goes-through (preparing _ _ _ _ _) (ok .before .justification-refusal .ensures) (ok .if1 .left)
+    (on-justified _ _ _ _ _ (omega (tests, known .if2 .left))
+    (rw (replica-read (r .replica-in .ensures)) at (live .if3 .left)) judged
+    (rw (tested .before .parent .ensures, replica-read (r .replica-in .ensures)) at (tested .proposal-refusal .ensures)))
+    (all .if4 .left)
+    (rw (was-justified _ _ _ judged .1) at (proposes .propose .ensures (start .args .blocks .now)))
 
 pub prepare-spec : {M : Type 1} → statement M
 prepare-spec =
     tie.close
     (tie.spec (λ c κs. search needs) (λ c κs. search needs) (λ c. search needs) (λ c. search needs)
     (λ c. search needs) returns slice-read-if2 (λ c κs. search needs) (λ c. search needs) (λ c. search needs)
-    (λ c. search needs) returns-2 standing-of-requires (λ c κs. search needs) (λ c. search needs)
-    (λ c. search needs) (λ c. search needs) returns-3 ground-of-requires (λ c. search needs) (λ c. search needs)
+    (λ c. search needs) returns-2 replica-in-requires (λ c κs. search needs) (λ c. search needs)
+    (λ c. search needs) (λ c. search needs) returns-3 judge-requires (λ c. search needs) (λ c. search needs)
     (λ c κs. search needs) (λ c. search needs) (λ c. search needs) (λ c. search needs) returns-4 slice-read-f
     parent-requires proposal-refusal-requires (λ c κs. search needs) (λ c. search needs) (λ c. search needs)
     (λ c. search needs) returns-5 propose-requires (λ c. search needs) (λ c. search needs) (λ c. search needs)

@@ -4,7 +4,7 @@ use borrow.Author.Tests.{not-true, not-false}
 use Rattle.protocol.proofs.Tests.{tests}
 use Rattle.protocol.proofs.Needs.{fails, holds}
 use Rattle.checks.proofs.Ready.{last}
-use Rattle.checker.proofs.Grounds.{block-zero, block-other}
+use Rattle.checker.proofs.Justifications.{block-zero, block-other}
 use Rattle.checker.proofs.proposal_refusal.Statement.{statement}
 use Rattle.checker.proofs.proposal_refusal.Tie as tie
 

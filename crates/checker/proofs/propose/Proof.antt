@@ -1,5 +1,5 @@
 use borrow.Author.Needs.{needs}
-use Rattle.checker.proofs.Issue.{full, issued}
+use Rattle.certificates.proofs.Issuing.{full, issued}
 use Rattle.checker.proofs.propose.Statement.{statement}
 use Rattle.checker.proofs.propose.Tie as tie
 

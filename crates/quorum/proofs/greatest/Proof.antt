@@ -1,6 +1,7 @@
 -- The best number so far, and what is left of the list, give the greatest of the whole.
 use Prim.Native.Nat.{_-_, _≤_}
 use mathlib.Core.Logic.{⊎-elim}
+use native.Mathlib.Omega.{arith}
 use lib.ListN.{length}
 use borrow.Author.Needs.{needs}
 use Rattle.quorum.proofs.Passes.{Best, best-start, best-taken, best-kept, best-end}
@@ -13,20 +14,21 @@ Inv-loop log list best₀ best-view₀ i₀ best best-view i = (i ≤ length lis
 abbrev μ-loop : tie.MeasureT-loop
 μ-loop log list best₀ best-view₀ i₀ best best-view i = length list - i
 
-word-requires : tie.Need-word-requires Inv-loop μ-loop
-word-requires c κs = (c .before .before .before .pre .0 .inLog 0 (search needs), search needs)
+certificate-word-requires : tie.Need-certificate-word-requires Inv-loop μ-loop
+certificate-word-requires c κs = let there = c .before .before .before .pre .0 .inLog 0 (search needs) in omega (arith, there)
 
 loop-holds : tie.Need-loop-holds Inv-loop μ-loop
-loop-holds c = (search needs, best-start _ _ _ (c .before .before .before .before .pre .1) (c .word .ensures))
+loop-holds c = (search needs, best-start _ _ _ (c .before .before .before .before .pre .1) (c .certificate-word .ensures))
 
-word-requires-2 : tie.Need-word-requires-2 Inv-loop μ-loop
-word-requires-2 c κs =
+certificate-word-requires-2 : tie.Need-certificate-word-requires-2 Inv-loop μ-loop
+certificate-word-requires-2 c κs =
     let turn = c .before in
-    (turn .before .before .before .before .before .before .pre .0 .inLog _ (turn .loop-test .taken), search needs)
+    let there = turn .before .before .before .before .before .before .pre .0 .inLog _ (turn .loop-test .taken) in
+    omega (arith, there)
 
 loop-again : tie.Need-loop-again Inv-loop μ-loop
 loop-again c =
-    let read = c .before .word2 .ensures in
+    let read = c .before .certificate-word2 .ensures in
     let turn = c .before .before .before in
     let l = turn .before .loop in
     let b = l .inv .1 in (
@@ -43,5 +45,5 @@ returns c = best-end _ _ _ _ _ (c .before .loop .inv .1) (c .loop-test .left)
 pub greatest-spec : {M : Type 1} → statement M
 greatest-spec =
     tie.close
-    (tie.spec Inv-loop μ-loop (λ c. search needs) word-requires loop-holds (λ c. search needs) (λ c. search needs)
-    word-requires-2 (λ c. search needs) (λ c. search needs) loop-again returns)
+    (tie.spec Inv-loop μ-loop (λ c. search needs) certificate-word-requires loop-holds (λ c. search needs) (λ c. search needs)
+    certificate-word-requires-2 (λ c. search needs) (λ c. search needs) loop-again returns)

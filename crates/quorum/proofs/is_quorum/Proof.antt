@@ -2,6 +2,7 @@
 use Prim.Native.Nat.{_-_, _≤_}
 use mathlib.Core.Path.{_≡_, sym, _∙_}
 use mathlib.Core.Bool.{_&&_}
+use native.Mathlib.Omega.{arith}
 use lib.ListN.{length, drop}
 use borrow.Author.Needs.{needs}
 use Rattle.quorum.specs.Lists.{certificatesIn, wants, isQuorum}
@@ -20,10 +21,11 @@ abbrev μ-loop : tie.MeasureT-loop
 loop-holds : tie.Need-loop-holds Inv-loop μ-loop
 loop-holds c = (search needs, passes-quorum _ _)
 
-word-requires : tie.Need-word-requires Inv-loop μ-loop
-word-requires c κs =
+certificate-word-requires : tie.Need-certificate-word-requires Inv-loop μ-loop
+certificate-word-requires c κs =
     let turn = c .before in
-    (turn .before .before .before .before .pre .inLog _ (turn .loop-test .taken), search needs)
+    let there = turn .before .before .before .before .pre .inLog _ (turn .loop-test .taken) in
+    omega (arith, there)
 
 is-wanted-requires : tie.Need-is-wanted-requires Inv-loop μ-loop
 is-wanted-requires c κs =
@@ -33,12 +35,12 @@ is-wanted-requires c κs =
 is-seen-requires : tie.Need-is-seen-requires Inv-loop μ-loop
 is-seen-requires c κs =
     let turn = c .before .before .before in
-    rw (c .before .word .ensures) (turn .before .before .before .before .pre .signed _ (turn .loop-test .taken))
+    rw (c .before .certificate-word .ensures) (turn .before .before .before .before .pre .signed _ (turn .loop-test .taken))
 
 with-signer-requires : tie.Need-with-signer-requires Inv-loop μ-loop
 with-signer-requires c κs =
     let turn = c .before .before .before .before in
-    rw (c .before .before .word .ensures) (turn .before .before .before .before .pre .signed _ (turn .loop-test .taken))
+    rw (c .before .before .certificate-word .ensures) (turn .before .before .before .before .pre .signed _ (turn .loop-test .taken))
 
 loop-again : tie.Need-loop-again Inv-loop μ-loop
 loop-again c =
@@ -47,7 +49,7 @@ loop-again c =
     let l = turn .before .loop in
     let a = turn .before .before .before .before .args in (
       search needs,
-      rw (c .before .before .is-wanted .ensures, c .before .is-seen .ensures, c .with-signer .ensures, read .word .ensures)
+      rw (c .before .before .is-wanted .ensures, c .before .is-seen .ensures, c .with-signer .ensures, read .certificate-word .ensures)
           (passes-step (wants (a .wanted)) (a .log .now) (a .list .now) (l .i) (l .seen) (l .ok) (turn .loop-test .taken))
           ∙ l .inv .1,
     )
@@ -61,5 +63,5 @@ returns c =
 pub is-quorum-spec : {M : Type 1} → statement M
 is-quorum-spec =
     tie.close
-    (tie.spec Inv-loop μ-loop loop-holds (λ c. search needs) (λ c. search needs) word-requires is-wanted-requires
+    (tie.spec Inv-loop μ-loop loop-holds (λ c. search needs) (λ c. search needs) certificate-word-requires is-wanted-requires
     is-seen-requires with-signer-requires (λ c. search needs) (λ c. search needs) loop-again returns)

@@ -1,5 +1,6 @@
+use mathlib.Core.Path.{refl}
 use borrow.Author.Needs.{needs}
-use Rattle.recovery.proofs.Issues.{full, issued}
+use Rattle.certificates.proofs.Issuing.{full, issued}
 use Rattle.recovery.proofs.issue.Statement.{statement}
 use Rattle.recovery.proofs.issue.Tie as tie
 
@@ -7,14 +8,14 @@ returns : tie.Need-returns
 returns c =
     let told = c .before .before in
     let files = told .before .before .before .before .before .before in
-    λ b. full _ _ _ _ (files .file .ensures b) (told .enum-told .given .1) (c .before .refusal-of .ensures) (c .refused .ensures)
+    λ b. full _ _ _ _ refl (files .file .ensures b) (told .enum-told .given .1) (c .before .refusal-of .ensures) (c .refused .ensures)
 
 returns-2 : tie.Need-returns-2
 returns-2 c =
     let raised = c .before .before .before in
     let told = raised .before .before .before in
     let files = told .before .before .before .before .before .before in
-    λ b. issued _ _ _ _ (files .file .ensures b) (told .filed .given .1) (c .accepted .ensures) (raised .raise-min-view .ensures)
+    λ b. issued _ _ _ _ refl (files .file .ensures b) (told .filed .given .1) (c .accepted .ensures) (raised .raise-min-view .ensures)
 
 pub issue-spec : {M : Type 1} → statement M
 issue-spec =

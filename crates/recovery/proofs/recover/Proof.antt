@@ -3,9 +3,8 @@ use borrow.Author.Needs.{needs}
 use borrow.Author.Tests.{not-true, not-false}
 use Rattle.protocol.specs.Calls.{recover as recoverRule}
 use Rattle.checks.proofs.Ready.{stopped}
-use Rattle.checks.proofs.Ends.{refuses, list-by, row-within}
-use Rattle.recovery.proofs.Recovering.{all-listed, some-there, greatest-within, of-view-fits}
-use Rattle.recovery.proofs.Recovering.{recover-live, recover-none, recover-short, recover-accepted}
+use Rattle.checks.proofs.Ends.{refuses, list-by, row-within, all-listed, some-there, greatest-there}
+use Rattle.recovery.proofs.Recovering.{of-view-fits, recover-live, recover-none, recover-short, recover-accepted}
 use Rattle.recovery.proofs.recover.Statement.{statement}
 use Rattle.recovery.proofs.recover.Tie as tie
 
@@ -57,7 +56,7 @@ certificate-in-requires c κs =
     let ok = c .before .before .before .before .before .before .before .before .before in
     let first = ok .before in
     let w = list-by _ _ _ (first .list-refusal .ensures) (ok .if1 .left) in
-    greatest-within _ _ _ w _ (c .greatest .ensures)
+    greatest-there _ _ _ w _ (c .greatest .ensures)
 
 add-larger : tie.Need-add-larger
 add-larger c =

@@ -1,17 +1,18 @@
+use native.Mathlib.Omega.{arith}
 use borrow.Author.Needs.{needs}
-use Rattle.protocol.specs.Calls.{issuing, request as requestRule}
+use Rattle.protocol.proofs.Tests.{tests}
 use Rattle.certificates.proofs.Fits.{log-fits}
-use Rattle.checks.proofs.Ready.{stopped}
-use Rattle.checks.proofs.Ends.{refuses, ready-by, row-within}
-use Rattle.recovery.proofs.Requesting.{request-refused, request-issues}
+use Rattle.checks.proofs.Ready.{last}
+use Rattle.checks.proofs.Ends.{ready-by, row-within, stops}
+use Rattle.checks.proofs.Issues.{stops-first, stops-further, goes-through}
+use Rattle.records.proofs.Reading.{replica-read, certificate-read}
+use Rattle.recovery.proofs.Rules.{requesting}
 use Rattle.recovery.proofs.request.Statement.{statement}
 use Rattle.recovery.proofs.request.Tie as tie
 
 returns : tie.Need-returns
-unfolding requestRule issuing
 returns c =
-    refuses _ _ (c .refused .ensures) (c .before .if1 .taken)
-    (stopped _ _ (c .before .before .replica-refusal .ensures) (c .before .if1 .taken))
+    stops-first (requesting _ _) (c .before .before .replica-refusal .ensures) (c .refused .ensures) (c .before .if1 .taken)
 
 replica-in-requires : tie.Need-replica-in-requires
 replica-in-requires c κs =
@@ -21,15 +22,14 @@ returns-2 : tie.Need-returns-2
 returns-2 c =
     let r = c .before .before .before in
     let ok = r .before .before in
-    let first = ok .before in
-    request-refused _ _ (first .replica-refusal .ensures) (ok .if1 .left) _ (r .replica-in .ensures)
-    (c .before .if2 .taken) (c .refused2 .ensures)
+    let other = rw (replica-read (r .replica-in .ensures)) at (c .before .if2 .taken) in
+    stops-further (requesting _ _) (ok .before .replica-refusal .ensures) (ok .if1 .left)
+    (stops _ (omega (tests, other))) (c .refused2 .ensures) (λ z. omega arith)
 
 issue-requires : tie.Need-issue-requires
 issue-requires c κs =
     let ok = c .before .before .before .before .before .before .before in
-    let first = ok .before in
-    let w = ready-by _ _ (first .replica-refusal .ensures) (ok .if1 .left) in
+    let w = ready-by _ _ (ok .before .replica-refusal .ensures) (ok .if1 .left) in
     (log-fits _ (w .formed), row-within _ _ w)
 
 returns-3 : tie.Need-returns-3
@@ -39,10 +39,11 @@ returns-3 c =
     let waits = made .before .before .before in
     let r = waits .before .before in
     let ok = r .before .before in
-    let first = ok .before in
-    let start = first .before .before .before .before .before .before .before in
-    request-issues _ _ (first .replica-refusal .ensures) (ok .if1 .left) _ (r .replica-in .ensures) (waits .if2 .left)
-    (made .req .ensures) (issues .issue .ensures (start .args .blocks .now))
+    let start = ok .before .before .before .before .before .before .before .before in
+    let recovers = rw (replica-read (r .replica-in .ensures)) at (waits .if2 .left) in
+    goes-through (requesting _ _) (ok .before .replica-refusal .ensures) (ok .if1 .left) (last _ (omega (tests, recovers))) (omega arith)
+    (rw (certificate-read (made .req .ensures), replica-read (r .replica-in .ensures))
+    at (issues .issue .ensures (start .args .blocks .now)))
 
 pub request-spec : {M : Type 1} → statement M
 request-spec =

@@ -6,8 +6,8 @@ use lib.ListN.{length, getD}
 use lib.Dec.{ltb, eqb}
 use Rattle.protocol.specs.declared.Justification.{Justification}
 use Rattle.protocol.specs.declared.Justification.the-variants.{Acc, Commits}
-use Rattle.protocol.specs.Memory.{Memory, Certificate, ceiling, faultBound, certificateAt, certificateWords, live, lowered}
-use Rattle.protocol.specs.Memory.{parent}
+use Rattle.protocol.specs.Memory.{Memory, Replica, Certificate, ceiling, faultBound, certificateAt, certificateWords, live, lowered}
+use Rattle.protocol.specs.Memory.{replica, parent}
 use Rattle.protocol.specs.Quorum.{allIssued, certificatesOf}
 use Rattle.protocol.specs.Leader.{leads}
 use Rattle.protocol.specs.Outcome.{Need, _else_, outOfRange, unknownNumber, wrongStatus, wrongCertificate, wrongBlock, wrongView}
@@ -15,11 +15,9 @@ use Rattle.protocol.specs.Outcome.{counterLimit}
 use Rattle.protocol.specs.Calls.{isBlock, numbersOf, isSized, proposalView, justifiedBlock, isJustified}
 use Rattle.quorum.specs.Lists.{certificateIn, Listed}
 use Rattle.checks.specs.Needs.{replicaNeeds}
-use Rattle.checker.specs.Steps.{standingIn}
-use Rattle.checker.specs.declared.words.Standing.{Standing}
-use Rattle.checker.specs.declared.ground.Ground.{Ground}
-use Rattle.checker.specs.declared.ground.Given.{Given}
-use Rattle.checker.specs.declared.ground.Given.the-variants.{By, Nothing}
+use Rattle.checker.specs.declared.justification.Justified.{Justified}
+use Rattle.checker.specs.declared.justification.Judgement.{Judgement}
+use Rattle.checker.specs.declared.justification.Judgement.the-variants.{By, Unjustified}
 
 -- The form, the replica, the length of a list, then the certificates' numbers.
 unfoldable pub justificationNeeds : Memory → ℕ → Justification → List ℕ → List Need
@@ -32,32 +30,32 @@ pub record CommitsIn (log list : List ℕ) : Type 0 where
   pub some : 0 < length list
   pub view : certificateIn log (getD list 0 0) .view ≤ ceiling
 
-abbrev pub Grounded : List ℕ → Justification → List ℕ → Type 0
-Grounded log (Acc number) list = certificateAt number + certificateWords ≤ length log
-Grounded log (Commits view block) list = CommitsIn log list
+abbrev pub JustificationIn : List ℕ → Justification → List ℕ → Type 0
+JustificationIn log (Acc number) list = certificateAt number + certificateWords ≤ length log
+JustificationIn log (Commits view block) list = CommitsIn log list
 
-abbrev pub groundFrom : Justification → List Certificate → Ground
-groundFrom j cs = record { view = proposalView j cs; block = justifiedBlock j cs }
+abbrev pub justifiedBy : Justification → List Certificate → Justified
+justifiedBy j cs = record { view = proposalView j cs; block = justifiedBlock j cs }
 
-unfoldable pub groundOf : ℕ → Justification → List Certificate → Given
-groundOf i j cs = cond (isJustified i j cs) (By (groundFrom j cs)) Nothing
+unfoldable pub judgementOf : ℕ → Justification → List Certificate → Judgement
+judgementOf i j cs = cond (isJustified i j cs) (By (justifiedBy j cs)) Unjustified
 
-abbrev pub proposalTests : ℕ → ℕ → ℕ → ℕ → Standing → Ground → List Need
-proposalTests f i b parent r ground =
-    leads f (ground .view) i else wrongCertificate
+abbrev pub proposalTests : ℕ → ℕ → ℕ → ℕ → Replica → Justified → List Need
+proposalTests f i b parent r justified =
+    leads f (justified .view) i else wrongCertificate
     ∷ not (eqb b 0) else wrongBlock
-    ∷ eqb parent (ground .block) else wrongBlock
-    ∷ eqb (r .«min_view») (ground .view) else wrongView
+    ∷ eqb parent (justified .block) else wrongBlock
+    ∷ eqb (r .minView) (justified .view) else wrongView
     ∷ eqb (r .flag) lowered else wrongView
-    ∷ ltb (ground .view) (r .«view_limit») else counterLimit
+    ∷ ltb (justified .view) (r .viewLimit) else counterLimit
     ∷ []
 
 -- All needs after those of the justification.
 unfoldable pub prepareTests : Memory → ℕ → ℕ → Justification → List ℕ → List Need
 prepareTests m i b j list =
-    let r = standingIn (m .table) i in
+    let r = replica m i in
     let cs = certificatesOf m (numbersOf j list) in
     isBlock m b else unknownNumber
     ∷ eqb (r .status) live else wrongStatus
     ∷ isJustified i j cs else wrongCertificate
-    ∷ proposalTests (faultBound m) i b (parent m b) r (groundFrom j cs)
+    ∷ proposalTests (faultBound m) i b (parent m b) r (justifiedBy j cs)

@@ -4,20 +4,20 @@ ghost use Rattle.protocol.specs.Memory.{memory};
 ghost use Rattle.protocol.specs.Outcome.{firstRefusal};
 ghost use Rattle.protocol.specs.Calls.{numbersOf};
 ghost use Rattle.quorum.specs.Lists.{certificatesIn};
-ghost use Rattle.checker.specs.Grounds.{Grounded, justificationNeeds, groundOf};
-use super::words::ACC;
-use super::words::signed_at;
+ghost use Rattle.checker.specs.Justifications.{JustificationIn, justificationNeeds, judgementOf};
+use layout::ACC;
 use protocol::Justification;
 
-// What a justification gives: the view to propose in, and the block to build on.
-pub struct Ground {
+// What a justification that holds gives: the view to propose in, and the block to build on.
+pub struct Justified {
     pub view: u32,
     pub block: u32,
 }
 
-pub enum Given {
-    By(Ground),
-    Nothing,
+// Whether a justification holds, and what it gives then.
+pub enum Judgement {
+    By(Justified),
+    Unjustified,
 }
 
 // The shared first tests, of the numbers that a justification has.
@@ -40,33 +40,33 @@ pub fn justification_refusal(
 
 // An ACC that the replica has signed, or a commit quorum of the view and the block that the caller names: only then is that view
 // one of the log, which has a next one.
-pub fn ground_of(log: &[u32], replica: u32, justification: Justification, list: &[u32]) -> Given
-    requires { ⌜ Grounded (now log) justification (now list) ⌝ }
-    ensures { λ r. ⌜ r ≡ groundOf replica justification
+pub fn judge(log: &[u32], replica: u32, justification: Justification, list: &[u32]) -> Judgement
+    requires { ⌜ JustificationIn (now log) justification (now list) ⌝ }
+    ensures { λ r. ⌜ r ≡ judgementOf replica justification
         (certificatesIn (now (log .entry)) (numbersOf justification (now (list .entry)))) ⌝ }
 {
     match justification {
         Justification::Acc(number) => {
-            let acc = signed_at(log, number);
+            let acc = records::certificate_in(log, number);
             if acc.kind != ACC {
-                return Given::Nothing;
+                return Judgement::Unjustified;
             }
             if acc.signer != replica {
-                return Given::Nothing;
+                return Judgement::Unjustified;
             }
-            Given::By(Ground {
+            Judgement::By(Justified {
                 view: acc.view,
                 block: acc.block,
             })
         }
         Justification::Commits(view, block) => {
             if quorum::is_commit_quorum(log, list, view, block) {
-                return Given::By(Ground {
+                return Judgement::By(Justified {
                     view: view + 1,
                     block,
                 });
             }
-            Given::Nothing
+            Judgement::Unjustified
         }
     }
 }

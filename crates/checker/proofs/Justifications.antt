@@ -8,7 +8,7 @@ use lib.ListN.{getD}
 use lib.Dec.{eqb}
 use Rattle.protocol.specs.declared.Justification.{Justification}
 use Rattle.protocol.specs.declared.Justification.the-variants.{Acc, Commits}
-use Rattle.protocol.specs.Memory.{Memory, Certificate, ceiling, faultBound, live, memory, parent}
+use Rattle.protocol.specs.Memory.{Memory, Certificate, ceiling, faultBound, live, memory, replica, parent}
 use Rattle.protocol.specs.Form.{allHold}
 use Rattle.protocol.specs.Certificates.{ACC}
 use Rattle.protocol.specs.Quorum.{every, isIssued, allIssued, certificatesOf, isCommitQuorum}
@@ -18,16 +18,16 @@ use Rattle.protocol.proofs.Tests.{tests, by-test, and-true, all-hold}
 use Rattle.protocol.proofs.Needs.{all-needs, fails, holds}
 use Rattle.protocol.proofs.Formed.{Formed, formed, sizes}
 use Rattle.layout.proofs.Within.{certificate-bounds}
-use Rattle.quorum.specs.Lists.{certificatesIn}
+use Rattle.certificates.specs.declared.Certificate as code
+use Rattle.records.proofs.Reading.{certificateFrom}
+use Rattle.quorum.specs.Lists.{certificateIn, certificatesIn}
 use Rattle.quorum.proofs.Accepted.{listed, some-listed, every-at, commits}
 use Rattle.checks.specs.Needs.{numberNeeds, listNeeds}
 use Rattle.checks.proofs.Ready.{Ready}
-use Rattle.checker.specs.declared.words.Signed.{Signed}
-use Rattle.checker.specs.declared.ground.Ground.{Ground}
-use Rattle.checker.specs.declared.ground.Given.the-variants.{By, Nothing}
-use Rattle.checker.specs.Steps.{standingIn, signedIn}
-use Rattle.checker.specs.Grounds.{justificationNeeds, CommitsIn, Grounded, groundFrom, groundOf, proposalTests}
-use Rattle.checker.specs.Grounds.{prepareTests}
+use Rattle.checker.specs.declared.justification.Justified.{Justified}
+use Rattle.checker.specs.declared.justification.Judgement.the-variants.{By, Unjustified}
+use Rattle.checker.specs.Justifications.{justificationNeeds, CommitsIn, JustificationIn, justifiedBy, judgementOf, proposalTests}
+use Rattle.checker.specs.Justifications.{prepareTests}
 
 -- ---- the first needs
 
@@ -58,48 +58,48 @@ module _ (m : Memory) (i : ℕ) (list : List ℕ) {j : Justification} {n : ℕ} 
 
 pub record ReadyJustification (m : Memory) (i : ℕ) (j : Justification) (list : List ℕ) : Type 0 where
   pub ready : Ready m i
-  pub grounded : Grounded (m .log) j list
+  pub within : JustificationIn (m .log) j list
 
-grounded-by : (m : Memory) (j : Justification) (list : List ℕ) → Formed m → isSized m j list ≡ true
-    → allIssued m (numbersOf j list) ≡ true → Grounded (m .log) j list
+justification-within : (m : Memory) (j : Justification) (list : List ℕ) → Formed m → isSized m j list ≡ true
+    → allIssued m (numbersOf j list) ≡ true → JustificationIn (m .log) j list
 unfolding every
-grounded-by m (Acc number) list f s e = let issued = and-true (isIssued m number) true e .0 in let z = sizes m f in omega tests
-grounded-by m (Commits view block) list f s e =
+justification-within m (Acc number) list f s e = let issued = and-true (isIssued m number) true e .0 in let z = sizes m f in omega tests
+justification-within m (Commits view block) list f s e =
     let some = some-listed m list s in
     let issued = every-at (isIssued m) list 0 e 0 some in
     record { listed = listed m list f e; some = some; view = certificate-bounds m f (getD list 0 0) (omega tests) .view }
 
-pub ready-justification : (m : Memory) (i : ℕ) (j : Justification) (list : List ℕ)
-    → firstRefusal (justificationNeeds m i j list) ≡ 0 → ReadyJustification m i j list
+pub ready-justification : {n : ℕ} (m : Memory) (i : ℕ) (j : Justification) (list : List ℕ)
+    → n ≡ firstRefusal (justificationNeeds m i j list) → n ≡ 0 → ReadyJustification m i j list
 unfolding justificationNeeds
-ready-justification m i j list e =
-    let h = all-needs (justificationNeeds m i j list) refl e in
+ready-justification m i j list e z =
+    let h = all-needs (justificationNeeds m i j list) refl (sym e ∙ z) in
     let f = formed m (h .0) in
     record {
       ready = record { formed = f; sizes = sizes m f; own = h .1 .0 };
-      grounded = grounded-by m j list f (h .1 .1 .0) (h .1 .1 .1 .0);
+      within = justification-within m j list f (h .1 .1 .0) (h .1 .1 .1 .0);
     }
 
 -- ---- what a justification gives
 
-unjustified : (i : ℕ) (j : Justification) (cs : List Certificate) → isJustified i j cs ≡ false → Nothing ≡ groundOf i j cs
-unfolding groundOf
+unjustified : (i : ℕ) (j : Justification) (cs : List Certificate) → isJustified i j cs ≡ false → Unjustified ≡ judgementOf i j cs
+unfolding judgementOf
 unjustified i j cs e = rw e refl
 
 justified : (i : ℕ) (j : Justification) (cs : List Certificate) → isJustified i j cs ≡ true
-    → By (groundFrom j cs) ≡ groundOf i j cs
-unfolding groundOf
+    → By (justifiedBy j cs) ≡ judgementOf i j cs
+unfolding judgementOf
 justified i j cs e = rw e refl
 
 -- And back.
-pub nothing-given : (i : ℕ) (j : Justification) (cs : List Certificate) → Nothing ≡ groundOf i j cs → isJustified i j cs ≡ false
-unfolding groundOf
-nothing-given i j cs e = by-test (isJustified i j cs) (λ t. let x = rw t at e in cc) (λ f. f)
+pub was-unjustified : (i : ℕ) (j : Justification) (cs : List Certificate) → Unjustified ≡ judgementOf i j cs → isJustified i j cs ≡ false
+unfolding judgementOf
+was-unjustified i j cs e = by-test (isJustified i j cs) (λ t. let x = rw t at e in cc) (λ f. f)
 
-pub given-by : (i : ℕ) (j : Justification) (cs : List Certificate) {g : Ground} → By g ≡ groundOf i j cs
-    → (isJustified i j cs ≡ true) × (g ≡ groundFrom j cs)
-unfolding groundOf
-given-by i j cs e = by-test (isJustified i j cs) (λ t. (t, let x = rw t at e in cc)) (λ f. let x = rw f at e in (cc, cc))
+pub was-justified : (i : ℕ) (j : Justification) (cs : List Certificate) {g : Justified} → By g ≡ judgementOf i j cs
+    → (isJustified i j cs ≡ true) × (g ≡ justifiedBy j cs)
+unfolding judgementOf
+was-justified i j cs e = by-test (isJustified i j cs) (λ t. (t, let x = rw t at e in cc)) (λ f. let x = rw f at e in (cc, cc))
 
 first-fails : (t : Bool) {s : Bool} → s ≡ false → allHold (s ∷ t ∷ []) ≡ false
 unfolding allHold
@@ -111,19 +111,19 @@ second-fails true e = rw e refl
 second-fails false e = refl
 
 module _ (log list : List ℕ) (i : ℕ) {j : Justification} where
-  module _ {number : ℕ} (is : j ≡ Acc number) {p : Signed} (read : p ≡ signedIn log number) where
-    pub acc-other-kind : (p .kind ≡ ACC → ⊥) → Nothing ≡ groundOf i j (certificatesIn log (numbersOf j list))
+  module _ {number : ℕ} (is : j ≡ Acc number) {p : code.Certificate} (read : p ≡ certificateFrom (certificateIn log number)) where
+    pub acc-other-kind : (p .kind ≡ ACC → ⊥) → Unjustified ≡ judgementOf i j (certificatesIn log (numbersOf j list))
     acc-other-kind h =
         let other = rw read at h in
         rw is (unjustified i (Acc number) (certificatesIn log (number ∷ [])) (first-fails _ (omega tests)))
 
-    pub acc-other-signer : (p .signer ≡ i → ⊥) → Nothing ≡ groundOf i j (certificatesIn log (numbersOf j list))
+    pub acc-other-signer : (p .signer ≡ i → ⊥) → Unjustified ≡ judgementOf i j (certificatesIn log (numbersOf j list))
     acc-other-signer h =
         let other = rw read at h in
         rw is (unjustified i (Acc number) (certificatesIn log (number ∷ [])) (second-fails _ (omega tests)))
 
     pub acc-gives : p .kind ≡ ACC → p .signer ≡ i
-        → By (record { view = p .view; block = p .block }) ≡ groundOf i j (certificatesIn log (numbersOf j list))
+        → By (record { view = p .view; block = p .block }) ≡ judgementOf i j (certificatesIn log (numbersOf j list))
     acc-gives k s =
         let kind = rw read at k in
         let signer = rw read at s in
@@ -131,11 +131,11 @@ module _ (log list : List ℕ) (i : ℕ) {j : Justification} where
 
   module _ {view block : ℕ} (is : j ≡ Commits view block) where
     pub no-quorum : isCommitQuorum view block (certificatesIn log list) ≡ false
-        → Nothing ≡ groundOf i j (certificatesIn log (numbersOf j list))
+        → Unjustified ≡ judgementOf i j (certificatesIn log (numbersOf j list))
     no-quorum e = rw is (unjustified i (Commits view block) (certificatesIn log list) e)
 
     pub quorum-gives : isCommitQuorum view block (certificatesIn log list) ≡ true
-        → By (record { view = view + 1; block = block }) ≡ groundOf i j (certificatesIn log (numbersOf j list))
+        → By (record { view = view + 1; block = block }) ≡ judgementOf i j (certificatesIn log (numbersOf j list))
     quorum-gives e = rw is (justified i (Commits view block) (certificatesIn log list) e)
 
 -- The view of a commit quorum has a next one.
@@ -160,20 +160,20 @@ unfolding prepareTests
 not-known m i b j list e = sym (fails _ e)
 
 module _ (m : Memory) (i b : ℕ) (j : Justification) (list : List ℕ) (known : isBlock m b ≡ true) where
-  pub not-live : (standingIn (m .table) i .status ≡ live → ⊥) → wrongStatus ≡ firstRefusal (prepareTests m i b j list)
+  pub not-live : (replica m i .status ≡ live → ⊥) → wrongStatus ≡ firstRefusal (prepareTests m i b j list)
   unfolding prepareTests
   not-live h = sym (holds _ _ known ∙ fails _ (omega tests))
 
-  module _ (is-live : standingIn (m .table) i .status ≡ live) where
-    pub no-ground : Nothing ≡ groundOf i j (certificatesOf m (numbersOf j list))
+  module _ (is-live : replica m i .status ≡ live) where
+    pub not-justified : Unjustified ≡ judgementOf i j (certificatesOf m (numbersOf j list))
         → wrongCertificate ≡ firstRefusal (prepareTests m i b j list)
     unfolding prepareTests
-    no-ground e = sym (holds _ _ known ∙ holds _ _ (omega tests) ∙ fails _ (nothing-given i j _ e))
+    not-justified e = sym (holds _ _ known ∙ holds _ _ (omega tests) ∙ fails _ (was-unjustified i j _ e))
 
-    pub on-ground : {g : Ground} {n : ℕ} → By g ≡ groundOf i j (certificatesOf m (numbersOf j list))
-        → n ≡ firstRefusal (proposalTests (faultBound m) i b (parent m b) (standingIn (m .table) i) g)
+    pub on-justified : {g : Justified} {n : ℕ} → By g ≡ judgementOf i j (certificatesOf m (numbersOf j list))
+        → n ≡ firstRefusal (proposalTests (faultBound m) i b (parent m b) (replica m i) g)
         → n ≡ firstRefusal (prepareTests m i b j list)
     unfolding prepareTests
-    on-ground e q =
-        let given = given-by i j _ e in
-        (rw (given .1) at q) ∙ sym (holds _ _ known ∙ holds _ _ (omega tests) ∙ holds _ _ (given .0))
+    on-justified e q =
+        let judged = was-justified i j _ e in
+        (rw (judged .1) at q) ∙ sym (holds _ _ known ∙ holds _ _ (omega tests) ∙ holds _ _ (judged .0))

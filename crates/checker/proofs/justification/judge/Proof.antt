@@ -1,12 +1,13 @@
 use mathlib.Core.Path.{sym, _∙_}
 use native.Mathlib.Omega.{arith}
 use borrow.Author.Needs.{needs}
-use Rattle.checker.proofs.Grounds.{acc-other-kind, acc-other-signer, acc-gives, no-quorum, quorum-gives, has-next}
-use Rattle.checker.proofs.ground.ground_of.Statement.{statement}
-use Rattle.checker.proofs.ground.ground_of.Tie as tie
+use Rattle.records.proofs.Reading.{certificate-read}
+use Rattle.checker.proofs.Justifications.{acc-other-kind, acc-other-signer, acc-gives, no-quorum, quorum-gives, has-next}
+use Rattle.checker.proofs.justification.judge.Statement.{statement}
+use Rattle.checker.proofs.justification.judge.Tie as tie
 
-signed-at-requires : tie.Need-signed-at-requires
-signed-at-requires c κs =
+certificate-in-requires : tie.Need-certificate-in-requires
+certificate-in-requires c κs =
     let after-pre = c .before .before .before .before .before in
     rw (c .before .justification .given .1) at (after-pre .pre)
 
@@ -15,14 +16,14 @@ returns c =
     let after-justification = c .before .before .before .before in
     let after-args = after-justification .before .before .before .before in
     acc-other-kind (after-args .args .log .now) _ _ (after-justification .justification .given .1)
-    (c .before .before .signed-at .ensures) (c .if1 .taken)
+    (certificate-read (c .before .before .certificate-in .ensures)) (c .if1 .taken)
 
 returns-2 : tie.Need-returns-2
 returns-2 c =
-    let after-signed-at = c .before .before .before .before in
-    let after-args = after-signed-at .before .before .before .before .before .before in
-    acc-other-signer (after-args .args .log .now) _ _ (after-signed-at .before .before .justification .given .1)
-    (after-signed-at .signed-at .ensures) (c .if2 .taken)
+    let after-certificate-in = c .before .before .before .before in
+    let after-args = after-certificate-in .before .before .before .before .before .before in
+    acc-other-signer (after-args .args .log .now) _ _ (after-certificate-in .before .before .justification .given .1)
+    (certificate-read (after-certificate-in .certificate-in .ensures)) (c .if2 .taken)
 
 is-commit-quorum-requires : tie.Need-is-commit-quorum-requires
 is-commit-quorum-requires c κs =
@@ -44,10 +45,10 @@ returns-3 c =
 
 returns-4 : tie.Need-returns-4
 returns-4 c =
-    let after-signed-at = c .before .before .before .before in
-    let after-args = after-signed-at .before .before .before .before .before .before in
-    acc-gives (after-args .args .log .now) _ _ (after-signed-at .before .before .justification .given .1)
-    (after-signed-at .signed-at .ensures) (c .before .before .if1 .left) (c .if2 .left)
+    let after-certificate-in = c .before .before .before .before in
+    let after-args = after-certificate-in .before .before .before .before .before .before in
+    acc-gives (after-args .args .log .now) _ _ (after-certificate-in .before .before .justification .given .1)
+    (certificate-read (after-certificate-in .certificate-in .ensures)) (c .before .before .if1 .left) (c .if2 .left)
 
 returns-5 : tie.Need-returns-5
 returns-5 c =
@@ -55,8 +56,8 @@ returns-5 c =
     no-quorum (after-args .args .log .now) _ _ (c .before .before .before .justification2 .given .1)
     (sym (c .before .is-commit-quorum .ensures) ∙ c .if3 .left)
 
-pub ground-of-spec : {M : Type 1} → statement M
-ground-of-spec =
+pub judge-spec : {M : Type 1} → statement M
+judge-spec =
     tie.close
-    (tie.spec (λ c. search needs) signed-at-requires returns returns-2 (λ c. search needs) is-commit-quorum-requires
+    (tie.spec (λ c. search needs) certificate-in-requires returns returns-2 (λ c. search needs) is-commit-quorum-requires
     add-t13 returns-3 returns-4 returns-5)

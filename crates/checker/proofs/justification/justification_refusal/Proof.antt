@@ -1,7 +1,7 @@
 use borrow.Author.Needs.{needs}
-use Rattle.checker.proofs.Grounds.{on-acc, on-commits}
-use Rattle.checker.proofs.ground.justification_refusal.Statement.{statement}
-use Rattle.checker.proofs.ground.justification_refusal.Tie as tie
+use Rattle.checker.proofs.Justifications.{on-acc, on-commits}
+use Rattle.checker.proofs.justification.justification_refusal.Statement.{statement}
+use Rattle.checker.proofs.justification.justification_refusal.Tie as tie
 
 returns : tie.Need-returns
 returns c = on-acc _ _ _ (c .before .before .justification .given .1) (c .number-refusal .ensures)

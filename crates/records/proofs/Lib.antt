@@ -1,0 +1,2 @@
+-- Laws for callers.
+pub mod Reading

@@ -2,9 +2,7 @@
 ghost use mathlib.Core.Path.{_≡_};
 ghost use Rattle.reader.specs.Reading.{fieldAt, refusalOf};
 use field::MAX_NUMBER;
-
-// The number of a script line that cannot be read.
-const UNREADABLE: u32 = 10;
+use protocol::UNREADABLE;
 
 pub struct Reader<'a> {
     pub line: &'a [u8],

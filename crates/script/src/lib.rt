@@ -22,6 +22,7 @@ ghost use Rattle.script.specs.Text.{answerText, answerBytes, Printable};
 use checks::refused;
 use field::COLUMNS;
 use protocol::Answer;
+use protocol::UNREADABLE;
 use reader::Read;
 
 // A line's fields.
@@ -39,9 +40,6 @@ const LIST_FIELD: usize = 3;
 
 // The code of an opening.
 const OPEN_CODE: u32 = 0;
-
-// What a line returns that cannot be read.
-const UNREADABLE: u32 = 10;
 
 pub const LINE_FEED: u8 = 10;
 

@@ -44,7 +44,7 @@ pub fn block<R: Rules>(rules: R, m: &mut Memory, parent: u32) -> Answer {
     Ok((number, 0))
 }
 
-/// The view and block that a justification grounds, or 5.
+/// The view to propose in and the block to build on, by a justification, or 5.
 fn justified<R: Rules>(rules: R, m: &Memory, replica: u32, j: Justification) -> Result<(u32, u32), u32> {
     match j {
         Justification::Acc(number) => {
@@ -71,11 +71,11 @@ pub fn prepare<R: Rules>(rules: R, m: &mut Memory, replica: u32, block: u32, j: 
     let mut r = m.replica(replica);
     let let_in = rules.has(Mistake::PrepareRecovering) && r.status == RECOVERING;
     need(r.status == LIVE || let_in, 4)?;
-    let (w, ground) = justified(rules, m, replica, j)?;
+    let (w, base) = justified(rules, m, replica, j)?;
     let any_leader = rules.has(Mistake::PrepareAnyLeader) || rules.has(Mistake::LeaderNowhere);
     need(m.leads(replica, w) || any_leader, 5)?;
     need(block != 0 || rules.has(Mistake::PrepareBlockZero), 6)?;
-    need(m.parent(block) == ground || rules.has(Mistake::PrepareAnyParent), 6)?;
+    need(m.parent(block) == base || rules.has(Mistake::PrepareAnyParent), 6)?;
     need(r.min_view == w || rules.has(Mistake::PrepareAboveMinView) && r.min_view < w, 7)?;
     need(r.flag == 0 || rules.has(Mistake::PrepareIgnoresFlag), 7)?;
     need(below_limit(w, r, rules.has(Mistake::PrepareLimitInclusive)), 8)?;
@@ -117,7 +117,7 @@ pub fn store<R: Rules>(rules: R, m: &mut Memory, replica: u32, number: u32) -> A
 
 pub fn view<R: Rules>(rules: R, m: &mut Memory, replica: u32, w: u32) -> Answer {
     need(well_formed(rules, m), 1)?;
-    let in_range = 1 <= w && (w <= LIMIT || rules.has(Mistake::ViewPastLimit));
+    let in_range = 1 <= w && (w <= CEILING || rules.has(Mistake::ViewPastCeiling));
     need(m.is_replica(replica) && in_range, 2)?;
     let mut r = m.replica(replica);
     let let_in = rules.has(Mistake::ViewRecovering) && r.status == RECOVERING;

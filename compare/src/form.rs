@@ -61,12 +61,12 @@ fn replicas_fit<R: Rules>(rules: R, m: &Memory) -> bool {
 fn replica_fits<R: Rules>(rules: R, added: u32, r: Replica) -> bool {
     (rules.has(Mistake::FormStatus) || r.status <= RETIRED)
         && (rules.has(Mistake::FormFlag) || r.flag <= 1)
-        && (rules.has(Mistake::FormBoot) || r.boot <= LIMIT)
+        && (rules.has(Mistake::FormBoot) || r.boot <= CEILING)
         && 1 <= r.min_view
         && (rules.has(Mistake::FormMinView) || r.min_view <= r.view_limit)
-        && (rules.has(Mistake::FormViewLimit) || r.view_limit <= LIMIT)
+        && (rules.has(Mistake::FormViewLimit) || r.view_limit <= CEILING)
         && (rules.has(Mistake::FormStoredView) || r.stored_view < r.min_view)
-        && (rules.has(Mistake::FormDecidedView) || r.decided_view <= LIMIT)
+        && (rules.has(Mistake::FormDecidedView) || r.decided_view <= CEILING)
         && (rules.has(Mistake::FormStoredBlock) || r.stored_block < added)
         && (rules.has(Mistake::FormDecidedBlock) || r.decided_block < added)
 }
@@ -81,9 +81,9 @@ fn certificates_fit<R: Rules>(rules: R, m: &Memory) -> bool {
 fn certificate_fits<R: Rules>(rules: R, m: &Memory, w: &[u32]) -> bool {
     (rules.has(Mistake::FormKind) || (1..=6).contains(&w[0]) || rules.has(Mistake::FormKindZero) && w[0] == 0)
         && (rules.has(Mistake::FormSigner) || w[1] < m.replicas())
-        && (rules.has(Mistake::FormView) || w[2] <= LIMIT)
+        && (rules.has(Mistake::FormView) || w[2] <= CEILING)
         && (rules.has(Mistake::FormBlock) || w[3] < m.added())
-        && (rules.has(Mistake::FormOfView) || w[4] <= LIMIT)
+        && (rules.has(Mistake::FormOfView) || w[4] <= CEILING)
         && (rules.has(Mistake::FormSubject) || w[5] < m.replicas())
-        && (rules.has(Mistake::FormCertificateBoot) || w[6] <= LIMIT)
+        && (rules.has(Mistake::FormCertificateBoot) || w[6] <= CEILING)
 }

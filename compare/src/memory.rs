@@ -1,7 +1,7 @@
 //! The three lent slices and a replica's nine words (document 01, "Memory").
 
 /// Views, boots and the counter never pass this.
-pub const LIMIT: u32 = 1_000_000;
+pub const CEILING: u32 = 1_000_000;
 pub const MAX_F: u32 = 30;
 /// Most slots of the certificate log, and of the blocks.
 pub const MAX_SLOTS: usize = 4096;

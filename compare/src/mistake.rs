@@ -94,7 +94,7 @@ mistakes! {
     ViewClearsFlag "view-clears-flag" "view clears the flag at an equal view" "";
     ViewBelowMinView "view-below-min-view" "view may go below min_view" "";
     ViewRecovering "view-recovering" "a recovering replica may ask for a view" "";
-    ViewPastLimit "view-past-limit" "view 1,000,001 and above give 8, not 2" "refused in any case";
+    ViewPastCeiling "view-past-ceiling" "view 1,000,001 and above give 8, not 2" "refused in any case";
     // Lists.
     AccumulateTakesLast "accumulate-takes-last" "accumulate takes the last message instead of the greatest of-view" "";
     AccumulateTieLast "accumulate-tie-last" "accumulate takes the last of equal of-views" "equal of-views name one block";

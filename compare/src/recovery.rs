@@ -18,7 +18,7 @@ pub fn reboot<R: Rules>(rules: R, m: &mut Memory, replica: u32) -> Answer {
     let stepped = if rules.has(Mistake::RebootOldStep) { r.boot } else { boot };
     let view_limit = r.view_limit.saturating_add(counter_step(rules, stepped));
     let strict = u32::from(rules.has(Mistake::RebootRetiresAtLimit));
-    if r.status == RETIRED || boot > LIMIT || view_limit > LIMIT - strict {
+    if r.status == RETIRED || boot > CEILING || view_limit > CEILING - strict {
         r.status = RETIRED;
     } else {
         r = restarted(rules, r, boot, view_limit);
@@ -56,7 +56,7 @@ pub fn reserve<R: Rules>(rules: R, m: &mut Memory, replica: u32) -> Answer {
     let mut r = m.replica(replica);
     need(r.status != RETIRED || rules.has(Mistake::ReserveRetired), 4)?;
     let view_limit = r.view_limit.saturating_add(counter_step(rules, r.boot));
-    need(view_limit <= LIMIT - u32::from(rules.has(Mistake::ReserveStrict)), 8)?;
+    need(view_limit <= CEILING - u32::from(rules.has(Mistake::ReserveStrict)), 8)?;
     r.view_limit = view_limit;
     m.set_replica(replica, r);
     Ok((view_limit, 0))

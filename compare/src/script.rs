@@ -9,10 +9,10 @@ pub const CERTIFICATE_SLOTS: usize = 2048;
 pub const BLOCK_SLOTS: usize = 1024;
 pub const MAX_FIELDS: usize = 34;
 /// The bytes that yard asks for at once.
-pub const INPUT_BLOCK: usize = 8192;
+pub const INPUT_CHUNK: usize = 8192;
 const MAX_BYTES: usize = MAX_FIELDS * COLUMNS;
 
-/// The ledger, the line so far and the number of lines answered. Bytes may come in blocks of any size.
+/// The ledger, the line so far and the number of lines answered. Bytes may come in chunks of any size.
 pub struct Program<R: Rules> {
     rules: R,
     table: Vec<u32>,
@@ -133,11 +133,11 @@ pub fn write_line(line: u32, outcome: Outcome, out: &mut Vec<u8>) {
     out.push(b'\n');
 }
 
-/// A whole script's output, read by blocks.
+/// A whole script's output, read by chunks.
 pub fn run<R: Rules>(rules: R, input: &[u8]) -> Vec<u8> {
     let mut program = Program::new(rules);
     let mut out = Vec::new();
-    input.chunks(INPUT_BLOCK).for_each(|block| program.feed(block, &mut out));
+    input.chunks(INPUT_CHUNK).for_each(|chunk| program.feed(chunk, &mut out));
     program.finish(&mut out);
     out
 }

@@ -1,4 +1,4 @@
-//! `second`: yard's input and output over the library. Output is written after each block read.
+//! `second`: yard's input and output over the library. Output is written after each chunk read.
 
 use judge::mistake::Correct;
 use judge::script::Program;

@@ -8,7 +8,7 @@ use judge::memory::Memory;
 use judge::mistake::Correct;
 use std::io::{Read, Write};
 
-const INPUT_BLOCK: usize = 8192;
+const INPUT_CHUNK: usize = 8192;
 const COLUMNS: usize = 8;
 const MIN_FIELDS: usize = 3;
 const MAX_FIELDS: usize = 34;
@@ -20,7 +20,7 @@ const FEED_STEP: usize = 16;
 const HELD_PLACES: usize = COLUMNS * MAX_FIELDS + 1;
 const ANSWER_BYTES: usize = 4 * COLUMNS + 1;
 
-/// The line that goes on in the next block, and the number of lines answered.
+/// The line that goes on in the next chunk, and the number of lines answered.
 struct Progress {
     line: [u8; HELD_PLACES],
     held: usize,
@@ -29,13 +29,13 @@ struct Progress {
 
 fn main() -> std::io::Result<()> {
     let (mut input, mut output) = (std::io::stdin().lock(), std::io::stdout().lock());
-    let mut block = [0; INPUT_BLOCK];
-    let mut out = [0; (INPUT_BLOCK + 1) * ANSWER_BYTES];
+    let mut chunk = [0; INPUT_CHUNK];
+    let mut out = [0; (INPUT_CHUNK + 1) * ANSWER_BYTES];
     let mut progress = Progress { line: [0; HELD_PLACES], held: 0, lines: 0 };
     while progress.lines < MAX_NUMBER {
-        let count = input.read(&mut block)?;
+        let count = input.read(&mut chunk)?;
         let written =
-            if count == 0 { finish(&mut progress, &mut out) } else { feed(&mut progress, &block[..count], &mut out) };
+            if count == 0 { finish(&mut progress, &mut out) } else { feed(&mut progress, &chunk[..count], &mut out) };
         output.write_all(&out[..written])?;
         if count == 0 {
             break;
@@ -44,22 +44,22 @@ fn main() -> std::io::Result<()> {
     output.flush()
 }
 
-/// Answers the lines that end in the block; gives how many bytes were written.
-fn feed(progress: &mut Progress, block: &[u8], out: &mut [u8]) -> usize {
+/// Answers the lines that end in the chunk; gives how many bytes were written.
+fn feed(progress: &mut Progress, chunk: &[u8], out: &mut [u8]) -> usize {
     let (mut at, mut written) = (0, 0);
-    while at < block.len() {
+    while at < chunk.len() {
         if progress.lines == MAX_NUMBER {
             return written;
         }
-        let end = line_end(block, at);
-        if end == block.len() {
-            hold(progress, &block[at..end]);
+        let end = line_end(chunk, at);
+        if end == chunk.len() {
+            hold(progress, &chunk[at..end]);
             return written;
         }
         let answer = if progress.held == 0 {
-            answer_line(&block[at..end])
+            answer_line(&chunk[at..end])
         } else {
-            hold(progress, &block[at..end]);
+            hold(progress, &chunk[at..end]);
             answer_line(&progress.line[..progress.held])
         };
         progress.held = 0;
@@ -86,16 +86,16 @@ fn hold(progress: &mut Progress, bytes: &[u8]) {
     progress.held += count;
 }
 
-/// The place of the first line feed from a place on, or the block's length.
-fn line_end(block: &[u8], from: usize) -> usize {
+/// The place of the first line feed from a place on, or the chunk's length.
+fn line_end(chunk: &[u8], from: usize) -> usize {
     let mut at = from;
-    while at + FEED_STEP <= block.len() {
-        if block[at..at + FEED_STEP].iter().fold(false, |any, &byte| any | (byte == b'\n')) {
+    while at + FEED_STEP <= chunk.len() {
+        if chunk[at..at + FEED_STEP].iter().fold(false, |any, &byte| any | (byte == b'\n')) {
             break;
         }
         at += FEED_STEP;
     }
-    while at < block.len() && block[at] != b'\n' {
+    while at < chunk.len() && chunk[at] != b'\n' {
         at += 1;
     }
     at

@@ -2,9 +2,9 @@
 
 use crate::call::*;
 use crate::field::{read_number, COLUMNS, NO_NUMBER};
-use crate::memory::LIMIT;
+use crate::memory::CEILING;
 use crate::mistake::Correct;
-use crate::script::{run, INPUT_BLOCK, MAX_FIELDS};
+use crate::script::{run, INPUT_CHUNK, MAX_FIELDS};
 
 const LONGEST: usize = MAX_FIELDS * COLUMNS;
 
@@ -33,9 +33,9 @@ impl Seen<'_> {
         self.start + self.text.len()
     }
 
-    /// Some of its bytes are in one block, others in the next.
+    /// Some of its bytes are in one chunk, others in the next.
     fn goes_on(&self) -> bool {
-        !self.text.is_empty() && self.start / INPUT_BLOCK < (self.end() - 1) / INPUT_BLOCK
+        !self.text.is_empty() && self.start / INPUT_CHUNK < (self.end() - 1) / INPUT_CHUNK
     }
 
     fn wrong_list(&self) -> bool {
@@ -53,7 +53,7 @@ pub const MARKS: &[Mark] = &[
     ("wrong lists", |seen| seen.wrong_list()),
     ("old certificates: a proposal below the lowest view", |seen| seen.is(STORE, 7)),
     ("boots past 7", |seen| seen.is(REBOOT, 0) && seen.outcome.first > 7),
-    ("a limit of 1,000,000", |seen| seen.is(RESERVE, 0) && seen.outcome.first == LIMIT),
+    ("a limit of 1,000,000", |seen| seen.is(RESERVE, 0) && seen.outcome.first == CEILING),
     ("reserves past 1,000,000", |seen| seen.is(RESERVE, 8)),
     ("retired replicas that reserve", |seen| seen.is(RESERVE, 4)),
     ("full log: view", |seen| seen.is(VIEW, 9)),
@@ -69,18 +69,18 @@ pub const MARKS: &[Mark] = &[
     ("readable lines of 34 fields", |seen| seen.text.len() == LONGEST && seen.outcome.answer != 10),
     ("lines of 273 bytes", |seen| seen.text.len() == LONGEST + 1),
     ("lines longer than 273 bytes", |seen| seen.text.len() > LONGEST + 1),
-    ("lines over a block's end", |seen| seen.goes_on()),
-    ("accepted lines over a block's end", |seen| seen.goes_on() && seen.outcome.answer == 0),
-    ("accepted lines of 34 fields over a block's end", |seen| {
+    ("lines over a chunk's end", |seen| seen.goes_on()),
+    ("accepted lines over a chunk's end", |seen| seen.goes_on() && seen.outcome.answer == 0),
+    ("accepted lines of 34 fields over a chunk's end", |seen| {
         seen.goes_on() && seen.text.len() == LONGEST && seen.outcome.answer == 0
     }),
-    ("lines too long over a block's end", |seen| seen.goes_on() && seen.is_long()),
-    ("lines too long, with fewer bytes after a block's end", |seen| {
-        seen.goes_on() && seen.is_long() && seen.end() % INPUT_BLOCK <= LONGEST
+    ("lines too long over a chunk's end", |seen| seen.goes_on() && seen.is_long()),
+    ("lines too long, with fewer bytes after a chunk's end", |seen| {
+        seen.goes_on() && seen.is_long() && seen.end() % INPUT_CHUNK <= LONGEST
     }),
-    ("lines that fill a block or more", |seen| seen.text.len() >= INPUT_BLOCK),
-    ("line feeds that end a block", |seen| seen.fed && seen.end() % INPUT_BLOCK == INPUT_BLOCK - 1),
-    ("line feeds that begin a block", |seen| seen.fed && !seen.text.is_empty() && seen.end() % INPUT_BLOCK == 0),
+    ("lines that fill a chunk or more", |seen| seen.text.len() >= INPUT_CHUNK),
+    ("line feeds that end a chunk", |seen| seen.fed && seen.end() % INPUT_CHUNK == INPUT_CHUNK - 1),
+    ("line feeds that begin a chunk", |seen| seen.fed && !seen.text.is_empty() && seen.end() % INPUT_CHUNK == 0),
 ];
 
 /// Shows every line of a script.

@@ -10,7 +10,7 @@ use std::process::{Child, Command, Output, Stdio};
 /// How a script reaches a program. The answers must not depend on it.
 #[derive(Clone, Copy, PartialEq, Eq, Debug)]
 pub enum Arrival {
-    /// From a file: each read gets all that it asks for, so blocks end where they do in every run.
+    /// From a file: each read gets all that it asks for, so chunks end where they do in every run.
     File,
     /// Through a pipe in one write: reads get what is there.
     Pipe,

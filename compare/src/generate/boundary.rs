@@ -3,7 +3,7 @@
 use crate::call::*;
 use crate::driver::{Driver, Line};
 use crate::explore::Explorer;
-use crate::memory::{LIMIT, LIVE};
+use crate::memory::{CEILING, LIVE};
 use crate::mistake::Correct;
 use crate::random::Random;
 use crate::script::{BLOCK_SLOTS, CERTIFICATE_SLOTS};
@@ -79,7 +79,7 @@ pub fn counter_by_cuts(mut random: Random, f: u32) -> Vec<Line> {
     for _ in 0..reserves {
         hosts.driver.call(RESERVE, replica, 0, &[]);
     }
-    while hosts.driver.replica(replica).view_limit + 1024 < LIMIT {
+    while hosts.driver.replica(replica).view_limit + 1024 < CEILING {
         hosts.driver.call(REBOOT, replica, 0, &[]);
     }
     let last = hosts.random.pick(&[REBOOT, RESERVE]);
@@ -92,7 +92,7 @@ pub fn counter_by_cuts(mut random: Random, f: u32) -> Vec<Line> {
 pub fn counter_by_reserves(random: Random, f: u32) -> Vec<Line> {
     let mut hosts = explorer(random, f);
     let replica = hosts.random.below(hosts.driver.n());
-    while hosts.driver.replica(replica).view_limit < LIMIT {
+    while hosts.driver.replica(replica).view_limit < CEILING {
         hosts.driver.call(RESERVE, replica, 0, &[]);
     }
     at_the_end(&mut hosts, replica);
@@ -107,7 +107,7 @@ fn at_the_end(hosts: &mut Explorer<Correct>, replica: u32) {
         let others: Vec<u32> = (0..hosts.driver.n()).filter(|&other| other != replica).collect();
         hosts.driver.restore(replica, &others);
     }
-    for view in [limit - 1, limit, LIMIT, LIMIT + 1] {
+    for view in [limit - 1, limit, CEILING, CEILING + 1] {
         hosts.driver.call(VIEW, replica, view, &[]);
     }
     for code in [REQUEST, REBOOT, RESERVE, REBOOT, REQUEST] {

@@ -78,14 +78,14 @@ fn garbage(random: &mut Random) -> u32 {
 pub fn any_view(random: &mut Random) -> u32 {
     match random.below(8) {
         0 => random.pick(&[63, 64, 65, 127, 128]),
-        1 => random.pick(&[LIMIT - 65, LIMIT - 64, LIMIT - 2, LIMIT - 1, LIMIT]),
+        1 => random.pick(&[CEILING - 65, CEILING - 64, CEILING - 2, CEILING - 1, CEILING]),
         _ => random.below(6),
     }
 }
 
 fn any_boot(random: &mut Random) -> u32 {
     match random.below(6) {
-        0 => random.pick(&[LIMIT - 1, LIMIT]),
+        0 => random.pick(&[CEILING - 1, CEILING]),
         _ => random.below(10),
     }
 }

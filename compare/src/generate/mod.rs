@@ -1,7 +1,7 @@
 //! Seeded generators: scripts, and memories with one call each.
 
-pub mod blocks;
 pub mod boundary;
+pub mod chunks;
 pub mod damage;
 pub mod memory;
 pub mod perturb;

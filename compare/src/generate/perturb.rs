@@ -82,7 +82,7 @@ fn damage_certificate(random: &mut Random, sample: &mut Sample) {
     }
     let number = if random.once_in(2) { issued - 1 } else { random.below(issued as u32) as usize };
     let word = random.below(CERTIFICATE_WORDS as u32) as usize;
-    let past = [random.pick(&[0, 7, u32::MAX]), n, LIMIT + 1, added, LIMIT + 1, n, LIMIT + 1];
+    let past = [random.pick(&[0, 7, u32::MAX]), n, CEILING + 1, added, CEILING + 1, n, CEILING + 1];
     sample.log[CERTIFICATE_WORDS * number + word] = if random.once_in(6) { u32::MAX } else { past[word] };
 }
 
@@ -93,8 +93,8 @@ fn damage_replica(random: &mut Random, sample: &mut Sample) {
     let r = sample.memory().replica(replica);
     let word = random.below(REPLICA_WORDS as u32) as usize;
     let low = random.pick(&[0, r.view_limit.saturating_add(1)]);
-    let limit = random.pick(&[LIMIT + 1, r.min_view.saturating_sub(1)]);
-    let past = [3, LIMIT + 1, low, limit, 2, r.min_view, added, LIMIT + 1, added];
+    let limit = random.pick(&[CEILING + 1, r.min_view.saturating_sub(1)]);
+    let past = [3, CEILING + 1, low, limit, 2, r.min_view, added, CEILING + 1, added];
     sample.table[HEADER + REPLICA_WORDS * replica as usize + word] =
         if random.once_in(6) { u32::MAX } else { past[word] };
 }

@@ -3,7 +3,7 @@
 use super::memory::{any_view, Sample};
 use crate::call::*;
 use crate::certificate::*;
-use crate::memory::{Replica, LIMIT, LIVE, RECOVERING};
+use crate::memory::{Replica, CEILING, LIVE, RECOVERING};
 use crate::random::Random;
 
 pub fn make_ready(random: &mut Random, sample: &mut Sample) {
@@ -42,8 +42,8 @@ fn live_at(random: &mut Random, sample: &mut Sample, w: u32) {
     let mut r = caller(sample);
     r.status = LIVE;
     r.flag = 0;
-    r.min_view = w.clamp(1, LIMIT);
-    r.view_limit = (r.min_view + random.pick(&[0, 1, 1, 2, 64])).min(LIMIT);
+    r.min_view = w.clamp(1, CEILING);
+    r.view_limit = (r.min_view + random.pick(&[0, 1, 1, 2, 64])).min(CEILING);
     r.stored_view = random.below(r.min_view.min(8));
     set_caller(sample, r);
 }
@@ -55,14 +55,14 @@ fn signers(random: &mut Random, sample: &Sample, without: Option<u32>) -> Vec<u3
     signers
 }
 
-/// A block whose parent is the ground, made so where there is one above it.
-fn child(random: &mut Random, sample: &mut Sample, ground: u32) -> u32 {
+/// A block on a base, made so where there is one above it.
+fn child(random: &mut Random, sample: &mut Sample, base: u32) -> u32 {
     let added = sample.table[2];
-    if ground + 1 >= added {
+    if base + 1 >= added {
         return random.below(added);
     }
-    let block = random.within(ground + 1, added - 1);
-    sample.blocks[block as usize] = ground;
+    let block = random.within(base + 1, added - 1);
+    sample.blocks[block as usize] = base;
     block
 }
 
@@ -90,7 +90,7 @@ fn ready_for_commits(random: &mut Random, sample: &mut Sample, places: Vec<u32>)
         live_at(random, sample, view + 1);
     } else {
         let mut r = caller(sample);
-        r.decided_view = random.pick(&[0, view, view.saturating_sub(1), (view + 1).min(LIMIT)]);
+        r.decided_view = random.pick(&[0, view, view.saturating_sub(1), (view + 1).min(CEILING)]);
         set_caller(sample, r);
     }
 }
@@ -137,8 +137,8 @@ fn ready_for_reply(random: &mut Random, sample: &mut Sample, place: u32) {
     let mut r = caller(sample);
     r.status = LIVE;
     r.flag = random.below(2);
-    r.min_view = (view + random.below(3)).saturating_sub(1).clamp(1, LIMIT);
-    r.view_limit = (r.min_view + random.below(3)).min(LIMIT);
+    r.min_view = (view + random.below(3)).saturating_sub(1).clamp(1, CEILING);
+    r.view_limit = (r.min_view + random.below(3)).min(CEILING);
     r.stored_view = random.below(r.min_view.min(8));
     set_caller(sample, r);
 }
@@ -149,12 +149,12 @@ fn ready_for_recover(random: &mut Random, sample: &mut Sample, places: Vec<u32>)
     let signers = signers(random, sample, if own { None } else { Some(sample.line.replica) });
     let around = random.pick(&[0, r.min_view.saturating_sub(2)]);
     for (&place, &signer) in places.iter().zip(&signers) {
-        let (block, of_view) = (random.below(sample.table[2]), (around + random.below(4)).min(LIMIT));
+        let (block, of_view) = (random.below(sample.table[2]), (around + random.below(4)).min(CEILING));
         let (view, boot, subject) = (r.min_view, r.boot, sample.line.replica);
         sample.set_certificate(place, Certificate { kind: REPLY, signer, view, block, of_view, subject, boot });
     }
     sample.line.list = places;
     r.status = RECOVERING;
-    r.view_limit = (r.min_view + random.below(3)).min(LIMIT);
+    r.view_limit = (r.min_view + random.below(3)).min(CEILING);
     set_caller(sample, r);
 }

@@ -1,7 +1,7 @@
 //! One script of any sort from a seed.
 
-use super::blocks::over_block_ends;
 use super::boundary::*;
+use super::chunks::over_chunk_ends;
 use super::damage::damaged;
 use super::progress::progress;
 use crate::driver::{script_text, Driver, Line};
@@ -27,7 +27,7 @@ pub const SORTS: &[&str] = &[
     "full blocks",
     "counter by cuts",
     "counter by reserves",
-    "block ends",
+    "chunk ends",
     "damaged text",
 ];
 
@@ -47,12 +47,12 @@ pub fn script(seed: u64) -> Script {
         49..=50 => ("full blocks", full_blocks(part, f)),
         51..=53 => ("counter by cuts", counter_by_cuts(part, f)),
         54 if random.once_in(8) => ("counter by reserves", counter_by_reserves(part, f.min(2))),
-        54..=57 => ("block ends", progress(part, random.pick(&[1, 30]), 300, true)),
+        54..=57 => ("chunk ends", progress(part, random.pick(&[1, 30]), 300, true)),
         _ => ("damaged text", hostile(part, f)),
     };
     let plain = script_text(&lines);
     let text = match sort {
-        "block ends" => over_block_ends(&mut random, &plain),
+        "chunk ends" => over_chunk_ends(&mut random, &plain),
         "damaged text" => damaged(&mut random, &plain),
         _ => plain,
     };

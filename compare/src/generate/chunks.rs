@@ -1,11 +1,11 @@
-//! Scripts whose lines lie over the ends of the blocks in which a program reads its input.
+//! Scripts whose lines lie over the ends of the chunks in which a program reads its input.
 
 use crate::random::Random;
-use crate::script::INPUT_BLOCK;
+use crate::script::INPUT_CHUNK;
 
-/// A script's lines among unreadable ones, so that the ends of blocks cut the lines at any column: before the first
+/// A script's lines among unreadable ones, so that the ends of chunks cut the lines at any column: before the first
 /// byte, before and after the line feed too. Some lines stand there a second time, too long to be read.
-pub fn over_block_ends(random: &mut Random, script: &[u8]) -> Vec<u8> {
+pub fn over_chunk_ends(random: &mut Random, script: &[u8]) -> Vec<u8> {
     let mut out = Vec::new();
     for line in script.split_inclusive(|&byte| byte == b'\n') {
         if random.once_in(6) {
@@ -17,9 +17,9 @@ pub fn over_block_ends(random: &mut Random, script: &[u8]) -> Vec<u8> {
     out
 }
 
-/// Adds a line, now and then over the end of the block: the longest that can be read sooner than others.
+/// Adds a line, now and then over the end of the chunk: the longest that can be read sooner than others.
 fn put(random: &mut Random, out: &mut Vec<u8>, line: &[u8]) {
-    let room = INPUT_BLOCK - out.len() % INPUT_BLOCK;
+    let room = INPUT_CHUNK - out.len() % INPUT_CHUNK;
     let before = cut(random, line.len());
     let times = if line.len() > 272 { 4 } else { 16 };
     if before < room && (room <= line.len() || random.once_in(times)) {
@@ -28,7 +28,7 @@ fn put(random: &mut Random, out: &mut Vec<u8>, line: &[u8]) {
     out.extend(line);
 }
 
-/// How many of a line's bytes come before the end of the block: its ends sooner than the columns between.
+/// How many of a line's bytes come before the end of the chunk: its ends sooner than the columns between.
 fn cut(random: &mut Random, length: usize) -> usize {
     let any = random.below(length as u32 + 1) as usize;
     random.pick(&[any, any, any, 0, length, length - 1])

@@ -19,7 +19,9 @@ pub extern "C" fn yard_call(
     first: &mut u32,
     second: &mut u32,
 ) -> u32
-    ensures { λ r. ⌜ left (record { number = r; first = now (first .exit); second = now (second .exit) }) (now (table .exit)) (now (log .exit)) (now (blocks .exit)) ≡ called (memory (now (table .entry)) (now (log .entry)) (now (blocks .entry))) code replica number (now (list .entry)) ⌝ }
+    ensures { λ r. ⌜ left (record { number = r; first = now (first .exit); second = now (second .exit) }) (now (table .exit))
+        (now (log .exit)) (now (blocks .exit))
+        ≡ called (memory (now (table .entry)) (now (log .entry)) (now (blocks .entry))) code replica number (now (list .entry)) ⌝ }
 {
     let answer = ledger::call_by_code(table, log, blocks, code, replica, number, list);
     *first = answer.first;
@@ -36,7 +38,8 @@ pub extern "C" fn yard_panel(
     replica: u32,
     height: &mut u32,
 ) -> u32
-    ensures { λ r. ⌜ record { number = r; first = now (height .exit); second = 0 } ≡ panelAnswer (memory (now (table .entry)) (now (log .entry)) (now (blocks .entry))) replica ⌝ }
+    ensures { λ r. ⌜ record { number = r; first = now (height .exit); second = 0 }
+        ≡ panelAnswer (memory (now (table .entry)) (now (log .entry)) (now (blocks .entry))) replica ⌝ }
 {
     let answer = ledger::panel(table, log, blocks, replica);
     *height = answer.first;

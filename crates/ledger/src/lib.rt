@@ -21,7 +21,8 @@ pub fn invoke(
     call: Call,
     list: &[u32],
 ) -> Answer
-    ensures { λ r. ⌜ left r (now (table .exit)) (now (log .exit)) (now (blocks .exit)) ≡ step (memory (now (table .entry)) (now (log .entry)) (now (blocks .entry))) call (now (list .entry)) ⌝ }
+    ensures { λ r. ⌜ left r (now (table .exit)) (now (log .exit)) (now (blocks .exit))
+        ≡ step (memory (now (table .entry)) (now (log .entry)) (now (blocks .entry))) call (now (list .entry)) ⌝ }
 {
     match call {
         Call::Open(f) => opening::open_ledger(table, log, blocks, f),
@@ -57,7 +58,8 @@ pub fn call_by_code(
     number: u32,
     list: &[u32],
 ) -> Answer
-    ensures { λ r. ⌜ left r (now (table .exit)) (now (log .exit)) (now (blocks .exit)) ≡ called (memory (now (table .entry)) (now (log .entry)) (now (blocks .entry))) code replica number (now (list .entry)) ⌝ }
+    ensures { λ r. ⌜ left r (now (table .exit)) (now (log .exit)) (now (blocks .exit))
+        ≡ called (memory (now (table .entry)) (now (log .entry)) (now (blocks .entry))) code replica number (now (list .entry)) ⌝ }
 {
     let coded = codes::coded_call(table, log, code, replica, number, list);
     let Coded::Of(call) = coded else {

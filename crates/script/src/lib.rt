@@ -50,7 +50,9 @@ pub const ANSWER_BYTES: usize = 4 * COLUMNS + 1;
 fn read_numbers(line: &[u8], given: &mut [u32]) -> Read
     requires { ⌜ length (now given) ≡ maxFields ⌝ }
     ensures { λ r. ⌜ r ≡ countOf (now (line .entry)) ⌝ }
-    ensures { λ r. ⌜ (hasNumbers (now (line .entry)) ≡ true → take (fieldCount (now (line .entry))) (now (given .exit)) ≡ numbers (now (line .entry)) (fieldCount (now (line .entry)))) ⌝ }
+    ensures { λ r. ⌜ (hasNumbers (now (line .entry))
+        ≡ true → take (fieldCount (now (line .entry))) (now (given .exit)) ≡ numbers (now (line .entry))
+        (fieldCount (now (line .entry)))) ⌝ }
 {
     let count = line.len() / COLUMNS;
     if COLUMNS * count != line.len() {
@@ -101,7 +103,8 @@ fn call_lent(
     given: &[u32],
 ) -> Answer
     requires { ⌜ (length (now table) ≡ maxTable) × (minFields ≤ length (now given)) ⌝ }
-    ensures { λ r. ⌜ left r (now (table .exit)) (now (log .exit)) (now (blocks .exit)) ≡ lending f (memory (now (table .entry)) (now (log .entry)) (now (blocks .entry))) (now (given .entry)) ⌝ }
+    ensures { λ r. ⌜ left r (now (table .exit)) (now (log .exit)) (now (blocks .exit))
+        ≡ lending f (memory (now (table .entry)) (now (log .entry)) (now (blocks .entry))) (now (given .entry)) ⌝ }
 {
     let lent = lent_length(f);
     ledger::call_by_code(
@@ -120,16 +123,18 @@ fn answer_numbers(
     table: &mut [u32],
     log: &mut [u32],
     blocks: &mut [u32],
-    faults: &mut u32,
+    fault_bound: &mut u32,
     given: &[u32],
 ) -> Answer
     requires { ⌜ (length (now table) ≡ maxTable) × (minFields ≤ length (now given)) ⌝ }
-    ensures { λ r. ⌜ leaves r (now (faults .exit)) (now (table .exit)) (now (log .exit)) (now (blocks .exit)) ≡ answerNumbers (session (now (faults .entry)) (now (table .entry)) (now (log .entry)) (now (blocks .entry))) (now (given .entry)) ⌝ }
+    ensures { λ r. ⌜ leaves r (now («fault_bound» .exit)) (now (table .exit)) (now (log .exit)) (now (blocks .exit))
+        ≡ answerNumbers (session (now («fault_bound» .entry)) (now (table .entry)) (now (log .entry)) (now (blocks .entry)))
+        (now (given .entry)) ⌝ }
 {
-    let f = fault_bound_for(*faults, given[CODE_FIELD], given[REPLICA_FIELD]);
+    let f = fault_bound_for(*fault_bound, given[CODE_FIELD], given[REPLICA_FIELD]);
     let answer = call_lent(table, log, blocks, f, given);
     if answer.number == 0 {
-        *faults = f;
+        *fault_bound = f;
     }
     answer
 }
@@ -139,11 +144,13 @@ pub fn answer_line(
     table: &mut [u32],
     log: &mut [u32],
     blocks: &mut [u32],
-    faults: &mut u32,
+    fault_bound: &mut u32,
     line: &[u8],
 ) -> Answer
     requires { ⌜ length (now table) ≡ maxTable ⌝ }
-    ensures { λ r. ⌜ leaves r (now (faults .exit)) (now (table .exit)) (now (log .exit)) (now (blocks .exit)) ≡ answerLine (session (now (faults .entry)) (now (table .entry)) (now (log .entry)) (now (blocks .entry))) (now (line .entry)) ⌝ }
+    ensures { λ r. ⌜ leaves r (now («fault_bound» .exit)) (now (table .exit)) (now (log .exit)) (now (blocks .exit))
+        ≡ answerLine (session (now («fault_bound» .entry)) (now (table .entry)) (now (log .entry)) (now (blocks .entry)))
+        (now (line .entry)) ⌝ }
 {
     let mut given = [0u32; MAX_FIELDS];
     let read = read_numbers(line, &mut given);
@@ -151,7 +158,7 @@ pub fn answer_line(
         return refused(reader::refusal_of(read));
     };
     let end = count as usize;
-    answer_numbers(table, log, blocks, faults, &given[..end])
+    answer_numbers(table, log, blocks, fault_bound, &given[..end])
 }
 
 // Writes a number's eight columns.

@@ -22,7 +22,7 @@ use Rattle.stream.proofs.Fed.{line-ended}
 
 -- Where a stream stands after one more answer.
 abbrev pub after : Progress → ℕ → Progress
-after p f = record { faults = f; lines = p .lines + 1; held = 0; written = p .written + answerBytes }
+after p f = record { «fault_bound» = f; lines = p .lines + 1; held = 0; pending = p .pending + answerBytes }
 
 pub fits : (s : Session) (line : List ℕ) {a : Answer} {f : ℕ} {t l b : List ℕ} → leaves a f t l b ≡ answerLine s line → Printable a
 unfolding AnswersPrintable
@@ -30,8 +30,8 @@ fits s line e = subst (λ (o : Answered). Printable (o .answer)) (sym e) (answer
 
 module _ (p : Progress) (t l b places text line : List ℕ) where
   pub line-answered : {a : Answer} {f : ℕ} {t′ l′ b′ : List ℕ} (text′ : List ℕ)
-      → leaves a f t′ l′ b′ ≡ answerLine (session (p .faults) t l b) line
-      → take (p .written + answerBytes) text′ ≡ take (p .written) text ++ answerText (p .lines + 1) a
+      → leaves a f t′ l′ b′ ≡ answerLine (session (p .«fault_bound») t l b) line
+      → take (p .pending + answerBytes) text′ ≡ take (p .pending) text ++ answerText (p .lines + 1) a
       → streamOf (after p f) t′ l′ b′ places text′ ≡ endLine (withHeld (streamOf p t l b places text) line)
   unfolding endLine
   line-answered {a} {f} {t′} {l′} {b′} text′ e x =
@@ -42,7 +42,7 @@ module _ (p : Progress) (t l b places text line : List ℕ) where
         session = o .session;
         lines = suc (p .lines);
         held = [];
-        text = take (p .written) text ++ answerText (suc (p .lines)) (o .answer);
+        text = take (p .pending) text ++ answerText (suc (p .lines)) (o .answer);
       })
       e)
 

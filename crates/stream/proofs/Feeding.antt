@@ -26,7 +26,7 @@ pub record Going (whole : Stream) (chunk : List ℕ) (room logWords blockWords :
   pub lineLength : length line ≡ heldPlaces
   pub textLength : length text ≡ room
   pub held : p .held ≤ heldPlaces
-  pub written : p .written ≤ answerBytes * at
+  pub pending : p .pending ≤ answerBytes * at
   pub same : fed (streamOf p t l b line text) (drop at chunk) ≡ whole
 
 module _ (p : Progress) (t l b line text chunk : List ℕ) (at : ℕ) where

@@ -12,10 +12,10 @@ use Rattle.stream.specs.Stream.{Stream, heldPlaces}
 abbrev pub streamOf : Progress → List ℕ → List ℕ → List ℕ → List ℕ → List ℕ → Stream
 streamOf p t l b line text =
     record {
-      session = session (p .faults) t l b;
+      session = session (p .«fault_bound») t l b;
       lines = p .lines;
       held = take (p .held) line;
-      text = take (p .written) text;
+      text = take (p .pending) text;
     }
 
 -- The stream with these bytes held.
@@ -30,22 +30,22 @@ begun s line = withHeld s (take heldPlaces line)
 pub record Room (p : Progress) (words places : List ℕ) : Type 0 where
   pub table : length words ≡ maxTable
   pub lines : p .lines < maxLines
-  pub text : p .written + answerBytes ≤ length places
+  pub text : p .pending + answerBytes ≤ length places
 
 -- The answer to a line follows the text, and nothing is held.
 pub record OneMore (p r : Progress) : Type 0 where
   pub held : r .held ≡ 0
-  pub written : r .written ≡ p .written + answerBytes
+  pub pending : r .pending ≡ p .pending + answerBytes
 
 -- Nothing is to be written yet, and there is room for the answers to a chunk's lines.
 pub record Ready (p : Progress) (words linePlaces places : List ℕ) (bytes : ℕ) : Type 0 where
   pub table : length words ≡ maxTable
   pub line : length linePlaces ≡ heldPlaces
   pub held : p .held ≤ heldPlaces
-  pub written : p .written ≡ 0
+  pub pending : p .pending ≡ 0
   pub text : answerBytes * bytes ≤ length places
 
 -- What is to be written, and what is held, lies within its places.
 pub record Within (r : Progress) (places : List ℕ) : Type 0 where
   pub held : r .held ≤ heldPlaces
-  pub written : r .written ≤ length places
+  pub pending : r .pending ≤ length places

@@ -22,13 +22,14 @@ pub const MAX_LINES: u32 = field::MAX_NUMBER;
 
 // Where a stream stands: the f in use, how many lines were answered, how many bytes of a line are held, how many are to be written.
 pub struct Progress {
-    pub faults: u32,
+    pub fault_bound: u32,
     pub lines: u32,
     pub held: usize,
-    pub written: usize,
+    pub pending: usize,
 }
 
-// Whether one of sixteen bytes is a line feed. It has one caller, and tests joined by `|` alone, so the compiler inlines it and uses vector instructions.
+// Whether one of sixteen bytes is a line feed. It has one caller, and tests joined by `|` alone, so the compiler inlines it and uses vector
+// instructions.
 fn has_feed(chunk: &[u8], at: usize) -> bool
     requires { ⌜ at + feedStep ≤ length (now chunk) ⌝ }
     ensures { λ r. ⌜ r ≡ ltb (feedFrom (drop at (now (chunk .entry)))) feedStep ⌝ }
@@ -102,19 +103,21 @@ fn answer(
     line: &[u8],
 ) -> Progress
     requires { ⌜ Room p (now table) (now text) ⌝ }
-    ensures { λ r. ⌜ ((places : List ℕ) → streamOf r (now (table .exit)) (now (log .exit)) (now (blocks .exit)) places (now (text .exit)) ≡ endLine (withHeld (streamOf p (now (table .entry)) (now (log .entry)) (now (blocks .entry)) places (now (text .entry))) (now (line .entry)))) ⌝ }
+    ensures { λ r. ⌜ ((places : List ℕ) → streamOf r (now (table .exit)) (now (log .exit)) (now (blocks .exit)) places (now (text .exit))
+        ≡ endLine (withHeld (streamOf p (now (table .entry)) (now (log .entry)) (now (blocks .entry)) places (now (text .entry)))
+        (now (line .entry)))) ⌝ }
     ensures { λ r. ⌜ OneMore p r ⌝ }
 {
-    let mut faults = p.faults;
-    let answer = script::answer_line(table, log, blocks, &mut faults, line);
+    let mut fault_bound = p.fault_bound;
+    let answer = script::answer_line(table, log, blocks, &mut fault_bound, line);
     let lines = p.lines + 1;
-    let written = p.written;
-    script::put_answer(text, written, lines, answer);
+    let pending = p.pending;
+    script::put_answer(text, pending, lines, answer);
     Progress {
-        faults,
+        fault_bound,
         lines,
         held: 0,
-        written: written + ANSWER_BYTES,
+        pending: pending + ANSWER_BYTES,
     }
 }
 
@@ -132,7 +135,9 @@ fn answer_from(
 ) -> Progress
     requires { ⌜ Room p (now table) (now text) ⌝ }
     requires { ⌜ Holdable (now line) (p .held) (now chunk) from end ⌝ }
-    ensures { λ r. ⌜ streamOf r (now (table .exit)) (now (log .exit)) (now (blocks .exit)) (now (line .exit)) (now (text .exit)) ≡ endLine (begun (streamOf p (now (table .entry)) (now (log .entry)) (now (blocks .entry)) (now (line .entry)) (now (text .entry))) (lineSoFar (now (line .entry)) (p .held) (now (chunk .entry)) from end)) ⌝ }
+    ensures { λ r. ⌜ streamOf r (now (table .exit)) (now (log .exit)) (now (blocks .exit)) (now (line .exit)) (now (text .exit))
+        ≡ endLine (begun (streamOf p (now (table .entry)) (now (log .entry)) (now (blocks .entry)) (now (line .entry))
+        (now (text .entry))) (lineSoFar (now (line .entry)) (p .held) (now (chunk .entry)) from end)) ⌝ }
     ensures { λ r. ⌜ OneMore p r ⌝ }
 {
     if p.held == 0 {
@@ -153,7 +158,9 @@ pub fn feed(
     chunk: &[u8],
 ) -> Progress
     requires { ⌜ Ready start (now table) (now line) (now text) (length (now chunk)) ⌝ }
-    ensures { λ r. ⌜ streamOf r (now (table .exit)) (now (log .exit)) (now (blocks .exit)) (now (line .exit)) (now (text .exit)) ≡ fed (streamOf start (now (table .entry)) (now (log .entry)) (now (blocks .entry)) (now (line .entry)) (now (text .entry))) (now (chunk .entry)) ⌝ }
+    ensures { λ r. ⌜ streamOf r (now (table .exit)) (now (log .exit)) (now (blocks .exit)) (now (line .exit)) (now (text .exit))
+        ≡ fed (streamOf start (now (table .entry)) (now (log .entry)) (now (blocks .entry)) (now (line .entry)) (now (text .entry)))
+        (now (chunk .entry)) ⌝ }
     ensures { λ r. ⌜ Within r (now (text .entry)) ⌝ }
 {
     let mut p = start;
@@ -166,10 +173,10 @@ pub fn feed(
         if end == chunk.len() {
             let held = hold(line, p.held, chunk, at, end);
             return Progress {
-                faults: p.faults,
+                fault_bound: p.fault_bound,
                 lines: p.lines,
                 held,
-                written: p.written,
+                pending: p.pending,
             };
         }
         p = answer_from(table, log, blocks, line, text, p, chunk, at, end);
@@ -188,7 +195,8 @@ pub fn finish(
     p: Progress,
 ) -> Progress
     requires { ⌜ Ready p (now table) (now line) (now text) 1 ⌝ }
-    ensures { λ r. ⌜ streamOf r (now (table .exit)) (now (log .exit)) (now (blocks .exit)) (now (line .exit)) (now (text .exit)) ≡ finished (streamOf p (now (table .entry)) (now (log .entry)) (now (blocks .entry)) (now (line .entry)) (now (text .entry))) ⌝ }
+    ensures { λ r. ⌜ streamOf r (now (table .exit)) (now (log .exit)) (now (blocks .exit)) (now (line .exit)) (now (text .exit))
+        ≡ finished (streamOf p (now (table .entry)) (now (log .entry)) (now (blocks .entry)) (now (line .entry)) (now (text .entry))) ⌝ }
     ensures { λ r. ⌜ Within r (now (text .entry)) ⌝ }
 {
     if p.held == 0 {

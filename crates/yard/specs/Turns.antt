@@ -20,7 +20,7 @@ textBytes = answerBytes * chunkBytes
 -- All text is written, and what is held lies within its places.
 pub record Flushed (p : Progress) : Type 0 where
   pub held : p .held ≤ heldPlaces
-  pub written : p .written ≡ 0
+  pub pending : p .pending ≡ 0
 
 -- What a turn leaves of a stream, where the input goes on: these bytes were fed, and their text is written.
 abbrev pub Goes : Stream → List ℕ → List ℕ → List ℕ → List ℕ → List ℕ → List ℕ → Turn → Type 0

@@ -77,7 +77,9 @@ fn take_read(
 ) -> Turn
     requires { ⌜ (length (now text) ≡ textBytes) × (length (now chunk) ≡ chunkBytes) ⌝ }
     requires { ⌜ Flushed p ⌝ }
-    ensures { λ r. ⌜ Goes (streamOf p (now (table .entry)) (now (log .entry)) (now (blocks .entry)) (now (line .entry)) (now (text .entry))) (now (table .exit)) (now (log .exit)) (now (blocks .exit)) (now (line .exit)) (now (text .exit)) (take (clamped got (length (now (chunk .entry)))) (now (chunk .entry))) r ⌝ }
+    ensures { λ r. ⌜ Goes (streamOf p (now (table .entry)) (now (log .entry)) (now (blocks .entry)) (now (line .entry))
+        (now (text .entry))) (now (table .exit)) (now (log .exit)) (now (blocks .exit)) (now (line .exit)) (now (text .exit))
+        (take (clamped got (length (now (chunk .entry)))) (now (chunk .entry))) r ⌝ }
 {
     if got < 0 {
         return Turn::End;
@@ -85,23 +87,23 @@ fn take_read(
     let n = io::count(got, chunk);
     if n == 0 {
         let last = stream::finish(table, log, blocks, line, text, p);
-        let written = last.written;
-        write_text(&text[..written]);
+        let pending = last.pending;
+        write_text(&text[..pending]);
         return Turn::End;
     }
     let next = stream::feed(table, log, blocks, line, text, p, &chunk[..n]);
-    let written = next.written;
-    if !write_text(&text[..written]) {
+    let pending = next.pending;
+    if !write_text(&text[..pending]) {
         return Turn::End;
     }
     if next.lines == MAX_LINES {
         return Turn::End;
     }
     Turn::More(Progress {
-        faults: next.faults,
+        fault_bound: next.fault_bound,
         lines: next.lines,
         held: next.held,
-        written: 0,
+        pending: 0,
     })
 }
 
@@ -125,10 +127,10 @@ fn main() {
     let mut text = [0u8; TEXT_BYTES];
     let mut chunk = [0u8; CHUNK_BYTES];
     let mut p = Progress {
-        faults: 0,
+        fault_bound: 0,
         lines: 0,
         held: 0,
-        written: 0,
+        pending: 0,
     };
     starts(&table, &log, &blocks, &line, p);
     let mut turns = u64::MAX;

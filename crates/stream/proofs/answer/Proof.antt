@@ -18,7 +18,7 @@ returns c =
     let at-answer-line = at-put-answer .before .before .before .before .before .before .before .before .before in
     let start = at-answer-line .before .before .before .before .before .before .before .before .before .before in (
       λ places. line-answered (start .args .p) _ _ _ places _ _ _ (at-answer-line .answer-line .ensures) (at-put-answer .put-answer .ensures),
-      record { held = refl; written = refl },
+      record { held = refl; pending = refl },
     )
 
 pub answer-spec : {M : Type 1} → statement M

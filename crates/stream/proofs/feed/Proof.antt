@@ -30,7 +30,7 @@ loop-holds c =
       lineLength = start .pre .line;
       textLength = refl;
       held = start .pre .held;
-      written = omega (arith, start .pre .written);
+      pending = omega (arith, start .pre .pending);
       same = refl;
     }
 
@@ -60,7 +60,7 @@ returns c =
     let l = c .before .before .before .loop in
     let start = c .before .before .before .before .before .before .before .before .before .before in (
       sym (stopped (l .p) _ _ _ _ _ _ (l .at) (omega (arith, c .if1 .taken))) ∙ l .inv .same,
-      record { held = l .inv .held; written = omega (arith, l .inv .written, l .inv .within, start .pre .text) },
+      record { held = l .inv .held; pending = omega (arith, l .inv .pending, l .inv .within, start .pre .text) },
     )
 
 line-end-requires : tie.Need-line-end-requires Inv-loop μ-loop
@@ -106,7 +106,7 @@ returns-2 c =
     (omega (arith, at-if1 .if1 .left))
     (l .inv .held) (l .inv .lineLength) (at-line-end .line-end .ensures) (at-if2 .if2 .taken) (at-hold .hold .ensures) in (
       sym rest ∙ l .inv .same,
-      record { held = at-hold .hold .ensures .fits; written = omega (arith, l .inv .written, l .inv .within, start .pre .text) },
+      record { held = at-hold .hold .ensures .fits; pending = omega (arith, l .inv .pending, l .inv .within, start .pre .text) },
     )
 
 answer-from-requires : tie.Need-answer-from-requires Inv-loop μ-loop
@@ -122,7 +122,7 @@ answer-from-requires c κs =
       record {
         table = l .inv .tableLength;
         lines = omega (arith, at-if1 .if1 .left);
-        text = omega (arith, l .inv .written, l .inv .textLength, start .pre .text, at-loop-test .loop-test .taken);
+        text = omega (arith, l .inv .pending, l .inv .textLength, start .pre .text, at-loop-test .loop-test .taken);
       },
       record { enough = l .inv .lineLength; fits = l .inv .held; ordered = omega (arith, end); within = omega (arith, end, within) },
     )
@@ -169,7 +169,7 @@ loop-again c =
       lineLength = at-line2 .line2 .given ∙ l .inv .lineLength;
       textLength = c .before .text .given ∙ l .inv .textLength;
       held = omega (arith, o .1 .held);
-      written = omega (arith, o .1 .written, l .inv .written, end);
+      pending = omega (arith, o .1 .pending, l .inv .pending, end);
       same =
           line-fed (l .p) (l .table) (l .log) (l .blocks) (l .line) (l .text) (start .args .chunk .now) (l .at)
           (omega (arith, at-if1 .if1 .left))
@@ -197,7 +197,7 @@ returns-3 c =
     let l = c .before .loop in
     let start = c .before .before .before .before .before .before .before .before in (
       sym (at-end (l .p) _ _ _ _ _ _ (l .at) (c .loop-test .left)) ∙ l .inv .same,
-      record { held = l .inv .held; written = omega (arith, l .inv .written, l .inv .within, start .pre .text) },
+      record { held = l .inv .held; pending = omega (arith, l .inv .pending, l .inv .within, start .pre .text) },
     )
 
 pub feed-spec : {M : Type 1} → statement M

@@ -28,7 +28,7 @@ starts-requires : tie.Need-starts-requires Inv-loop μ-loop
 starts-requires c κs = refl
 
 loop-holds : tie.Need-loop-holds Inv-loop μ-loop
-loop-holds c = (refl, refl, record { held = omega arith; written = refl })
+loop-holds c = (refl, refl, record { held = omega arith; pending = refl })
 
 sub-turns : tie.Need-sub-turns Inv-loop μ-loop
 sub-turns c = omega arith

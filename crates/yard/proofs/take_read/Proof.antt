@@ -22,12 +22,12 @@ all-fed s chunk e k g = cc
 slice-aggregate-write-text : tie.Need-slice-aggregate-write-text
 slice-aggregate-write-text c =
     let o = c .before .before .before .finish in
-    sym (length-take-le _ (o .last .1 .1 .1 .1 .0) (omega (arith, o .ensures .1 .written, c .before .before .text .given)))
+    sym (length-take-le _ (o .last .1 .1 .1 .1 .0) (omega (arith, o .ensures .1 .pending, c .before .before .text .given)))
 
 slice-aggregate-write-text-2 : tie.Need-slice-aggregate-write-text-2
 slice-aggregate-write-text-2 c =
     let o = c .before .before .before .feed in
-    sym (length-take-le _ (o .last .1 .1 .1 .1 .0) (omega (arith, o .ensures .1 .written, c .before .before .text2 .given)))
+    sym (length-take-le _ (o .last .1 .1 .1 .1 .0) (omega (arith, o .ensures .1 .pending, c .before .before .text2 .given)))
 
 returns-5 : tie.Need-returns-5
 returns-5 c =
@@ -35,7 +35,7 @@ returns-5 c =
     let at-count = at-feed .before .before .before .before .before .before .before .before in
     let start = at-count .before .before .before .before in
     let fed = at-feed .feed .ensures in (
-      record { held = fed .1 .held; written = refl },
+      record { held = fed .1 .held; pending = refl },
       all-fed _ _ (fed .0) (at-count .count .ensures .1) (toZ-ofZ w64 (start .args .got) (start .fits .got)),
     )
 

@@ -2,7 +2,7 @@
 ghost use mathlib.Core.Path.{_≡_};
 ghost use Prim.Native.Nat.{_+_, _≤_};
 ghost use lib.ListN.{length};
-ghost use Rattle.protocol.specs.Memory.{memory, rowAt, replicaWords, assign};
+ghost use Rattle.protocol.specs.Memory.{rowAt, replicaWords, assign};
 ghost use Rattle.protocol.specs.Outcome.{left, outcomeBy};
 ghost use Rattle.protocol.specs.Calls.{opening as openingRule, block as blockRule};
 ghost use Rattle.opening.specs.Fresh.{freshRow, freshRows};

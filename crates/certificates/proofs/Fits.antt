@@ -1,5 +1,4 @@
 -- In well-formed memory the log fits.
-use mathlib.Core.Path.{_≡_}
 use native.Mathlib.Omega.{arith}
 use Rattle.protocol.specs.Memory.{Memory}
 use Rattle.protocol.specs.Form.{lengthsFit}

@@ -1,11 +1,10 @@
 -- Laws of justifications: their first needs, what they give, and the needs of a proposal on them.
 use Prim.Native.Nat.{ℕ, _+_, _≤_}
 use mathlib.Core.Path.{_≡_, refl, sym, _∙_}
-use mathlib.Core.Bool.{Bool, true, false, not, _&&_}
+use mathlib.Core.Bool.{Bool, true, false, _&&_}
 use mathlib.Core.List.{List, [], _∷_, _++_}
 use native.Mathlib.Omega.{arith}
 use lib.ListN.{getD}
-use lib.Dec.{eqb}
 use Rattle.protocol.specs.declared.Justification.{Justification}
 use Rattle.protocol.specs.declared.Justification.the-variants.{Acc, Commits}
 use Rattle.protocol.specs.Memory.{Memory, Certificate, ceiling, faultBound, live, memory, replica, parent}
@@ -15,7 +14,7 @@ use Rattle.protocol.specs.Quorum.{every, isIssued, allIssued, certificatesOf, i
 use Rattle.protocol.specs.Outcome.{Need, _else_, firstRefusal, unknownNumber, wrongStatus, wrongCertificate}
 use Rattle.protocol.specs.Calls.{isBlock, numbersOf, isSized, isJustified}
 use Rattle.protocol.proofs.Tests.{tests, by-test, and-true, all-hold}
-use Rattle.protocol.proofs.Needs.{all-needs, fails, holds}
+use Rattle.protocol.proofs.Needs.{all-needs}
 use Rattle.protocol.proofs.Formed.{Formed, formed, sizes}
 use Rattle.layout.proofs.Within.{certificate-bounds}
 use Rattle.certificates.specs.declared.Certificate as code
@@ -24,6 +23,7 @@ use Rattle.quorum.specs.Lists.{certificateIn, certificatesIn}
 use Rattle.quorum.proofs.Accepted.{listed, some-listed, every-at, commits}
 use Rattle.checks.specs.Needs.{numberNeeds, listNeeds}
 use Rattle.checks.proofs.Ready.{Ready}
+use Rattle.checks.proofs.Ends.{stops, passes}
 use Rattle.checker.specs.declared.justification.Justified.{Justified}
 use Rattle.checker.specs.declared.justification.Judgement.the-variants.{By, Unjustified}
 use Rattle.checker.specs.Justifications.{justificationNeeds, CommitsIn, JustificationIn, justifiedBy, judgementOf, proposalTests}
@@ -148,27 +148,21 @@ has-next log list view block h e =
 
 -- ---- the needs of a proposal
 
-pub block-zero : (b : ℕ) → b ≡ 0 → not (eqb b 0) ≡ false
-block-zero b e = let t : eqb b 0 ≡ true = omega tests in rw t refl
-
-pub block-other : (b : ℕ) → (b ≡ 0 → ⊥) → not (eqb b 0) ≡ true
-block-other b h = let t : eqb b 0 ≡ false = omega tests in rw t refl
-
 pub not-known : (m : Memory) (i b : ℕ) (j : Justification) (list : List ℕ) → isBlock m b ≡ false
     → unknownNumber ≡ firstRefusal (prepareTests m i b j list)
 unfolding prepareTests
-not-known m i b j list e = sym (fails _ e)
+not-known m i b j list e = stops _ e
 
 module _ (m : Memory) (i b : ℕ) (j : Justification) (list : List ℕ) (known : isBlock m b ≡ true) where
   pub not-live : (replica m i .status ≡ live → ⊥) → wrongStatus ≡ firstRefusal (prepareTests m i b j list)
   unfolding prepareTests
-  not-live h = sym (holds _ _ known ∙ fails _ (omega tests))
+  not-live h = passes _ _ known (stops _ (omega tests))
 
   module _ (is-live : replica m i .status ≡ live) where
     pub not-justified : Unjustified ≡ judgementOf i j (certificatesOf m (numbersOf j list))
         → wrongCertificate ≡ firstRefusal (prepareTests m i b j list)
     unfolding prepareTests
-    not-justified e = sym (holds _ _ known ∙ holds _ _ (omega tests) ∙ fails _ (was-unjustified i j _ e))
+    not-justified e = passes _ _ known (passes _ _ (omega tests) (stops _ (was-unjustified i j _ e)))
 
     pub on-justified : {g : Justified} {n : ℕ} → By g ≡ judgementOf i j (certificatesOf m (numbersOf j list))
         → n ≡ firstRefusal (proposalTests (faultBound m) i b (parent m b) (replica m i) g)
@@ -176,4 +170,4 @@ module _ (m : Memory) (i b : ℕ) (j : Justification) (list : List ℕ) (known :
     unfolding prepareTests
     on-justified e q =
         let judged = was-justified i j _ e in
-        (rw (judged .1) at q) ∙ sym (holds _ _ known ∙ holds _ _ (omega tests) ∙ holds _ _ (judged .0))
+        passes _ _ known (passes _ _ (omega tests) (passes _ _ (judged .0) (rw (judged .1) at q)))

@@ -1,7 +1,7 @@
 -- The ways that an opening goes.
 use Prim.Native.Nat.{ℕ, zero, suc, _≤_, _<_}
 use mathlib.Core.Path.{_≡_, refl, sym, ap, _∙_}
-use mathlib.Core.Bool.{true, false}
+use mathlib.Core.Bool.{Bool, true, false}
 use lib.ListN.{length, set}
 use Rattle.protocol.specs.Memory.{Memory, memory, maxFaultBound, replicaCount, rowAt, faultBoundAt, certificateCountAt}
 use Rattle.protocol.specs.Memory.{blockCountAt, blockAt, assign, update}
@@ -51,9 +51,10 @@ pub record Fitting (m : Memory) (f : ℕ) : Type 0 where
   pub table : rowAt (replicaCount f) ≡ length (m .table)
   pub blocks : 0 < length (m .blocks)
 
-pub fitting : (m : Memory) (f : ℕ) → isFaultBound f ≡ true → lengthsFit m f ≡ true → Fitting m f
+pub fitting : {bound lengths : Bool} (m : Memory) (f : ℕ) → bound ≡ isFaultBound f → bound ≡ true → lengths ≡ lengthsFit m f
+    → lengths ≡ true → Fitting m f
 unfolding lengthsFit
-fitting m f b l = let h = each _ b in let k = each _ l in omega tests
+fitting m f b is l fits = let h = each _ (sym b ∙ is) in let k = each _ (sym l ∙ fits) in omega tests
 
 pub low : (f : ℕ) → isFaultBound f ≡ true → f ≤ maxFaultBound
 low f b = let h = each _ b in omega tests

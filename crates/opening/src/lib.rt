@@ -2,26 +2,18 @@
 ghost use mathlib.Core.Path.{_≡_};
 ghost use Prim.Native.Nat.{_+_, _≤_};
 ghost use lib.ListN.{length};
-ghost use Rattle.protocol.specs.Memory.{memory, rowAt, replicaWords, assign};
+ghost use Rattle.protocol.specs.Memory.{rowAt, replicaWords, assign};
 ghost use Rattle.protocol.specs.Outcome.{left, outcomeBy};
 ghost use Rattle.protocol.specs.Calls.{opening as openingRule, block as blockRule};
 ghost use Rattle.opening.specs.Fresh.{freshRow, freshRows};
 use checks::accepted;
 use checks::refused;
 use layout::BLOCK_COUNT_AT;
-use layout::BOOT_AT;
 use layout::CERTIFICATE_COUNT_AT;
 use layout::DECIDED_BLOCK_AT;
 use layout::DECIDED_VIEW_AT;
 use layout::FAULT_BOUND_AT;
-use layout::FLAG_AT;
 use layout::LIVE;
-use layout::LOWERED;
-use layout::MIN_VIEW_AT;
-use layout::STATUS_AT;
-use layout::STORED_BLOCK_AT;
-use layout::STORED_VIEW_AT;
-use layout::VIEW_LIMIT_AT;
 use layout::set_replica_word;
 use protocol::Answer;
 use protocol::NO_ROOM;
@@ -34,13 +26,7 @@ fn fresh_row(table: &mut [u32], replica: u32, limit: u32)
     requires { ⌜ rowAt replica + replicaWords ≤ length (now table) ⌝ }
     ensures { λ _. ⌜ now (table .exit) ≡ assign (now (table .entry)) (rowAt replica) (freshRow limit) ⌝ }
 {
-    set_replica_word(table, replica, STATUS_AT, LIVE);
-    set_replica_word(table, replica, BOOT_AT, 0);
-    set_replica_word(table, replica, MIN_VIEW_AT, 1);
-    set_replica_word(table, replica, VIEW_LIMIT_AT, limit);
-    set_replica_word(table, replica, FLAG_AT, LOWERED);
-    set_replica_word(table, replica, STORED_VIEW_AT, 0);
-    set_replica_word(table, replica, STORED_BLOCK_AT, 0);
+    records::start_replica(table, replica, LIVE, 0, 1, limit);
     set_replica_word(table, replica, DECIDED_VIEW_AT, 0);
     set_replica_word(table, replica, DECIDED_BLOCK_AT, 0);
 }

@@ -1,14 +1,15 @@
-// Replicas and certificates read whole, as records, so that each word is read once.
+// Replicas and certificates read whole, as records, so that each word is read once; and the words of a replica that starts.
 ghost use mathlib.Core.Path.{_≡_};
 ghost use mathlib.Core.List.{[]};
 ghost use Prim.Native.Nat.{_+_, _≤_};
 ghost use lib.ListN.{length};
-ghost use Rattle.protocol.specs.Memory.{memory, rowAt, replicaWords, replica as replicaAt, certificateAt, certificateWords, certificate};
+ghost use Rattle.protocol.specs.Memory.{memory, rowAt, replicaWords, replica as replicaAt, certificateAt, certificateWords, certificate, assign};
 ghost use Rattle.certificates.specs.Filing.{certificateOf};
-ghost use Rattle.records.specs.Replicas.{replicaOf};
+ghost use Rattle.records.specs.Replicas.{replicaOf, started};
 use certificates::Certificate;
 use layout::certificate_word;
 use layout::replica_word;
+use layout::set_replica_word;
 
 pub struct Replica {
     pub status: u32,
@@ -37,6 +38,27 @@ pub fn replica_in(table: &[u32], replica: u32) -> Replica
         decided_view: replica_word(table, replica, layout::DECIDED_VIEW_AT),
         decided_block: replica_word(table, replica, layout::DECIDED_BLOCK_AT),
     }
+}
+
+// Writes a replica that starts: its flag is lowered, and nothing is stored.
+pub fn start_replica(
+    table: &mut [u32],
+    replica: u32,
+    status: u32,
+    boot: u32,
+    min_view: u32,
+    limit: u32,
+)
+    requires { ⌜ rowAt replica + replicaWords ≤ length (now table) ⌝ }
+    ensures { λ _. ⌜ now (table .exit) ≡ assign (now (table .entry)) (rowAt replica) (started status boot «min_view» limit) ⌝ }
+{
+    set_replica_word(table, replica, layout::STATUS_AT, status);
+    set_replica_word(table, replica, layout::BOOT_AT, boot);
+    set_replica_word(table, replica, layout::MIN_VIEW_AT, min_view);
+    set_replica_word(table, replica, layout::VIEW_LIMIT_AT, limit);
+    set_replica_word(table, replica, layout::FLAG_AT, layout::LOWERED);
+    set_replica_word(table, replica, layout::STORED_VIEW_AT, 0);
+    set_replica_word(table, replica, layout::STORED_BLOCK_AT, 0);
 }
 
 pub fn certificate_in(log: &[u32], number: u32) -> Certificate

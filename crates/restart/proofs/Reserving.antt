@@ -1,11 +1,10 @@
 -- Reserve, from the words that the code reads.
 use Prim.Native.Nat.{ℕ, _+_, _^_, _<_}
-use mathlib.Core.Path.{_≡_, refl, ap}
+use mathlib.Core.Path.{_≡_, refl}
 use mathlib.Core.List.{List}
 use native.Mathlib.Omega.{arith}
 use lib.ListN.{set}
 use Rattle.protocol.specs.declared.Answer.{Answer}
-use Rattle.protocol.specs.Memory as Memory
 use Rattle.protocol.specs.Memory.{Memory, memory, rowAt, viewLimitAt, replica, update}
 use Rattle.protocol.specs.Counter.{counterStep}
 use Rattle.protocol.specs.Outcome.{firstRefusal, follow}
@@ -15,36 +14,30 @@ use Rattle.checks.specs.Needs.{replicaNeeds}
 use Rattle.checks.proofs.Ready.{Ready, further}
 use Rattle.layout.proofs.Within.{replica-bounds}
 use Rattle.counter.proofs.Steps.{step-bounds}
-use Rattle.records.specs.declared.Replica.{Replica}
-use Rattle.records.specs.Replicas.{replicaOf}
 use Rattle.restart.specs.Tests.{reserveTests}
 use Rattle.checks.proofs.Ends.{refuses, accepts}
 
 -- A step on from a view limit fits a word.
-pub limit-fits : (m : Memory) (i boot : ℕ) (r : Replica) {step : ℕ} → Ready m i → replicaOf r ≡ replica m i
-    → ((m : Memory) → step ≡ counterStep m boot) → r .«view_limit» + step < 2 ^ 32
-limit-fits m i boot r w read p =
+pub limit-fits : (m : Memory) (i boot : ℕ) {step : ℕ} → Ready m i → step ≡ counterStep m boot → replica m i .viewLimit + step < 2 ^ 32
+limit-fits m i boot w p =
     let b = replica-bounds m (w .formed) i (omega (tests, w .own)) in
     let s = step-bounds m boot in
-    omega (arith, p m, ap (λ (x : Memory.Replica). x .viewLimit) read)
+    omega arith
 
 module _ (m : Memory) (i : ℕ) {first : ℕ} (ready : first ≡ firstRefusal (replicaNeeds m i)) (pass : first ≡ 0)
-    (r : Replica) (read : replicaOf r ≡ replica m i) {step : ℕ} (stepped : (m : Memory) → step ≡ counterStep m (r .boot))
+    {step : ℕ} (stepped : (any : Memory) → step ≡ counterStep any (replica m i .boot))
+    {n : ℕ} (tested : n ≡ firstRefusal (reserveTests (replica m i) (replica m i .viewLimit + step)))
   where
-    next : r .«view_limit» + step ≡ replica m i .viewLimit + counterStep m (replica m i .boot)
-    next = rw (stepped m, ap (λ (x : Memory.Replica). x .viewLimit) read, ap (λ (x : Memory.Replica). x .boot) read)
+    refusal-is : n ≡ firstRefusal (reserve m i .needs)
+    unfolding reserve
+    refusal-is = further (replicaNeeds m i) _ refl ready pass (rw (stepped m) at tested)
 
-    module _ {n : ℕ} (tested : n ≡ firstRefusal (reserveTests (replicaOf r) (r .«view_limit» + step))) where
-      refusal-is : n ≡ firstRefusal (reserve m i .needs)
-      unfolding reserve
-      refusal-is = further (replicaNeeds m i) _ refl ready pass (rw (read, next) at tested)
+    pub reserve-refused : {a : Answer} → a ≡ record { number = n; first = 0; second = 0 } → (n ≡ 0 → ⊥)
+        → record { answer = a; memory = m } ≡ follow m (reserve m i)
+    reserve-refused e some = refuses m (reserve m i) e some refusal-is
 
-      pub reserve-refused : {a : Answer} → a ≡ record { number = n; first = 0; second = 0 } → (n ≡ 0 → ⊥)
-          → record { answer = a; memory = m } ≡ follow m (reserve m i)
-      reserve-refused e some = refuses m (reserve m i) e some refusal-is
-
-      pub reserve-accepted : {a : Answer} {t : List ℕ} → a ≡ record { number = 0; first = r .«view_limit» + step; second = 0 } → n ≡ 0
-          → t ≡ set (m .table) (rowAt i + viewLimitAt) (r .«view_limit» + step)
-          → record { answer = a; memory = memory t (m .log) (m .blocks) } ≡ follow m (reserve m i)
-      unfolding reserve update
-      reserve-accepted e z w = accepts m (reserve m i) (rw next at e) (rw (w, next)) (rw z at refusal-is)
+    pub reserve-accepted : {a : Answer} {t : List ℕ} → a ≡ record { number = 0; first = replica m i .viewLimit + step; second = 0 }
+        → n ≡ 0 → t ≡ set (m .table) (rowAt i + viewLimitAt) (replica m i .viewLimit + step)
+        → record { answer = a; memory = memory t (m .log) (m .blocks) } ≡ follow m (reserve m i)
+    unfolding reserve update
+    reserve-accepted e z w = accepts m (reserve m i) (rw (stepped m) at e) (rw (w, stepped m)) (rw z at refusal-is)

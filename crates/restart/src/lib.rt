@@ -1,24 +1,15 @@
 // The two calls that move a replica's counter on (document 01, "Calls"): reboot and reserve.
 ghost use mathlib.Core.Path.{_≡_};
-ghost use Prim.Native.Nat.{_+_, _≤_};
-ghost use lib.ListN.{length};
-ghost use Rattle.protocol.specs.Memory.{rowAt, replicaWords, assign};
 ghost use Rattle.protocol.specs.Outcome.{left, firstRefusal, outcomeBy};
 ghost use Rattle.protocol.specs.Calls.{reserve as reserveRule, reboot as rebootRule};
 ghost use Rattle.records.specs.Replicas.{replicaOf};
-ghost use Rattle.restart.specs.Tests.{reserveTests, retiring, restarted};
+ghost use Rattle.restart.specs.Tests.{reserveTests, retiring};
 use checks::accepted;
 use checks::refused;
-use layout::BOOT_AT;
 use layout::CEILING;
-use layout::FLAG_AT;
-use layout::LOWERED;
-use layout::MIN_VIEW_AT;
 use layout::RECOVERING;
 use layout::RETIRED;
 use layout::STATUS_AT;
-use layout::STORED_BLOCK_AT;
-use layout::STORED_VIEW_AT;
 use layout::VIEW_LIMIT_AT;
 use layout::set_replica_word;
 use protocol::Answer;
@@ -31,20 +22,6 @@ fn retires(r: Replica, boot: u32, limit: u32) -> bool
     ensures { λ b. ⌜ b ≡ retiring (replicaOf r) boot limit ⌝ }
 {
     (r.status == RETIRED) | (CEILING < boot) | (CEILING < limit)
-}
-
-// The words of a replica that starts again, with nothing stored.
-fn restart(table: &mut [u32], replica: u32, boot: u32, min_view: u32, limit: u32)
-    requires { ⌜ rowAt replica + replicaWords ≤ length (now table) ⌝ }
-    ensures { λ _. ⌜ now (table .exit) ≡ assign (now (table .entry)) (rowAt replica) (restarted boot «min_view» limit) ⌝ }
-{
-    set_replica_word(table, replica, STATUS_AT, RECOVERING);
-    set_replica_word(table, replica, BOOT_AT, boot);
-    set_replica_word(table, replica, MIN_VIEW_AT, min_view);
-    set_replica_word(table, replica, VIEW_LIMIT_AT, limit);
-    set_replica_word(table, replica, FLAG_AT, LOWERED);
-    set_replica_word(table, replica, STORED_VIEW_AT, 0);
-    set_replica_word(table, replica, STORED_BLOCK_AT, 0);
 }
 
 pub fn reboot(table: &mut [u32], log: &mut [u32], blocks: &mut [u32], replica: u32) -> Answer
@@ -62,7 +39,7 @@ pub fn reboot(table: &mut [u32], log: &mut [u32], blocks: &mut [u32], replica: u
         set_replica_word(table, replica, STATUS_AT, RETIRED);
         return accepted(r.boot, r.min_view);
     }
-    restart(table, replica, boot, r.view_limit, limit);
+    records::start_replica(table, replica, RECOVERING, boot, r.view_limit, limit);
     accepted(boot, r.view_limit)
 }
 

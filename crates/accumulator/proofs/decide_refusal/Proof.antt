@@ -15,23 +15,27 @@ returns c = stopped _ _ (c .before .list-refusal .ensures) (c .if1 .taken)
 shared-slice-read-certificate-word : tie.Need-shared-slice-read-certificate-word
 shared-slice-read-certificate-word c =
     let ok = c .before in
-    some-there _ _ _ (list-by _ _ (ok .before .before .before .before .before .before .args .list .now) (ok .before .list-refusal .ensures) (ok .if1 .left))
+    let list = ok .before .before .before .before .before .before .args .list .now in
+    some-there _ _ _ (list-by _ _ list (ok .before .list-refusal .ensures) (ok .if1 .left))
 
 certificate-word-requires : tie.Need-certificate-word-requires
 certificate-word-requires c κs =
     let ok = c .before in
-    let there = first-there _ _ _ (list-by _ _ (ok .before .before .before .before .before .before .args .list .now) (ok .before .list-refusal .ensures) (ok .if1 .left)) in
+    let list = ok .before .before .before .before .before .before .args .list .now in
+    let there = first-there _ _ _ (list-by _ _ list (ok .before .list-refusal .ensures) (ok .if1 .left)) in
     omega (arith, there)
 
 shared-slice-read-certificate-word-2 : tie.Need-shared-slice-read-certificate-word-2
 shared-slice-read-certificate-word-2 c =
     let ok = c .before .before .before in
-    some-there _ _ _ (list-by _ _ (ok .before .before .before .before .before .before .args .list .now) (ok .before .list-refusal .ensures) (ok .if1 .left))
+    let list = ok .before .before .before .before .before .before .args .list .now in
+    some-there _ _ _ (list-by _ _ list (ok .before .list-refusal .ensures) (ok .if1 .left))
 
 certificate-word-requires-2 : tie.Need-certificate-word-requires-2
 certificate-word-requires-2 c κs =
     let ok = c .before .before .before in
-    let there = first-there _ _ _ (list-by _ _ (ok .before .before .before .before .before .before .args .list .now) (ok .before .list-refusal .ensures) (ok .if1 .left)) in
+    let list = ok .before .before .before .before .before .before .args .list .now in
+    let there = first-there _ _ _ (list-by _ _ list (ok .before .list-refusal .ensures) (ok .if1 .left)) in
     omega (arith, there)
 
 is-commit-quorum-requires : tie.Need-is-commit-quorum-requires
@@ -46,7 +50,8 @@ returns-2 c =
     let block = tested .before in
     let view = block .before .before in
     let ok = view .before .before in
-    let w = list-by _ _ (ok .before .before .before .before .before .before .args .list .now) (ok .before .list-refusal .ensures) (ok .if1 .left) in
+    let list = ok .before .before .before .before .before .before .args .list .now in
+    let w = list-by _ _ list (ok .before .list-refusal .ensures) (ok .if1 .left) in
     let quorum = commits-tested w (view .certificate-word .ensures) (block .certificate-word2 .ensures)
     (tested .is-commit-quorum .ensures) in
     further _ _ refl (ok .before .list-refusal .ensures) (ok .if1 .left) (last _ (sym quorum ∙ c .if2 .taken))
@@ -58,7 +63,8 @@ returns-3 c =
     let block = tested .before in
     let view = block .before .before in
     let ok = view .before .before in
-    let w = list-by _ _ (ok .before .before .before .before .before .before .args .list .now) (ok .before .list-refusal .ensures) (ok .if1 .left) in
+    let list = ok .before .before .before .before .before .before .args .list .now in
+    let w = list-by _ _ list (ok .before .list-refusal .ensures) (ok .if1 .left) in
     let quorum = commits-tested w (view .certificate-word .ensures) (block .certificate-word2 .ensures)
     (tested .is-commit-quorum .ensures) in
     further _ _ refl (ok .before .list-refusal .ensures) (ok .if1 .left) (stops _ (sym quorum ∙ c .if2 .left))

@@ -8,13 +8,21 @@ use Rattle.accumulator.proofs.set_decided.Tie as tie
 
 returns : tie.Need-returns
 returns c =
-    let e : ltb (c .before .before .before .before .before .before .before .before .before .replica-word .result) (c .before .before .before .before .before .before .before .before .before .before .before .before .args .view) ≡ true = omega (tests, c .before .before .before .before .before .before .before .before .if1 .taken) in
-    rw (rw (c .before .before .before .before .before .before .before .before .before .replica-word .ensures) at e) (rw (c .before .before .before .before .before .before .set-replica-word .ensures) at (c .before .before .set-replica-word2 .ensures))
+    let second = c .before .before in
+    let first = second .before .before .before .before in
+    let later = first .before .before in
+    let read = later .before in
+    let start = read .before .before .before in
+    let e : ltb (read .replica-word .result) (start .args .view) ≡ true = omega (tests, later .if1 .taken) in
+    rw (rw (read .replica-word .ensures) at e)
+    (rw (first .set-replica-word .ensures) at (second .set-replica-word2 .ensures))
 
 returns-2 : tie.Need-returns-2
 returns-2 c =
-    let e : ltb (c .before .replica-word .result) (c .before .before .before .before .args .view) ≡ false = omega (tests, c .if1 .left) in
-    rw (rw (c .before .replica-word .ensures) at e) (search needs)
+    let read = c .before in
+    let start = read .before .before .before in
+    let e : ltb (read .replica-word .result) (start .args .view) ≡ false = omega (tests, c .if1 .left) in
+    rw (rw (read .replica-word .ensures) at e) (search needs)
 
 pub set-decided-spec : {M : Type 1} → statement M
 set-decided-spec =

@@ -1,54 +1,58 @@
-use mathlib.Core.Path.{sym, _∙_}
+use mathlib.Core.Path.{sym, ap, _∙_}
+use mathlib.Core.Bool.{not}
 use borrow.Author.Needs.{needs}
-use borrow.Author.Tests.{not-true, not-false}
+use borrow.Author.Tests.{not-true, not-false, eq-eqb, ne-eqb}
 use Rattle.protocol.proofs.Tests.{tests}
-use Rattle.protocol.proofs.Needs.{fails, holds}
 use Rattle.checks.proofs.Ready.{last}
-use Rattle.checker.proofs.Justifications.{block-zero, block-other}
+use Rattle.checks.proofs.Ends.{stops, passes}
 use Rattle.checker.proofs.proposal_refusal.Statement.{statement}
 use Rattle.checker.proofs.proposal_refusal.Tie as tie
 
 returns : tie.Need-returns
-returns c = sym (fails _ (sym (c .before .leads .ensures) ∙ not-true _ (c .if1 .taken)))
+returns c = stops _ (sym (c .before .leads .ensures) ∙ not-true _ (c .if1 .taken))
 
 returns-2 : tie.Need-returns-2
 returns-2 c =
-    sym (holds _ _ (sym (c .before .before .leads .ensures) ∙ not-false _ (c .before .if1 .left))
-    ∙ fails _ (block-zero _ (c .if2 .taken)))
+    let led = c .before in
+    passes _ _ (sym (led .before .leads .ensures) ∙ not-false _ (led .if1 .left)) (stops _ (ap not (eq-eqb _ _ (c .if2 .taken))))
 
 returns-3 : tie.Need-returns-3
 returns-3 c =
-    let after-leads = c .before .before .before .before in
-    sym (holds _ _ (sym (after-leads .leads .ensures) ∙ not-false _ (c .before .before .before .if1 .left))
-    ∙ holds _ _ (block-other _ (c .before .before .if2 .left)) ∙ fails _ (omega tests))
+    let other = c .before .before in
+    let led = other .before in
+    passes _ _ (sym (led .before .leads .ensures) ∙ not-false _ (led .if1 .left))
+    (passes _ _ (ap not (ne-eqb _ _ (other .if2 .left))) (stops _ (omega tests)))
 
 returns-4 : tie.Need-returns-4
 returns-4 c =
-    let after-if2 = c .before .before .before .before .before in
-    sym (holds _ _ (sym (after-if2 .before .before .leads .ensures) ∙ not-false _ (after-if2 .before .if1 .left))
-    ∙ holds _ _ (block-other _ (after-if2 .if2 .left)) ∙ holds _ _ (omega tests) ∙ fails _ (omega tests))
+    let other = c .before .before .before .before .before in
+    let led = other .before in
+    passes _ _ (sym (led .before .leads .ensures) ∙ not-false _ (led .if1 .left))
+    (passes _ _ (ap not (ne-eqb _ _ (other .if2 .left))) (passes _ _ (omega tests) (stops _ (omega tests))))
 
 returns-5 : tie.Need-returns-5
 returns-5 c =
-    let after-if2 = c .before .before .before .before .before .before .before in
-    sym (holds _ _ (sym (after-if2 .before .before .leads .ensures) ∙ not-false _ (after-if2 .before .if1 .left))
-    ∙ holds _ _ (block-other _ (after-if2 .if2 .left)) ∙ holds _ _ (omega tests) ∙ holds _ _ (omega tests)
-    ∙ fails _ (omega tests))
+    let other = c .before .before .before .before .before .before .before in
+    let led = other .before in
+    passes _ _ (sym (led .before .leads .ensures) ∙ not-false _ (led .if1 .left))
+    (passes _ _ (ap not (ne-eqb _ _ (other .if2 .left)))
+    (passes _ _ (omega tests) (passes _ _ (omega tests) (stops _ (omega tests)))))
 
 returns-6 : tie.Need-returns-6
 returns-6 c =
-    let after-if2 = c .before .before .before .before .before .before .before .before .before .before in
-    sym (holds _ _ (sym (after-if2 .before .before .leads .ensures) ∙ not-false _ (after-if2 .before .if1 .left))
-    ∙ holds _ _ (block-other _ (after-if2 .if2 .left)) ∙ holds _ _ (omega tests) ∙ holds _ _ (omega tests)
-    ∙ holds _ _ (omega tests) ∙ fails _ (omega tests))
+    let other = c .before .before .before .before .before .before .before .before .before .before in
+    let led = other .before in
+    passes _ _ (sym (led .before .leads .ensures) ∙ not-false _ (led .if1 .left))
+    (passes _ _ (ap not (ne-eqb _ _ (other .if2 .left)))
+    (passes _ _ (omega tests) (passes _ _ (omega tests) (passes _ _ (omega tests) (stops _ (omega tests))))))
 
 returns-7 : tie.Need-returns-7
 returns-7 c =
-    let after-if2 = c .before .before .before .before .before .before .before .before .before .before in
-    last _ (omega tests) ∙ sym
-    (holds _ _ (sym (after-if2 .before .before .leads .ensures) ∙ not-false _ (after-if2 .before .if1 .left))
-    ∙ holds _ _ (block-other _ (after-if2 .if2 .left)) ∙ holds _ _ (omega tests) ∙ holds _ _ (omega tests)
-    ∙ holds _ _ (omega tests))
+    let other = c .before .before .before .before .before .before .before .before .before .before in
+    let led = other .before in
+    passes _ _ (sym (led .before .leads .ensures) ∙ not-false _ (led .if1 .left))
+    (passes _ _ (ap not (ne-eqb _ _ (other .if2 .left)))
+    (passes _ _ (omega tests) (passes _ _ (omega tests) (passes _ _ (omega tests) (last _ (omega tests))))))
 
 pub proposal-refusal-spec : {M : Type 1} → statement M
 proposal-refusal-spec =

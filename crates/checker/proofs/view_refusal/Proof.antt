@@ -1,32 +1,30 @@
-use mathlib.Core.Path.{sym, _∙_}
 use Rattle.protocol.proofs.Tests.{tests}
-use Rattle.protocol.proofs.Needs.{fails, holds}
 use Rattle.checks.proofs.Ready.{last}
+use Rattle.checks.proofs.Ends.{stops, passes}
 use Rattle.checker.proofs.view_refusal.Statement.{statement}
 use Rattle.checker.proofs.view_refusal.Tie as tie
 
 returns : tie.Need-returns
-returns c = sym (fails _ (omega tests))
+returns c = stops _ (omega tests)
 
 returns-2 : tie.Need-returns-2
-returns-2 c = sym (holds _ _ (omega tests) ∙ fails _ (omega tests))
+returns-2 c = passes _ _ (omega tests) (stops _ (omega tests))
 
 returns-3 : tie.Need-returns-3
-returns-3 c = sym (holds _ _ (omega tests) ∙ holds _ _ (omega tests) ∙ fails _ (omega tests))
+returns-3 c = passes _ _ (omega tests) (passes _ _ (omega tests) (stops _ (omega tests)))
 
 returns-4 : tie.Need-returns-4
-returns-4 c =
-    sym (holds _ _ (omega tests) ∙ holds _ _ (omega tests) ∙ holds _ _ (omega tests) ∙ fails _ (omega tests))
+returns-4 c = passes _ _ (omega tests) (passes _ _ (omega tests) (passes _ _ (omega tests) (stops _ (omega tests))))
 
 returns-5 : tie.Need-returns-5
 returns-5 c =
-    sym (holds _ _ (omega tests) ∙ holds _ _ (omega tests) ∙ holds _ _ (omega tests) ∙ holds _ _ (omega tests)
-    ∙ fails _ (omega tests))
+    passes _ _ (omega tests)
+    (passes _ _ (omega tests) (passes _ _ (omega tests) (passes _ _ (omega tests) (stops _ (omega tests)))))
 
 returns-6 : tie.Need-returns-6
 returns-6 c =
-    last _ (omega tests) ∙ sym
-    (holds _ _ (omega tests) ∙ holds _ _ (omega tests) ∙ holds _ _ (omega tests) ∙ holds _ _ (omega tests))
+    passes _ _ (omega tests)
+    (passes _ _ (omega tests) (passes _ _ (omega tests) (passes _ _ (omega tests) (last _ (omega tests)))))
 
 pub view-refusal-spec : {M : Type 1} → statement M
 view-refusal-spec = tie.close

@@ -28,7 +28,9 @@ loop-less c = omega (arith, c .before .before .before .before .loop-test .taken)
 
 loop-again : tie.Need-loop-again Inv-loop μ-loop
 unfolding freshRows
-loop-again c = (omega arith, rw (add-one, ← (c .before .before .before .before .before .loop .inv .1)) (c .before .before .fresh-row .ensures), omega (arith, c .before .table .given, c .before .before .before .before .before .loop .inv .2))
+loop-again c =
+    let inv = c .before .before .before .before .before .loop .inv in
+    (omega arith, rw (add-one, ← (inv .1)) (c .before .before .fresh-row .ensures), omega (arith, c .before .table .given, inv .2))
 
 same-length : tie.Need-same-length Inv-loop μ-loop
 same-length c = c .before .loop .inv .2

@@ -4,6 +4,7 @@ use borrow.Author.Tests.{not-true, not-false}
 use Rattle.protocol.specs.Calls.{recover as recoverRule}
 use Rattle.checks.proofs.Ready.{stopped}
 use Rattle.checks.proofs.Ends.{refuses, list-by, row-within, all-listed, some-there, greatest-there}
+use Rattle.records.proofs.Reading.{replica-read, certificate-read}
 use Rattle.recovery.proofs.Recovering.{of-view-fits, recover-live, recover-none, recover-short, recover-accepted}
 use Rattle.recovery.proofs.recover.Statement.{statement}
 use Rattle.recovery.proofs.recover.Tie as tie
@@ -23,9 +24,8 @@ returns-2 : tie.Need-returns-2
 returns-2 c =
     let r = c .before .before .before in
     let ok = r .before .before in
-    let first = ok .before in
-    recover-live _ _ _ (first .list-refusal .ensures) (ok .if1 .left) _ (r .replica-in .ensures)
-    (c .before .if2 .taken) (c .refused2 .ensures)
+    recover-live _ _ _ (ok .before .list-refusal .ensures) (ok .if1 .left)
+    (rw (replica-read (r .replica-in .ensures)) at (c .before .if2 .taken)) (c .refused2 .ensures)
 
 is-reply-quorum-requires : tie.Need-is-reply-quorum-requires
 is-reply-quorum-requires c κs =
@@ -40,9 +40,9 @@ returns-3 c =
     let waits = tested .before .before in
     let r = waits .before .before in
     let ok = r .before .before in
-    let first = ok .before in
-    recover-none _ _ _ (first .list-refusal .ensures) (ok .if1 .left) _ (r .replica-in .ensures) (waits .if2 .left)
-    (tested .is-reply-quorum .ensures) (not-true _ (none .if3 .taken)) (c .refused3 .ensures)
+    let read = replica-read (r .replica-in .ensures) in
+    recover-none _ _ _ (ok .before .list-refusal .ensures) (ok .if1 .left) (rw read at (waits .if2 .left))
+    (rw read at (tested .is-reply-quorum .ensures)) (not-true _ (none .if3 .taken)) (c .refused3 .ensures)
 
 greatest-requires : tie.Need-greatest-requires
 greatest-requires c κs =
@@ -60,27 +60,26 @@ certificate-in-requires c κs =
 
 add-larger : tie.Need-add-larger
 add-larger c =
-    let read = c .before in
-    let is = read .before in
+    let is = c .before .before in
     let ok = is .before .before .before .before .before .before .before .before .before in
-    let first = ok .before in
-    let w = list-by _ _ _ (first .list-refusal .ensures) (ok .if1 .left) in
-    record { fits = of-view-fits _ _ _ w _ (is .greatest .ensures) _ (read .certificate-in .ensures) }
+    let w = list-by _ _ _ (ok .before .list-refusal .ensures) (ok .if1 .left) in
+    rw (certificate-read (c .before .certificate-in .ensures)) (record { fits = of-view-fits _ _ _ w _ (is .greatest .ensures) })
 
 returns-4 : tie.Need-returns-4
 returns-4 c =
     let next = c .before .before .before in
-    let read = next .before .before in
-    let is = read .before in
+    let best = next .before .before in
+    let is = best .before in
     let yes = is .before .before in
     let tested = yes .before in
     let waits = tested .before .before in
     let r = waits .before .before in
     let ok = r .before .before in
-    let first = ok .before in
-    recover-short _ _ _ (first .list-refusal .ensures) (ok .if1 .left) _ (r .replica-in .ensures) (waits .if2 .left)
-    (tested .is-reply-quorum .ensures) (not-false _ (yes .if3 .left)) _ (read .certificate-in .ensures ∙ is .greatest .ensures .is)
-    (next .larger .ensures) (c .before .if4 .taken) (c .refused4 .ensures)
+    let read = replica-read (r .replica-in .ensures) in
+    let greatest = certificate-read (best .certificate-in .ensures ∙ is .greatest .ensures .is) in
+    recover-short _ _ _ (ok .before .list-refusal .ensures) (ok .if1 .left) (rw read at (waits .if2 .left))
+    (rw read at (tested .is-reply-quorum .ensures)) (not-false _ (yes .if3 .left))
+    (rw (read, greatest) at (next .larger .ensures)) (rw read at (c .before .if4 .taken)) (c .refused4 .ensures)
 
 restore-requires : tie.Need-restore-requires
 restore-requires c κs =
@@ -94,17 +93,19 @@ returns-5 c =
     let written = c .before .before .before in
     let fits = written .before .before in
     let next = fits .before .before in
-    let read = next .before .before in
-    let is = read .before in
+    let best = next .before .before in
+    let is = best .before in
     let yes = is .before .before in
     let tested = yes .before in
     let waits = tested .before .before in
     let r = waits .before .before in
     let ok = r .before .before in
-    let first = ok .before in
-    recover-accepted _ _ _ (first .list-refusal .ensures) (ok .if1 .left) _ (r .replica-in .ensures) (waits .if2 .left)
-    (tested .is-reply-quorum .ensures) (not-false _ (yes .if3 .left)) _ (read .certificate-in .ensures ∙ is .greatest .ensures .is)
-    (next .larger .ensures) (fits .if4 .left) (c .accepted .ensures) (written .restore .ensures)
+    let read = replica-read (r .replica-in .ensures) in
+    let greatest = certificate-read (best .certificate-in .ensures ∙ is .greatest .ensures .is) in
+    recover-accepted _ _ _ (ok .before .list-refusal .ensures) (ok .if1 .left) (rw read at (waits .if2 .left))
+    (rw read at (tested .is-reply-quorum .ensures)) (not-false _ (yes .if3 .left))
+    (rw (read, greatest) at (next .larger .ensures)) (rw read at (fits .if4 .left)) (rw greatest at (c .accepted .ensures))
+    (rw greatest at (written .restore .ensures))
 
 pub recover-spec : {M : Type 1} → statement M
 recover-spec =

@@ -2,6 +2,7 @@ use native.Mathlib.Omega.{arith}
 use borrow.Author.Needs.{needs}
 use Rattle.protocol.specs.Calls.{reboot as rebootRule}
 use Rattle.checks.proofs.Ends.{refuses, ready-by, row-within}
+use Rattle.records.proofs.Reading.{replica-read}
 use Rattle.restart.proofs.Reserving.{limit-fits}
 use Rattle.restart.proofs.Rebooting.{boot-fits, reboot-retires, reboot-restarts}
 use Rattle.restart.proofs.reboot.Statement.{statement}
@@ -20,18 +21,16 @@ add-boot : tie.Need-add-boot
 add-boot c =
     let r = c .before in
     let ok = r .before .before in
-    let first = ok .before in
-    let w = ready-by _ _ (first .replica-refusal .ensures) (ok .if1 .left) in
-    record { fits = boot-fits _ _ _ w (r .replica-in .ensures) }
+    let w = ready-by _ _ (ok .before .replica-refusal .ensures) (ok .if1 .left) in
+    rw (replica-read (r .replica-in .ensures)) (record { fits = boot-fits _ _ w })
 
 add-limit : tie.Need-add-limit
 add-limit c =
     let step = c .before in
     let r = step .before .before in
     let ok = r .before .before in
-    let first = ok .before in
-    let w = ready-by _ _ (first .replica-refusal .ensures) (ok .if1 .left) in
-    record { fits = limit-fits _ _ _ _ w (r .replica-in .ensures) (step .counter-step .ensures) }
+    let w = ready-by _ _ (ok .before .replica-refusal .ensures) (ok .if1 .left) in
+    rw (replica-read (r .replica-in .ensures)) (record { fits = limit-fits _ _ _ w (step .counter-step .ensures _) })
 
 set-replica-word-requires : tie.Need-set-replica-word-requires
 set-replica-word-requires c κs =
@@ -47,13 +46,12 @@ returns-2 c =
     let step = tested .before .before in
     let r = step .before .before in
     let ok = r .before .before in
-    let first = ok .before in
-    reboot-retires _ _ (first .replica-refusal .ensures) (ok .if1 .left) _ (r .replica-in .ensures)
-    (step .counter-step .ensures) (tested .retires .ensures) (is .if2 .taken) (c .accepted .ensures)
-    (written .set-replica-word .ensures)
+    let read = replica-read (r .replica-in .ensures) in
+    reboot-retires _ _ (ok .before .replica-refusal .ensures) (ok .if1 .left) (rw read at (step .counter-step .ensures))
+    (rw read at (tested .retires .ensures)) (is .if2 .taken) (rw read at (c .accepted .ensures)) (written .set-replica-word .ensures)
 
-restart-requires : tie.Need-restart-requires
-restart-requires c κs =
+start-replica-requires : tie.Need-start-replica-requires
+start-replica-requires c κs =
     let ok = c .before .before .before .before .before .before .before .before in
     let first = ok .before in
     row-within _ _ (ready-by _ _ (first .replica-refusal .ensures) (ok .if1 .left))
@@ -66,10 +64,9 @@ returns-3 c =
     let step = tested .before .before in
     let r = step .before .before in
     let ok = r .before .before in
-    let first = ok .before in
-    reboot-restarts _ _ (first .replica-refusal .ensures) (ok .if1 .left) _ (r .replica-in .ensures)
-    (step .counter-step .ensures) (tested .retires .ensures) (is .if2 .left) (c .accepted2 .ensures)
-    (written .restart .ensures)
+    let read = replica-read (r .replica-in .ensures) in
+    reboot-restarts _ _ (ok .before .replica-refusal .ensures) (ok .if1 .left) (rw read at (step .counter-step .ensures))
+    (rw read at (tested .retires .ensures)) (is .if2 .left) (rw read at (c .accepted2 .ensures)) (rw read at (written .start-replica .ensures))
 
 pub reboot-spec : {M : Type 1} → statement M
 reboot-spec =
@@ -77,5 +74,5 @@ reboot-spec =
     (tie.spec (λ c κs. search needs) (λ c κs. search needs) (λ c. search needs) (λ c. search needs) (λ c.
     search needs) returns replica-in-requires add-boot (λ c κs. search needs) add-limit (λ c κs. search needs)
     set-replica-word-requires (λ c κs. search needs) (λ c. search needs) (λ c. search needs) (λ c. search
-    needs) returns-2 restart-requires (λ c κs. search needs) (λ c. search needs) (λ c. search needs) (λ c.
+    needs) returns-2 start-replica-requires (λ c κs. search needs) (λ c. search needs) (λ c. search needs) (λ c.
     search needs) returns-3)

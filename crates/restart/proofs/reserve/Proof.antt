@@ -3,6 +3,7 @@ use borrow.Author.Needs.{needs}
 use Rattle.protocol.specs.Calls.{reserve as reserveRule}
 use Rattle.checks.proofs.Ready.{stopped}
 use Rattle.checks.proofs.Ends.{refuses, ready-by, row-within}
+use Rattle.records.proofs.Reading.{replica-read}
 use Rattle.restart.proofs.Reserving.{limit-fits, reserve-refused, reserve-accepted}
 use Rattle.restart.proofs.reserve.Statement.{statement}
 use Rattle.restart.proofs.reserve.Tie as tie
@@ -22,9 +23,8 @@ add-limit c =
     let step = c .before in
     let r = step .before in
     let ok = r .before .before in
-    let first = ok .before in
-    let w = ready-by _ _ (first .replica-refusal .ensures) (ok .if1 .left) in
-    record { fits = limit-fits _ _ _ _ w (r .replica-in .ensures) (step .counter-step .ensures) }
+    let w = ready-by _ _ (ok .before .replica-refusal .ensures) (ok .if1 .left) in
+    rw (replica-read (r .replica-in .ensures)) (record { fits = limit-fits _ _ _ w (step .counter-step .ensures _) })
 
 returns-2 : tie.Need-returns-2
 returns-2 c =
@@ -32,9 +32,9 @@ returns-2 c =
     let step = tests .before .before in
     let r = step .before in
     let ok = r .before .before in
-    let first = ok .before in
-    reserve-refused _ _ (first .replica-refusal .ensures) (ok .if1 .left) _ (r .replica-in .ensures)
-    (step .counter-step .ensures) (tests .reserve-refusal .ensures) (c .refused2 .ensures) (c .before .if2 .taken)
+    let read = replica-read (r .replica-in .ensures) in
+    reserve-refused _ _ (ok .before .replica-refusal .ensures) (ok .if1 .left) (rw read at (step .counter-step .ensures))
+    (rw read at (tests .reserve-refusal .ensures)) (c .refused2 .ensures) (c .before .if2 .taken)
 
 set-replica-word-requires : tie.Need-set-replica-word-requires
 set-replica-word-requires c κs =
@@ -50,10 +50,10 @@ returns-3 c =
     let step = tests .before .before in
     let r = step .before in
     let ok = r .before .before in
-    let first = ok .before in
-    reserve-accepted _ _ (first .replica-refusal .ensures) (ok .if1 .left) _ (r .replica-in .ensures)
-    (step .counter-step .ensures) (tests .reserve-refusal .ensures) (c .accepted .ensures) (pass .if2 .left)
-    (written .set-replica-word .ensures)
+    let read = replica-read (r .replica-in .ensures) in
+    reserve-accepted _ _ (ok .before .replica-refusal .ensures) (ok .if1 .left) (rw read at (step .counter-step .ensures))
+    (rw read at (tests .reserve-refusal .ensures)) (rw read at (c .accepted .ensures)) (pass .if2 .left)
+    (rw read at (written .set-replica-word .ensures))
 
 pub reserve-spec : {M : Type 1} → statement M
 reserve-spec =

@@ -30,7 +30,8 @@ module _ (m : Memory) (i : ℕ) (list : List ℕ) where
   accumulate-ready e z = list-by m i list (sym (first-pass (listNeeds m i list) _ (sym e ∙ z))) refl
 
   pub accumulating : let cs = certificatesOf m list in
-      Issues m (accumulate m i list) (accumulateNeeds m i list) [] i [] (accOf i (firstOf cs .view) (greatest cs .block) (greatest cs .ofView))
+      Issues m (accumulate m i list) (accumulateNeeds m i list) [] i []
+      (accOf i (firstOf cs .view) (greatest cs .block) (greatest cs .ofView))
   unfolding accumulate accumulateNeeds
   accumulating = record { needs = _; is = refl; numbered = refl; first-numbered = refl; same-refusal = refl }
 

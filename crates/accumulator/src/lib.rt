@@ -1,4 +1,4 @@
-// The two calls that turn a quorum of certificates into something new: accumulate and decide.
+// Accumulate makes an ACC of a quorum of NEWVIEWs; decide makes a decision of a quorum of COMMITs.
 ghost use mathlib.Core.Path.{_≡_};
 ghost use mathlib.Core.Bool.{cond};
 ghost use mathlib.Core.List.{[], _∷_};
@@ -30,7 +30,9 @@ use protocol::WRONG_STATUS;
 
 // The refusals of accumulate, but for the last: a place in the log.
 fn accumulate_refusal(table: &[u32], log: &[u32], blocks: &[u32], replica: u32, list: &[u32]) -> u32
-    ensures { λ r. ⌜ r ≡ firstRefusal (accumulateNeeds (memory (now (table .entry)) (now (log .entry)) (now (blocks .entry))) replica (now (list .entry))) ⌝ }
+    ensures { λ r. ⌜ r
+        ≡ firstRefusal (accumulateNeeds (memory (now (table .entry)) (now (log .entry)) (now (blocks .entry))) replica
+        (now (list .entry))) ⌝ }
 {
     let refusal = checks::list_refusal(table, log, blocks, replica, list);
     if refusal != 0 {
@@ -54,7 +56,8 @@ pub fn accumulate(
     replica: u32,
     list: &[u32],
 ) -> Answer
-    ensures { λ r. ⌜ left r (now (table .exit)) (now (log .exit)) (now (blocks .exit)) ≡ outcomeBy (λ m. accumulateRule m replica (now (list .entry))) (now (table .entry)) (now (log .entry)) (now (blocks .entry)) ⌝ }
+    ensures { λ r. ⌜ left r (now (table .exit)) (now (log .exit)) (now (blocks .exit))
+        ≡ outcomeBy (λ m. accumulateRule m replica (now (list .entry))) (now (table .entry)) (now (log .entry)) (now (blocks .entry)) ⌝ }
 {
     let refusal = accumulate_refusal(table, log, blocks, replica, list);
     if refusal != 0 {
@@ -79,7 +82,9 @@ pub fn accumulate(
 
 // The refusals of decide.
 fn decide_refusal(table: &[u32], log: &[u32], blocks: &[u32], replica: u32, list: &[u32]) -> u32
-    ensures { λ r. ⌜ r ≡ firstRefusal (decideRule (memory (now (table .entry)) (now (log .entry)) (now (blocks .entry))) replica (now (list .entry)) .needs) ⌝ }
+    ensures { λ r. ⌜ r
+        ≡ firstRefusal (decideRule (memory (now (table .entry)) (now (log .entry)) (now (blocks .entry))) replica (now (list .entry))
+        .needs) ⌝ }
 {
     let refusal = checks::list_refusal(table, log, blocks, replica, list);
     if refusal != 0 {
@@ -97,7 +102,10 @@ fn decide_refusal(table: &[u32], log: &[u32], blocks: &[u32], replica: u32, list
 // Sets the decided words of a replica, where the view is above its decided view.
 fn set_decided(table: &mut [u32], replica: u32, view: u32, block: u32)
     requires { ⌜ rowAt replica + replicaWords ≤ length (now table) ⌝ }
-    ensures { λ _. ⌜ now (table .exit) ≡ assign (now (table .entry)) (rowAt replica) (cond (ltb (getD (now (table .entry)) (rowAt replica + decidedViewAt) 0) view) (decidedViewAt becomes view ∷ decidedBlockAt becomes block ∷ []) []) ⌝ }
+    ensures { λ _. ⌜ now (table .exit)
+        ≡ assign (now (table .entry)) (rowAt replica)
+        (cond (ltb (getD (now (table .entry)) (rowAt replica + decidedViewAt) 0) view)
+        (decidedViewAt becomes view ∷ decidedBlockAt becomes block ∷ []) []) ⌝ }
 {
     if replica_word(table, replica, DECIDED_VIEW_AT) < view {
         set_replica_word(table, replica, DECIDED_VIEW_AT, view);
@@ -113,7 +121,8 @@ pub fn decide(
     replica: u32,
     list: &[u32],
 ) -> Answer
-    ensures { λ r. ⌜ left r (now (table .exit)) (now (log .exit)) (now (blocks .exit)) ≡ outcomeBy (λ m. decideRule m replica (now (list .entry))) (now (table .entry)) (now (log .entry)) (now (blocks .entry)) ⌝ }
+    ensures { λ r. ⌜ left r (now (table .exit)) (now (log .exit)) (now (blocks .exit))
+        ≡ outcomeBy (λ m. decideRule m replica (now (list .entry))) (now (table .entry)) (now (log .entry)) (now (blocks .entry)) ⌝ }
 {
     let refusal = decide_refusal(table, log, blocks, replica, list);
     if refusal != 0 {

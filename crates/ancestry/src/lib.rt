@@ -6,7 +6,7 @@ ghost use Rattle.ancestry.specs.Lineage.{Lineage, parentIn};
 // The block that has only itself in its line.
 const ROOT: u32 = 0;
 
-// Whether block a is in the line of block b. The numbers fall on the way up, so past a there is nothing to find.
+// Whether block a is in the line of block b. The numbers fall on the way up, so once b is not above a, only b itself can be a.
 pub fn is_ancestor(blocks: &[u32], a: u32, b: u32) -> bool
     requires { ⌜ Lineage (now blocks) b ⌝ }
     ensures { λ r. ⌜ r ≡ isAncestorBy (parentIn (now (blocks .entry))) a b ⌝ }

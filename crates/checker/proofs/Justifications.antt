@@ -20,7 +20,7 @@ use Rattle.layout.proofs.Within.{certificate-bounds}
 use Rattle.certificates.specs.declared.Certificate as code
 use Rattle.records.proofs.Reading.{certificateFrom}
 use Rattle.quorum.specs.Lists.{certificateIn, certificatesIn}
-use Rattle.quorum.proofs.Accepted.{listed, some-listed, every-at, commits}
+use Rattle.quorum.proofs.Accepted.{listed, some-listed, every-at, commit-at}
 use Rattle.checks.specs.Needs.{numberNeeds, listNeeds}
 use Rattle.checks.proofs.Ready.{Ready}
 use Rattle.checks.proofs.Ends.{stops, passes}
@@ -142,7 +142,7 @@ module _ (log list : List ℕ) (i : ℕ) {j : Justification} where
 pub has-next : (log list : List ℕ) (view block : ℕ) → CommitsIn log list
     → isCommitQuorum view block (certificatesIn log list) ≡ true → view ≤ ceiling
 has-next log list view block h e =
-    let q = commits (memory [] log []) list view block e .all 0 (h .some) in
+    let q = commit-at (memory [] log []) list view block e 0 (h .some) in
     let v = h .view in
     omega (arith, q, v)
 

@@ -76,6 +76,7 @@ fn of_kind(kind: u32, signer: u32, view: u32, block: u32, of_view: u32) -> Certi
 
 // ---- prepare
 
+// The refusals of prepare after those of the justification.
 fn proposal_refusal(
     f: u32,
     replica: u32,
@@ -123,6 +124,7 @@ fn propose(table: &mut [u32], log: &mut [u32], replica: u32, view: u32, block: u
     accepted(number, 0)
 }
 
+// A leader proposes a block, once in a view.
 pub fn prepare(
     table: &mut [u32],
     log: &mut [u32],
@@ -169,6 +171,7 @@ pub fn prepare(
 
 // ---- store
 
+// The refusals of store after the shared ones.
 fn store_refusal(f: u32, r: Replica, p: Certificate) -> u32
     requires { ⌜ f ≤ maxFaultBound ⌝ }
     ensures { λ n. ⌜ n ≡ firstRefusal (storeTests f (replicaOf r) (certificateOf p)) ⌝ }
@@ -222,6 +225,7 @@ fn commit(
     accepted(number, 0)
 }
 
+// A replica stores a proposed block, and commits to it.
 pub fn store(
     table: &mut [u32],
     log: &mut [u32],
@@ -255,6 +259,7 @@ pub fn store(
 
 // ---- view
 
+// The refusals of view after the shared ones.
 fn view_refusal(r: Replica, view: u32) -> u32
     ensures { λ n. ⌜ n ≡ firstRefusal (viewTests (replicaOf r) view) ⌝ }
 {
@@ -306,6 +311,7 @@ fn enter(
     accepted(number, 0)
 }
 
+// A replica enters a view, and tells what it has stored.
 pub fn view(
     table: &mut [u32],
     log: &mut [u32],

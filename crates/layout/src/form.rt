@@ -1,4 +1,4 @@
-// The form that every call but opening tests (document 01, "Memory", the paragraph "Form"). It is most of a call's time.
+// The form that every call but opening tests (document 01, "Memory", the paragraph "Form"). In a full memory it is most of a call's time.
 use crate::*;
 ghost use mathlib.Core.Path.{_≡_};
 ghost use Prim.Native.Nat.{_+_, _-_, _/_, _≤_, _<_};
@@ -114,7 +114,8 @@ fn certificate_formed(log: &[u32], number: usize, replicas: u32, added: u32) -> 
         & (log[at + SUBJECT_BOOT_AT] <= CEILING)
 }
 
-// Four certificates, one after the other. One caller, and tests joined by `&` alone: so it is inlined, and vectors compare.
+// Four certificates, one after the other. It has one caller, and tests joined by `&` alone, so the compiler inlines it and uses vector
+// instructions.
 fn four_formed(log: &[u32], number: usize, replicas: u32, added: u32) -> bool
     requires { ⌜ certificateAt (number + 4) ≤ length (now log) ⌝ }
     ensures { λ r. ⌜ r ≡ fourOk (certificateOk (now (log .entry)) replicas added) number ⌝ }
@@ -125,7 +126,7 @@ fn four_formed(log: &[u32], number: usize, replicas: u32, added: u32) -> bool
         & certificate_formed(log, number + 3, replicas, added)
 }
 
-// Every issued certificate, up to the first four that fail.
+// Every issued certificate, up to the first group of four with one that fails.
 fn certificates_formed(log: &[u32], count: u32, replicas: u32, added: u32) -> bool
     requires { ⌜ certificateAt count ≤ length (now log) ⌝ }
     ensures { λ r. ⌜ r ≡ allBelow count (certificateOk (now (log .entry)) replicas added) ⌝ }
@@ -148,7 +149,7 @@ fn certificates_formed(log: &[u32], count: u32, replicas: u32, added: u32) -> bo
 }
 
 // The number of replicas by the table's length. From a limit 2f+1 the compiler makes a test against 2f, of another form than the
-// other words' tests, and then uses vectors for fewer of them (measured: 4.2 µs for the whole form instead of 2.5).
+// other words' tests, and then uses vectors for fewer of them.
 fn row_count(table: &[u32]) -> u32
     requires { ⌜ (rowStart ≤ length (now table)) × (length (now table) ≤ tableLength maxFaultBound) ⌝ }
     ensures { λ r. ⌜ r ≡ (length (now (table .entry)) - rowStart) / replicaWords ⌝ }

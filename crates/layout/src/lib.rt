@@ -1,5 +1,5 @@
 // The words of a ledger's memory (document 01, "Memory"): where each stands, how it is read and written, what form they have.
-// The constants have the names of protocol/specs/Memory.antt and Certificates.antt, in upper case.
+// The constants have the names of protocol/specs/Memory.antt, Certificates.antt and Form.antt, in upper case.
 ghost use mathlib.Core.Path.{_≡_};
 ghost use Prim.Native.Nat.{_+_, _≤_, _<_};
 ghost use lib.ListN.{length, getD, set};

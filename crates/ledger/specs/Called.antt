@@ -1,4 +1,5 @@
--- A call by its code, as a script line or the C interface has it: 10 and nothing changed where these are no call, and else what the call gives.
+-- A call by its code, as a script line or the C interface has it: 10 and nothing changed where these are no call, and else what the call
+-- gives.
 use Prim.Native.Nat.{ℕ}
 use mathlib.Core.Path.{_≡_}
 use mathlib.Core.List.{List}

@@ -45,7 +45,8 @@ fn fresh_rows(table: &mut [u32], replicas: u32, limit: u32)
 
 // A ledger for f, whatever the memory held.
 pub fn open_ledger(table: &mut [u32], log: &mut [u32], blocks: &mut [u32], f: u32) -> Answer
-    ensures { λ r. ⌜ left r (now (table .exit)) (now (log .exit)) (now (blocks .exit)) ≡ outcomeBy (λ m. openingRule m f) (now (table .entry)) (now (log .entry)) (now (blocks .entry)) ⌝ }
+    ensures { λ r. ⌜ left r (now (table .exit)) (now (log .exit)) (now (blocks .exit))
+        ≡ outcomeBy (λ m. openingRule m f) (now (table .entry)) (now (log .entry)) (now (blocks .entry)) ⌝ }
 {
     if layout::form::is_fault_bound(f) {
         if layout::form::lengths_fit(table, log, blocks, f) {
@@ -64,7 +65,8 @@ pub fn open_ledger(table: &mut [u32], log: &mut [u32], blocks: &mut [u32], f: u3
 
 // A block on an added one.
 pub fn block(table: &mut [u32], log: &mut [u32], blocks: &mut [u32], parent: u32) -> Answer
-    ensures { λ r. ⌜ left r (now (table .exit)) (now (log .exit)) (now (blocks .exit)) ≡ outcomeBy (λ m. blockRule m parent) (now (table .entry)) (now (log .entry)) (now (blocks .entry)) ⌝ }
+    ensures { λ r. ⌜ left r (now (table .exit)) (now (log .exit)) (now (blocks .exit))
+        ≡ outcomeBy (λ m. blockRule m parent) (now (table .entry)) (now (log .entry)) (now (blocks .entry)) ⌝ }
 {
     if layout::form::is_well_formed(table, log, blocks) {
         let count = table[BLOCK_COUNT_AT];

@@ -31,7 +31,7 @@ use protocol::WRONG_CERTIFICATE;
 use protocol::WRONG_STATUS;
 use records::Replica;
 
-// The min view rises to a view that is above it, and the flag is lowered then.
+// The lowest view rises to a view that is above it, and the flag is lowered then.
 fn raise_min_view(table: &mut [u32], replica: u32, min_view: u32, view: u32)
     requires { ⌜ rowAt replica + replicaWords ≤ length (now table) ⌝ }
     ensures { λ _. ⌜ now (table .exit) ≡ assign (now (table .entry)) (rowAt replica) (raising «min_view» view) ⌝ }
@@ -42,7 +42,7 @@ fn raise_min_view(table: &mut [u32], replica: u32, min_view: u32, view: u32)
     }
 }
 
-// Issues a certificate; the replica's min view rises to the certificate's view where that is above it. A REQ's view is the min view.
+// Issues a certificate; the replica's lowest view rises to the certificate's view where that is above it. A REQ's view is the lowest view.
 fn issue(table: &mut [u32], log: &mut [u32], replica: u32, min_view: u32, c: Certificate) -> Answer
     requires { ⌜ LogFits (now table) (now log) × (rowAt replica + replicaWords ≤ length (now table)) ⌝ }
     ensures { λ r. ⌜ ((b : List ℕ) → left r (now (table .exit)) (now (log .exit)) b
@@ -72,6 +72,7 @@ fn req(replica: u32, r: Replica) -> Certificate
     }
 }
 
+// A restarted replica asks the others.
 pub fn request(table: &mut [u32], log: &mut [u32], blocks: &mut [u32], replica: u32) -> Answer
     ensures { λ r. ⌜ left r (now (table .exit)) (now (log .exit)) (now (blocks .exit))
         ≡ outcomeBy (λ m. requestRule m replica) (now (table .entry)) (now (log .entry)) (now (blocks .entry)) ⌝ }
@@ -87,7 +88,7 @@ pub fn request(table: &mut [u32], log: &mut [u32], blocks: &mut [u32], replica: 
     issue(table, log, replica, r.min_view, req(replica, r))
 }
 
-// A replica may answer this certificate.
+// The refusals of reply after the shared ones.
 fn reply_refusal(replica: u32, r: Replica, q: Certificate) -> u32
     ensures { λ n. ⌜ n ≡ firstRefusal (replyTests replica (replicaOf r) (certificateOf q)) ⌝ }
 {
@@ -122,6 +123,7 @@ fn reply_to(replica: u32, r: Replica, q: Certificate) -> Certificate
     }
 }
 
+// Another replica tells what it has stored, and signs no more below the view that was asked for.
 pub fn reply(
     table: &mut [u32],
     log: &mut [u32],
@@ -162,6 +164,7 @@ fn restore(table: &mut [u32], replica: u32, min_view: u32, c: Certificate)
     set_replica_word(table, replica, STORED_BLOCK_AT, c.block);
 }
 
+// A restarted replica is live again, with the stored block of greatest of-view in f+1 replies.
 pub fn recover(
     table: &mut [u32],
     log: &mut [u32],

@@ -40,7 +40,8 @@ module _ (m : Memory) (i : ℕ) {first : ℕ} (ready : first ≡ firstRefusal (r
 
     pub reboot-restarts : {a : Answer} {t : List ℕ} → b ≡ false
         → a ≡ record { number = 0; first = replica m i .boot + 1; second = replica m i .viewLimit }
-        → t ≡ assign (m .table) (rowAt i) (started recovering (replica m i .boot + 1) (replica m i .viewLimit) (replica m i .viewLimit + step))
+        → t ≡ assign (m .table) (rowAt i) (started recovering (replica m i .boot + 1) (replica m i .viewLimit)
+        (replica m i .viewLimit + step))
         → record { answer = a; memory = memory t (m .log) (m .blocks) } ≡ follow m (reboot m i)
     unfolding reboot update
     reboot-restarts is e w =

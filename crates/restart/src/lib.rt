@@ -24,6 +24,7 @@ fn retires(r: Replica, boot: u32, limit: u32) -> bool
     (r.status == RETIRED) | (CEILING < boot) | (CEILING < limit)
 }
 
+// A power cut: the replica starts again above every view in which it can have signed, or is retired.
 pub fn reboot(table: &mut [u32], log: &mut [u32], blocks: &mut [u32], replica: u32) -> Answer
     ensures { λ r. ⌜ left r (now (table .exit)) (now (log .exit)) (now (blocks .exit))
         ≡ outcomeBy (λ m. rebootRule m replica) (now (table .entry)) (now (log .entry)) (now (blocks .entry)) ⌝ }
@@ -43,7 +44,7 @@ pub fn reboot(table: &mut [u32], log: &mut [u32], blocks: &mut [u32], replica: u
     accepted(boot, r.view_limit)
 }
 
-// A replica may have this view limit next.
+// The refusals of reserve after the shared ones.
 fn reserve_refusal(r: Replica, limit: u32) -> u32
     ensures { λ n. ⌜ n ≡ firstRefusal (reserveTests (replicaOf r) limit) ⌝ }
 {
@@ -56,6 +57,7 @@ fn reserve_refusal(r: Replica, limit: u32) -> u32
     0
 }
 
+// The counter moves, and with it the view limit.
 pub fn reserve(table: &mut [u32], log: &mut [u32], blocks: &mut [u32], replica: u32) -> Answer
     ensures { λ r. ⌜ left r (now (table .exit)) (now (log .exit)) (now (blocks .exit))
         ≡ outcomeBy (λ m. reserveRule m replica) (now (table .entry)) (now (log .entry)) (now (blocks .entry)) ⌝ }

@@ -1,11 +1,11 @@
 -- A line that is answered.
-use Prim.Native.Nat.{ℕ, suc, _+_, _-_, _≤_, _<_}
+use Prim.Native.Nat.{ℕ, suc, _+_, _-_, _≤_}
 use mathlib.Core.Path.{_≡_, refl, sym, ap, subst, _∙_}
-use mathlib.Core.Bool.{true, false}
+use mathlib.Core.Bool.{true}
 use mathlib.Core.List.{List, [], _∷_, _++_}
 use native.Mathlib.Omega.{arith}
 use lib.Dec.{ltb}
-use lib.ListN.{length, take, drop, length-take}
+use lib.ListN.{length, take, drop}
 use lib.Seq.{length-take-le}
 use Rattle.protocol.specs.declared.Answer.{Answer}
 use Rattle.protocol.proofs.Tests.{tests, by-test}
@@ -16,7 +16,7 @@ use Rattle.script.proofs.Theorems.{answers-printable}
 use Rattle.stream.specs.declared.Progress.{Progress}
 use Rattle.stream.specs.Output.{maxLines}
 use Rattle.stream.specs.Stream.{Stream, endLine, byteIn, fed, finished}
-use Rattle.stream.specs.Progress.{streamOf, withHeld, begun, Ready, OneMore, Within}
+use Rattle.stream.specs.Progress.{streamOf, withHeld, begun}
 use Rattle.stream.specs.Holding.{lineSoFar, Held}
 use Rattle.stream.proofs.Fed.{line-ended}
 

@@ -1,16 +1,16 @@
 -- A chunk, line after line.
 use Prim.Native.Nat.{ℕ, suc, _+_, _-_, _*_, _≤_, _<_}
-use mathlib.Core.Path.{_≡_, refl, sym, ap, _∙_}
+use mathlib.Core.Path.{_≡_, refl, sym}
 use mathlib.Core.List.{List, _++_}
 use native.Mathlib.Omega.{arith}
-use lib.ListN.{length, take, drop, length-drop, length-take, drop-of-length-le}
+use lib.ListN.{length, take, drop, length-drop, drop-of-length-le}
 use lib.Seq.{drop-drop, length-take-le}
 use Rattle.script.specs.Session.{maxTable}
 use Rattle.script.specs.Text.{answerBytes}
 use Rattle.stream.specs.declared.Progress.{Progress}
 use Rattle.stream.specs.Output.{maxLines}
 use Rattle.stream.specs.Stream.{Stream, heldPlaces, endLine, fed}
-use Rattle.stream.specs.Progress.{streamOf, withHeld, begun, Ready}
+use Rattle.stream.specs.Progress.{streamOf, withHeld, begun}
 use Rattle.stream.specs.Feeds.{feedFrom}
 use Rattle.stream.specs.Holding.{lineSoFar, Held}
 use Rattle.stream.proofs.Fed.{fed-stopped}

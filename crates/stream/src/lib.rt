@@ -2,10 +2,9 @@
 ghost use Prim.Native.Nat.{ℕ, _+_, _≤_, min};
 ghost use mathlib.Core.Path.{_≡_};
 ghost use lib.Dec.{ltb};
-ghost use lib.ListN.{length, take, drop};
+ghost use lib.ListN.{length, drop};
 ghost use mathlib.Core.List.{List};
-ghost use Rattle.script.specs.Text.{answerBytes};
-ghost use Rattle.stream.specs.Stream.{heldPlaces, endLine, fed, finished};
+ghost use Rattle.stream.specs.Stream.{endLine, fed, finished};
 ghost use Rattle.stream.specs.Progress.{streamOf, withHeld, begun, Room, OneMore, Ready, Within};
 ghost use Rattle.stream.specs.Holding.{Holdable, lineSoFar, Held};
 ghost use Rattle.stream.specs.Feeds.{feedFrom, feedStep};

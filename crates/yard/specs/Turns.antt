@@ -2,7 +2,6 @@
 use Prim.Native.Nat.{ℕ, _*_, _≤_}
 use mathlib.Core.Path.{_≡_}
 use mathlib.Core.List.{List}
-use lib.ListN.{take}
 use Rattle.script.specs.Text.{answerBytes}
 use Rattle.stream.specs.declared.Progress.{Progress}
 use Rattle.stream.specs.Stream.{Stream, heldPlaces, fed, emptied}

@@ -15,14 +15,22 @@ returns-3 : tie.Need-returns-3
 returns-3 c = not-issued _ _ _ (omega (tests, c .if3 .taken))
 
 add-place : tie.Need-add-place
-add-place c = omega (arith, c .certificate-at .ensures, c .before .before .before .shared-slice-known4 .given 0, c .before .before .before .before .before .before .before .before .before .pre)
+add-place c =
+    let at-shared-slice-known4 = c .before .before .before in
+    let start = at-shared-slice-known4 .before .before .before .before .before .before in
+    omega (arith, c .certificate-at .ensures, at-shared-slice-known4 .shared-slice-known4 .given 0, start .pre)
 
 returns-4 : tie.Need-returns-4
 returns-4 c =
-    past-log _ _ _ (c .before .before .before .before .before .before .if1 .left) (omega (tests, c .before .before .if3 .left)) (omega (arith, c .if4 .taken, c .before .certificate-at .ensures))
+    let at-if1 = c .before .before .before .before .before .before in
+    past-log _ _ _ (at-if1 .if1 .left) (omega (tests, c .before .before .if3 .left))
+    (omega (arith, c .if4 .taken, c .before .certificate-at .ensures))
 
 returns-5 : tie.Need-returns-5
-returns-5 c = rw (c .before .before .certificate-at .ensures) (claimed _ _ _ (c .before .before .before .before .before .before .before .if1 .left) (omega (tests, c .before .before .before .if3 .left)))
+returns-5 c =
+    let at-if3 = c .before .before .before in
+    let at-if1 = at-if3 .before .before .before .before in
+    rw (c .before .before .certificate-at .ensures) (claimed _ _ _ (at-if1 .if1 .left) (omega (tests, at-if3 .if3 .left)))
 
 pub claimed-word-spec : {M : Type 1} → statement M
 claimed-word-spec =

@@ -29,7 +29,11 @@ returns-4 c = rw (c .before .match .keys3) (let e = ne-eqb _ _ (c .if1 .left) in
 returns-5 : tie.Need-returns-5
 unfolding codeTable
 returns-5 c =
-    rw (c .before .before .before .before .match .keys4) (rw (c .before .is-short .ensures, c .before .before .before .claimed-word .ensures, c .before .before .claimed-word2 .ensures) at (c .coded-when3 .ensures))
+    let at-claimed-word = c .before .before .before in
+    let at-match = at-claimed-word .before in
+    let second = c .before .before .claimed-word2 .ensures in
+    rw (at-match .match .keys4)
+    (rw (c .before .is-short .ensures, at-claimed-word .claimed-word .ensures, second) at (c .coded-when3 .ensures))
 
 returns-6 : tie.Need-returns-6
 unfolding codeTable
@@ -73,4 +77,10 @@ returns-15 c = unknown-code _ _ _ _ _ (c .match .rest)
 pub coded-call-spec : {M : Type 1} → statement M
 coded-call-spec =
     tie.close
-    (tie.spec (λ c κs. search needs) (λ c κs. search needs) (λ c κs. search needs) (λ c κs. search needs) shared-slice-read-t18 (λ c κs. search needs) (λ c κs. search needs) (λ c κs. search needs) (λ c κs. search needs) (λ c κs. search needs) (λ c κs. search needs) (λ c κs. search needs) (λ c κs. search needs) (λ c κs. search needs) (λ c κs. search needs) (λ c κs. search needs) (λ c κs. search needs) (λ c κs. search needs) (λ c κs. search needs) (λ c κs. search needs) (λ c κs. search needs) (λ c κs. search needs) (λ c κs. search needs) (λ c κs. search needs) (λ c κs. search needs) (λ c κs. search needs) (λ c κs. search needs) returns returns-2 returns-3 returns-4 returns-5 returns-6 returns-7 returns-8 returns-9 returns-10 returns-11 returns-12 returns-13 returns-14 returns-15)
+    (tie.spec (λ c κs. search needs) (λ c κs. search needs) (λ c κs. search needs) (λ c κs. search needs) shared-slice-read-t18
+    (λ c κs. search needs) (λ c κs. search needs) (λ c κs. search needs) (λ c κs. search needs) (λ c κs. search needs)
+    (λ c κs. search needs) (λ c κs. search needs) (λ c κs. search needs) (λ c κs. search needs) (λ c κs. search needs)
+    (λ c κs. search needs) (λ c κs. search needs) (λ c κs. search needs) (λ c κs. search needs) (λ c κs. search needs)
+    (λ c κs. search needs) (λ c κs. search needs) (λ c κs. search needs) (λ c κs. search needs) (λ c κs. search needs)
+    (λ c κs. search needs) (λ c κs. search needs) returns returns-2 returns-3 returns-4 returns-5 returns-6 returns-7 returns-8 returns-9
+    returns-10 returns-11 returns-12 returns-13 returns-14 returns-15)

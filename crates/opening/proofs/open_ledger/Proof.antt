@@ -44,7 +44,8 @@ fresh-rows-requires c κs =
     let count = c .before .before in
     let fits = count .before in
     let bound = fits .before .before .before .before .before in
-    let z = fitting _ _ (bound .before .is-fault-bound .ensures) (bound .if1 .taken) (fits .before .lengths-fit .ensures) (fits .if2 .taken) in
+    let z = fitting _ _ (bound .before .is-fault-bound .ensures) (bound .if1 .taken) (fits .before .lengths-fit .ensures)
+    (fits .if2 .taken) in
     simp length-set (omega (arith, z, count .replica-count .ensures))
 
 same-length : tie.Need-same-length

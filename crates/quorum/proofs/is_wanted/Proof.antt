@@ -10,7 +10,14 @@ unfolding allHold
 returns c =
     let case = c .before .before in
     let read = case .before .before in
-    simp (case .wanted .given .1, read .before .certificate-word .ensures, read .certificate-word2 .ensures, c .certificate-word3 .ensures, and-assoc, and-true)
+    simp (
+      case .wanted .given .1,
+      read .before .certificate-word .ensures,
+      read .certificate-word2 .ensures,
+      c .certificate-word3 .ensures,
+      and-assoc,
+      and-true,
+    )
 
 returns-2 : tie.Need-returns-2
 unfolding allHold
@@ -27,7 +34,16 @@ returns-3 c =
     let subject = c .before .before .certificate-word4 .ensures in
     let boot = c .before .certificate-word5 .ensures in
     let signer = c .certificate-word6 .ensures in
-    simp (case .wanted3 .given .1, read .before .certificate-word .ensures, read .certificate-word2 .ensures, subject, boot, signer, and-assoc, and-true)
+    simp (
+      case .wanted3 .given .1,
+      read .before .certificate-word .ensures,
+      read .certificate-word2 .ensures,
+      subject,
+      boot,
+      signer,
+      and-assoc,
+      and-true,
+    )
 
 pub is-wanted-spec : {M : Type 1} → statement M
 is-wanted-spec =

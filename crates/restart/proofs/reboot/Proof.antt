@@ -66,7 +66,8 @@ returns-3 c =
     let ok = r .before .before in
     let read = replica-read (r .replica-in .ensures) in
     reboot-restarts _ _ (ok .before .replica-refusal .ensures) (ok .if1 .left) (rw read at (step .counter-step .ensures))
-    (rw read at (tested .retires .ensures)) (is .if2 .left) (rw read at (c .accepted2 .ensures)) (rw read at (written .start-replica .ensures))
+    (rw read at (tested .retires .ensures)) (is .if2 .left) (rw read at (c .accepted2 .ensures))
+    (rw read at (written .start-replica .ensures))
 
 pub reboot-spec : {M : Type 1} → statement M
 reboot-spec =

@@ -3,7 +3,7 @@ use Prim.Native.Nat.{_+_}
 use native.Mathlib.Omega.{arith}
 use borrow.Author.Needs.{needs}
 use borrow.Rule.Slice.PartMut.{mid-len}
-use Rattle.field.specs.Field.{columns, Writable}
+use Rattle.field.specs.Field.{columns}
 use Rattle.script.proofs.Printing.{field-put}
 use Rattle.script.proofs.put_number.Statement.{statement}
 use Rattle.script.proofs.put_number.Tie as tie

@@ -17,7 +17,8 @@ returns c =
     let at-put-answer = c .before .before in
     let at-answer-line = at-put-answer .before .before .before .before .before .before .before .before .before in
     let start = at-answer-line .before .before .before .before .before .before .before .before .before .before in (
-      λ places. line-answered (start .args .p) _ _ _ places _ _ _ (at-answer-line .answer-line .ensures) (at-put-answer .put-answer .ensures),
+      λ places. line-answered (start .args .p) _ _ _ places _ _ _ (at-answer-line .answer-line .ensures)
+          (at-put-answer .put-answer .ensures),
       record { held = refl; pending = refl },
     )
 

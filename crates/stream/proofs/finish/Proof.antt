@@ -7,8 +7,11 @@ use Rattle.stream.proofs.finish.Tie as tie
 
 returns : tie.Need-returns
 returns c =
-    let start = c .before .before .before .before .before .before .before in
-    (nothing-held (start .args .p) _ _ _ _ _ (c .if1 .taken), record { held = start .pre .held; pending = omega (arith, start .pre .pending) })
+    let start = c .before .before .before .before .before .before .before in (
+      nothing-held (start .args .p) _ _ _ _ _ (c .if1 .taken),
+      record
+          { held = start .pre .held; pending = omega (arith, start .pre .pending) },
+    )
 
 returns-2 : tie.Need-returns-2
 returns-2 c =

@@ -1,6 +1,6 @@
 -- Between two turns all text is written. The turns run out.
 use Prim.Native.Nat.{ℕ}
-use mathlib.Core.Path.{_≡_, refl, sym, subst, _∙_}
+use mathlib.Core.Path.{_≡_, refl, sym, subst}
 use native.Mathlib.Omega.{arith}
 use lib.ListN.{length}
 use Rattle.stream.specs.declared.Progress.{Progress}
@@ -37,13 +37,20 @@ slice-aggregate-read-chunk : tie.Need-slice-aggregate-read-chunk Inv-loop μ-loo
 slice-aggregate-read-chunk c = sym (c .before .before .loop .inv .1)
 
 slice-aggregate-take-read : tie.Need-slice-aggregate-take-read Inv-loop μ-loop
-slice-aggregate-take-read c = sym (c .before .before .before .before .before .before .before .before .before .loop .inv .0)
+slice-aggregate-take-read c =
+    let looped = c .before .before .before .before .before .before .before .before .before in
+    sym (looped .loop .inv .0)
 
 slice-aggregate-take-read-2 : tie.Need-slice-aggregate-take-read-2 Inv-loop μ-loop
-slice-aggregate-take-read-2 c = sym (c .before .before .before .before .before .before .chunk2 .given)
+slice-aggregate-take-read-2 c =
+    let at-chunk2 = c .before .before .before .before .before .before in
+    sym (at-chunk2 .chunk2 .given)
 
 take-read-requires : tie.Need-take-read-requires Inv-loop μ-loop
-take-read-requires c κs = let l = c .before .before .before .before .before .before .before .before .before .before .loop in ((l .inv .0, c .before .before .before .before .before .before .chunk2 .given), l .inv .2)
+take-read-requires c κs =
+    let at-chunk2 = c .before .before .before .before .before .before in
+    let looped = at-chunk2 .before .before .before .before in
+    let l = looped .loop in ((l .inv .0, at-chunk2 .chunk2 .given), l .inv .2)
 
 returns : tie.Need-returns Inv-loop μ-loop
 returns c = tt
@@ -53,7 +60,10 @@ loop-less c = omega arith
 
 loop-again : tie.Need-loop-again Inv-loop μ-loop
 loop-again c =
-    (c .before .before .before .text2 .given, c .before .before .before .before .before .before .before .before .before .before .before .chunk2 .given, goes-on _ _ _ _ _ _ _ (c .before .next .given .1) (c .before .before .before .before .take-read .ensures))
+    let at-text2 = c .before .before .before in
+    let at-take-read = at-text2 .before in
+    let at-chunk2 = at-take-read .before .before .before .before .before .before .before in
+    (at-text2 .text2 .given, at-chunk2 .chunk2 .given, goes-on _ _ _ _ _ _ _ (c .before .next .given .1) (at-take-read .take-read .ensures))
 
 returns-2 : tie.Need-returns-2 Inv-loop μ-loop
 returns-2 c = tt

@@ -19,12 +19,17 @@ const CHUNK_BYTES: usize = 8192;
 
 const TEXT_BYTES: usize = script::ANSWER_BYTES * CHUNK_BYTES;
 
-// The words that are lent: a table for the largest f, 2,048 certificates, 1,024 blocks.
-const TABLE_WORDS: usize = layout::ROW_START + 61 * layout::REPLICA_WORDS;
+// The replicas of the largest f, and the places for certificates and blocks.
+const REPLICAS: usize = 61;
 
-const LOG_WORDS: usize = 2048 * layout::CERTIFICATE_WORDS;
+const CERTIFICATES: usize = 2048;
 
-const BLOCK_WORDS: usize = 1024;
+const BLOCKS: usize = 1024;
+
+// The words that are lent; a block has one.
+const TABLE_WORDS: usize = layout::ROW_START + REPLICAS * layout::REPLICA_WORDS;
+
+const LOG_WORDS: usize = CERTIFICATES * layout::CERTIFICATE_WORDS;
 
 // Where a read leaves the program.
 enum Turn {
@@ -68,7 +73,7 @@ fn write_text(text: &[u8]) -> bool {
 fn take_read(
     table: &mut [u32; TABLE_WORDS],
     log: &mut [u32; LOG_WORDS],
-    blocks: &mut [u32; BLOCK_WORDS],
+    blocks: &mut [u32; BLOCKS],
     line: &mut [u8; stream::HELD_PLACES],
     text: &mut [u8],
     chunk: &[u8],
@@ -111,7 +116,7 @@ fn take_read(
 fn starts(
     table: &[u32; TABLE_WORDS],
     log: &[u32; LOG_WORDS],
-    blocks: &[u32; BLOCK_WORDS],
+    blocks: &[u32; BLOCKS],
     line: &[u8; stream::HELD_PLACES],
     p: Progress,
 )
@@ -122,7 +127,7 @@ fn starts(
 fn main() {
     let mut table = [0u32; TABLE_WORDS];
     let mut log = [0u32; LOG_WORDS];
-    let mut blocks = [0u32; BLOCK_WORDS];
+    let mut blocks = [0u32; BLOCKS];
     let mut line = [0u8; stream::HELD_PLACES];
     let mut text = [0u8; TEXT_BYTES];
     let mut chunk = [0u8; CHUNK_BYTES];

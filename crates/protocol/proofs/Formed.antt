@@ -1,4 +1,4 @@
--- The form, both ways: what it tells, and what shows it. Then the three changes that keep it: words of a replica, a certificate, a block.
+-- The form, both ways: what it tells, and what shows it; and the numbers that it tells.
 use Prim.Native.Nat.{ℕ, _≤_, _<_, _%_}
 use mathlib.Core.Path.{_≡_}
 use mathlib.Core.Bool.{true}

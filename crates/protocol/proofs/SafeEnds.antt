@@ -103,7 +103,7 @@ block-adds m p h =
 
 -- ---- two chosen blocks are of one line
 
--- Some replica is in every quorum.
+-- Every quorum has a member.
 member : (f : ℕ) (Q : List ℕ) → Quorum f Q → (j : ℕ) × (contains j Q ≡ true)
 unfolding contains
 member f [] q = let s = q .size in absurd (omega arith)

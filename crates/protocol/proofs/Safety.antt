@@ -22,7 +22,7 @@ pub record Issued (m : Memory) (P : Certificate → Type 0) : Type 0 where
   pub issued : number < certificateCount m
   pub holds : P (certificate m number)
 
--- A PROP of view v and block b, a COMMIT of view v by replica i, and one of block b.
+-- A PROP of view v and block b, a COMMIT of view v by replica i, and such a COMMIT to block b.
 pub record Proposal (v b : ℕ) (c : Certificate) : Type 0 where
   pub kind : c .kind ≡ PROP
   pub view : c .view ≡ v
@@ -93,6 +93,7 @@ pub record ReportSafe (m : Memory) (c : Certificate) : Type 0 where
   pub origin : Origin m (c .ofView) (c .block)
   pub covers : (v : ℕ) → v < c .view → Committed m v (c .signer) → Choosable m v → v ≤ c .ofView
 
+-- A NEWVIEW besides: its view is not 0, and its block was stored in an earlier one.
 pub record NewViewSafe (c : Certificate) : Type 0 where
   pub positive : 1 ≤ c .view
   pub older : c .ofView < c .view

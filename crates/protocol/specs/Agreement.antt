@@ -28,6 +28,7 @@ pub record Agreed (events : List Event) : Type 0 where
 
 -- "The list starts from the memory that an accepted Open leaves, for each f, all fitting lengths and any earlier contents. Each call in
 -- it is one of the other eleven or a refused Open, in any order, with any numbers and lists." Nothing else is assumed.
+-- Call this a life of a ledger.
 pub record Life (m : Memory) (f : ℕ) (list : List ℕ) (calls : List Invocation) : Type 0 where
   pub opened : Accepted (step m (Open f) list)
   pub once : List·Memᴰ reopened (history [] (step m (Open f) list .memory) calls) → ⊥
@@ -68,7 +69,7 @@ OnlyAppended =
     (m : Memory) (f : ℕ) (list : List ℕ) (calls more : List Invocation) → Life m f list calls
     → (List·Memᴰ reopened (history [] (endOf m f list calls) more) → ⊥) → Extends (endOf m f list calls) (run (endOf m f list calls) more)
 
--- ---- The stronger form: at the end of such a list, the blocks of any two lists that a Decide would accept are of one line, decided or not.
+-- ---- The stronger form: at the end of a life, the blocks of any two lists that a Decide would accept are of one line, decided or not.
 
 unfoldable pub WouldAgree : Type 0
 WouldAgree =

@@ -112,8 +112,8 @@ cases =
           ∷ accepted 9 0
           ∷ [];
     }
-    -- "Mistakes to rule out: [..] replies taken from an earlier boot". The same replies, to a replica of the next boot that waits at the
-    -- same view: no list of calls leads there, so its boot is set by hand.
+    -- "Mistakes to rule out: [..] replies taken from an earlier boot". The same replies, to a replica of the next boot that is recovering
+    -- at the same view: no list of calls leads there, so its boot is set by hand.
     ∷ record {
       start = update (run (from script) (plain (Request 1) ∷ plain (Reply 0 6) ∷ plain (Reply 2 6) ∷ [])) 1 (bootAt becomes 2 ∷ []);
       calls = Recover 1 on (7 ∷ 8 ∷ []) ∷ [];

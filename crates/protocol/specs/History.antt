@@ -1,5 +1,5 @@
--- What the calls of a list and their answers tell (document 01, "Whole lists of calls"): the parents given, the decisions named, the panels.
--- Nothing here reads a word of the memory.
+-- What the calls of a list and their answers tell (document 01, "Whole lists of calls"): the parents given, the decisions named, the
+-- panels. Nothing here reads a word of the memory.
 use Prim.Native.Nat.{ℕ}
 use mathlib.Core.Bool.{cond}
 use mathlib.Core.List.{List, [], _∷_}

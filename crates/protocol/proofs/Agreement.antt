@@ -14,7 +14,7 @@ use Rattle.protocol.specs.Outcome.{firstRefusal, answered, follow}
 use Rattle.protocol.specs.Calls.{opening, block, decide}
 use Rattle.protocol.specs.Runs.{Invocation, ruleOf, step, run}
 use Rattle.protocol.specs.Theorems.{Accepted}
-use Rattle.protocol.specs.History.{Event, reopened, other, acceptedEvent, eventOf, history, givenParent, shown, panel}
+use Rattle.protocol.specs.History.{Event, reopened, other, acceptedEvent, eventOf, history, givenParent, latest, panel}
 use Rattle.protocol.specs.Agreement.{PanelsRise, Life, eventsOf, endOf, Agreement, WordsMatchHistory, Extends, OnlyAppended}
 use Rattle.protocol.specs.Agreement.{WouldAgree}
 use Rattle.protocol.proofs.Needs.{Holds, no-refusal, accepted-after, accepted-first}
@@ -120,7 +120,7 @@ runs f past since m (q ∷ qs) h once =
 
 -- What an accepted opening leaves is a start.
 start : (m : Memory) (f : ℕ) (list : List ℕ) → Accepted (step m (Open f) list) → Reached f [] (step m (Open f) list .memory)
-unfolding step ruleOf opening givenParent shown counterStep
+unfolding step ruleOf opening givenParent latest counterStep
 start m f list accepted =
     let h = needs-hold m (Open f) list (no-refusal m (ruleOf m (Open f) list) accepted) in
     let o = opened m f (h .1 .0) in

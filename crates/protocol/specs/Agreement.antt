@@ -10,7 +10,7 @@ use Rattle.protocol.specs.Memory.{Memory, replicaCount, certificateCount
 use Rattle.protocol.specs.Ancestry.{isAncestorBy}
 use Rattle.protocol.specs.Runs.{Invocation, step, run}
 use Rattle.protocol.specs.Theorems.{Accepted}
-use Rattle.protocol.specs.History.{Event, reopened, decided, history, givenParent, shown, shownBlock, shownView, panel}
+use Rattle.protocol.specs.History.{Event, reopened, decided, history, givenParent, latest, latestBlock, latestView, panel}
 
 -- One of two blocks is in the other's line, by the parents given.
 abbrev pub OneLine : List Event → ℕ → ℕ → Type 0
@@ -48,8 +48,8 @@ Agreement =
 
 pub record Told (f : ℕ) (events : List Event) (m : Memory) : Type 0 where
   pub parents : (b : ℕ) → b < blockCount m → parent m b ≡ givenParent events b
-  pub views : (i : ℕ) → i < replicaCount f → replica m i .decidedView ≡ shownView (shown events i)
-  pub blocks : (i : ℕ) → i < replicaCount f → replica m i .decidedBlock ≡ shownBlock (shown events i)
+  pub views : (i : ℕ) → i < replicaCount f → replica m i .decidedView ≡ latestView (latest events i)
+  pub blocks : (i : ℕ) → i < replicaCount f → replica m i .decidedBlock ≡ latestBlock (latest events i)
 
 unfoldable pub WordsMatchHistory : Type 0
 WordsMatchHistory =

@@ -91,7 +91,7 @@ issuing-acts m needs i cs c hold h own within =
 
 -- No lowest view and no limit falls; a flag falls only where the lowest view rises, or reaches the limit.
 pub record Advances (r r′ : Replica) : Type 0 where
-  pub low : r .minView ≤ r′ .minView
+  pub minView : r .minView ≤ r′ .minView
   pub limit : r .viewLimit ≤ r′ .viewLimit
   pub flag : r′ .minView < r .viewLimit → r′ .minView ≡ r .minView → r .flag ≡ raised → r′ .flag ≡ raised
 
@@ -144,7 +144,7 @@ module _ (m m′ : Memory) (i : ℕ) (r′ : Replica) (c : Certificate) (acts : 
       record {
         faults = acts .faults;
         extends = extends;
-        lows = each-replica (λ r s. r .minView ≤ s .minView) (adv .low) (λ r. omega arith);
+        minViews = each-replica (λ r s. r .minView ≤ s .minView) (adv .minView) (λ r. omega arith);
         limits = each-replica (λ r s. r .viewLimit ≤ s .viewLimit) (adv .limit) (λ r. omega arith);
         flags =
             each-replica

@@ -51,7 +51,7 @@ idle m safe =
           record {
             faults = refl;
             extends = record { certificates = omega arith; certificate = λ c l. refl; blocks = omega arith; parent = λ b l. refl };
-            lows = λ i. omega arith;
+            minViews = λ i. omega arith;
             limits = λ i. omega arith;
             flags = λ i a b e. e;
             commits = λ c a b k. absurd (omega arith);

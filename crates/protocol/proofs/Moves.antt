@@ -23,7 +23,7 @@ use Rattle.protocol.proofs.Safety.{ReportSafe, clauses, CertificateSafe
 pub record Moves (m m′ : Memory) : Type 0 where
   pub faults : faultBound m′ ≡ faultBound m
   pub extends : Extends m m′
-  pub lows : (i : ℕ) → replica m i .minView ≤ replica m′ i .minView
+  pub minViews : (i : ℕ) → replica m i .minView ≤ replica m′ i .minView
   pub limits : (i : ℕ) → replica m i .viewLimit ≤ replica m′ i .viewLimit
   pub flags :
       (i : ℕ) → replica m′ i .minView < replica m i .viewLimit → replica m′ i .minView ≡ replica m i .minView
@@ -105,7 +105,7 @@ module _ (m m′ : Memory) (mv : Moves m m′) where
 
   can-commit-before : {v i : ℕ} → CanCommit m′ v i → CanCommit m v i
   can-commit-before {v} {i} h =
-      let low = mv .lows i in
+      let minView = mv .minViews i in
       ⊎-elim (λ c. ⊎-elim (λ old. inl old) (λ new. inr (new .0)) (committed-before c)) (λ le. inr (omega arith)) h
 
   -- What may be decided now might have been before.
@@ -119,43 +119,43 @@ module _ (m m′ : Memory) (mv : Moves m m′) where
 
   -- A COMMIT below its signer's lowest view was there before.
   pub committed-below : {v i : ℕ} → v < replica m i .minView → Committed m′ v i → Committed m v i
-  committed-below {v} {i} below c = ⊎-elim (λ old. old) (λ new. let low = new .0 in absurd (omega arith)) (committed-before c)
+  committed-below {v} {i} below c = ⊎-elim (λ old. old) (λ new. let minView = new .0 in absurd (omega arith)) (committed-before c)
 
   -- ---- the clauses of an old certificate, and of a replica that stays as it was
 
   module _ (c : Certificate) where
     report-after : ReportSafe m c → ReportSafe m′ c
     report-after h =
-        let low = mv .lows (c .signer) in
-        let had = h .low in
+        let minView = mv .minViews (c .signer) in
+        let had = h .minView in
         record {
-          low = omega arith;
+          minView = omega arith;
           origin = origin-after (h .origin);
           covers = λ v l x ch. h .covers v l (committed-below (omega arith) x) (choosable-before ch);
         }
 
     prop-after : Formed m → c .block < blockCount m → PropSafe m c → PropSafe m′ c
     prop-after formed known h =
-        let low = mv .lows (c .signer) in
+        let minView = mv .minViews (c .signer) in
         let limit = mv .limits (c .signer) in
         record {
           leader = rw (mv .faults) (h .leader);
           positive = h .positive;
           below = omega arith;
-          low = omega arith;
+          minView = omega arith;
           flag = λ e. mv .flags (c .signer) (omega arith) (omega arith) (h .flag (omega arith));
           chain = λ v a b ch. ancestor-after formed known (h .chain v a b (choosable-before ch));
         }
 
     pub certificate-after : Formed m → c .block < blockCount m → CertificateSafe m c → CertificateSafe m′ c
     certificate-after formed known h =
-        let low = mv .lows (c .signer) in
+        let minView = mv .minViews (c .signer) in
         carried (clauses m c) (clauses m′ c) (
           λ x. tt,
           (
             prop-after formed known,
             (
-              λ h. record { positive = h .positive; low = omega arith; proposed = issued-after _ (h .proposed) },
+              λ h. record { positive = h .positive; minView = omega arith; proposed = issued-after _ (h .proposed) },
               (
                 λ h. (report-after (h .0), h .1),
                 (
@@ -176,7 +176,7 @@ module _ (m m′ : Memory) (mv : Moves m m′) where
 
   pub replica-after : (i : ℕ) → replica m′ i ≡ replica m i → ReplicaSafe m i (replica m i) → ReplicaSafe m′ i (replica m i)
   replica-after i same h =
-      let low : replica m′ i .minView ≡ replica m i .minView = ap (λ (r : Replica). r .minView) same in
+      let minView : replica m′ i .minView ≡ replica m i .minView = ap (λ (r : Replica). r .minView) same in
       record {
         stored = origin-after (h .stored);
         covers =

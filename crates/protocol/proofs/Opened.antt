@@ -120,12 +120,12 @@ opened m f fit =
 
 pub opened-formed : (m : Memory) (f : ℕ) (o : Memory) → isFaultBound f ≡ true → lengthsFit m f ≡ true → Opened m f o → Formed o
 unfolding lengthsFit blockFormed replicaFormed counterStep
-opened-formed m f o low fit h =
+opened-formed m f o bound fit h =
     let a = each _ fit in
     let head = h .header in
     let s = h .lengths in
     record {
-      faults = rw (head .faults) low;
+      faults = rw (head .faults) bound;
       lengths = rw (head .faults) (lengths-same o m f s ∙ fit);
       counts = counts-fit o (omega tests) (omega tests) (omega tests);
       parents = λ x l. let q : x ≡ 0 = omega arith in rw q (let r = h .root in omega tests);

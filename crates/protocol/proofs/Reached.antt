@@ -54,11 +54,11 @@ record HoldsLatest (r : Replica) (s : Latest) : Type 0 where
 words-told : (r : Replica) (b v : ℕ) (d : Latest) → 1 ≤ v → HoldsLatest r d
     → HoldsLatest (changed (cond (ltb (r .decidedView) v) (decidedViewAt becomes v ∷ decidedBlockAt becomes b ∷ []) []) r) (later d b v)
 unfolding later
-words-told r b v none low h =
+words-told r b v none positive h =
     let z = h .view in
     by-cond (λ cs. HoldsLatest (changed cs r) (b inView v)) (ltb (r .decidedView) v) (λ e. record { view = refl; block = refl })
     (λ e. absurd (omega tests))
-words-told r b v (c inView w) low h =
+words-told r b v (c inView w) positive h =
     let z = h .view in
     by-cond (λ cs. HoldsLatest (changed cs r) (later (c inView w) b v)) (ltb (r .decidedView) v)
     (λ e. let q : ltb w v ≡ true = omega tests in rw q (record { view = refl; block = refl }))
@@ -206,9 +206,9 @@ module _ (f : ℕ) (past : List Event) (m : Memory) (h : Reached f past m) where
       let count = u .acts .blocks in
       let c = firstOf (certificatesOf m list) in
       let x = chosen m i list needs (h .safe) in
-      let low = chosen-proposal m (h .safe) x .positive in
+      let positive = chosen-proposal m (h .safe) x .positive in
       let mine =
-      words-told (replica m i) (c .block) (c .view) (latest past i) low
+      words-told (replica m i) (c .block) (c .view) (latest past i) positive
       (record { view = h .told .views i own; block = h .told .blocks i own }) in
       record {
         reached =

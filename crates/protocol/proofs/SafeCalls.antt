@@ -42,13 +42,13 @@ store-safe m i number hold safe =
     let row = safe .rows i (omega tests) in
     let acts = issuing-acts m _ i _ _ hold z (h .1 .0) refl in
     let mv =
-    moves m _ i _ _ acts (record { low = omega tests; limit = omega arith; flag = λ a e x. absurd (omega tests) })
+    moves m _ i _ _ acts (record { minView = omega tests; limit = omega arith; flag = λ a e x. absurd (omega tests) })
     (λ k. record { signer = refl; could = omega tests; left = omega arith }) in
     let proposed : Proposed m (p .view) (p .block) =
     record { number = number; issued = omega tests; holds = record { kind = omega tests; view = refl; block = refl } } in
-    let low = ap (λ (r : Replica). r .minView) (acts .own) in
+    let minView = ap (λ (r : Replica). r .minView) (acts .own) in
     goes-on m _ i _ _ acts safe (store-leaves m i number hold) mv
-    (record { positive = omega tests; low = omega arith; proposed = issued-after m _ mv _ proposed })
+    (record { positive = omega tests; minView = omega arith; proposed = issued-after m _ mv _ proposed })
     (record {
       stored = inr (issued-after m _ mv _ proposed);
       covers =
@@ -71,15 +71,15 @@ view-safe m i w hold safe =
     let mv =
     moves m _ i _ _ acts
     (record {
-      low = omega tests;
+      minView = omega tests;
       limit = omega arith;
       flag = λ a e x. by-cond (λ (y : ℕ). y ≡ raised) (isAhead r w) (λ t. absurd (omega tests)) (λ t. x);
     })
     (λ k. absurd (omega arith)) in
-    let low = ap (λ (r : Replica). r .minView) (acts .own) in
+    let minView = ap (λ (r : Replica). r .minView) (acts .own) in
     goes-on m _ i _ _ acts safe (view-leaves m i w hold) mv (
       record {
-        low = omega arith;
+        minView = omega arith;
         origin = origin-after m _ mv (row .stored);
         covers =
             λ v l x ch.
@@ -111,7 +111,7 @@ accumulate-safe m i list hold safe =
     let best = two .1 in
     let acts = issuing-acts m _ i _ _ hold z (h .1 .0) refl in
     let mv =
-    moves m _ i _ _ acts (record { low = omega arith; limit = omega arith; flag = λ a e x. x }) (λ k. absurd (omega arith)) in
+    moves m _ i _ _ acts (record { minView = omega arith; limit = omega arith; flag = λ a e x. x }) (λ k. absurd (omega arith)) in
     goes-on m _ i _ _ acts safe (accumulate-leaves m i list hold) mv
     (record {
       positive = first .1 .positive;
@@ -133,7 +133,7 @@ request-safe m i hold safe =
     let h = issuing-needs m _ i _ _ hold .0 in
     let acts = issuing-acts m _ i _ _ hold (safe .formed) (h .1 .0) refl in
     let mv =
-    moves m _ i _ _ acts (record { low = omega arith; limit = omega arith; flag = λ a e x. x }) (λ k. absurd (omega arith)) in
+    moves m _ i _ _ acts (record { minView = omega arith; limit = omega arith; flag = λ a e x. x }) (λ k. absurd (omega arith)) in
     goes-on m _ i _ _ acts safe (request-leaves m i hold) mv tt
     (replica-kept m _ i _ _ acts mv (λ k. omega arith) (replica m i)
     (record { storedView = refl; storedBlock = refl; decidedView = refl; decidedBlock = refl; status = λ e. e })
@@ -145,7 +145,7 @@ record Raises (r : Replica) (w : ℕ) (cs : List Assignment) : Type 0 where
   within : withinRow cs ≡ true
   advances : Advances r (changed cs r)
   keeps : Keeps r (changed cs r)
-  low : w ≤ changed cs r .minView
+  minView : w ≤ changed cs r .minView
 
 reply-goes : (m : Memory) (needs : List Need) (i number subject boot : ℕ) (cs : List Assignment)
     → Raises (replica m i) (certificate m number .view) cs
@@ -156,10 +156,10 @@ reply-goes m needs i number subject boot cs raises own lives safe hold leaves =
     let row = safe .rows i (omega tests) in
     let acts = issuing-acts m _ i _ _ hold (safe .formed) own (raises .within) in
     let mv = moves m _ i _ _ acts (raises .advances) (λ k. absurd (omega arith)) in
-    let low = ap (λ (r : Replica). r .minView) (acts .own) in
+    let minView = ap (λ (r : Replica). r .minView) (acts .own) in
     goes-on m _ i _ _ acts safe leaves mv
     (record {
-      low = omega (arith, low, raises .low);
+      minView = omega (arith, minView, raises .minView);
       origin = origin-after m _ mv (row .stored);
       covers =
           λ v l x ch.
@@ -179,16 +179,16 @@ reply-safe m i number hold safe =
     (λ e.
     record {
       within = refl;
-      advances = record { low = omega tests; limit = omega arith; flag = λ a s x. omega tests };
+      advances = record { minView = omega tests; limit = omega arith; flag = λ a s x. omega tests };
       keeps = record { storedView = refl; storedBlock = refl; decidedView = refl; decidedBlock = refl; status = λ e. e };
-      low = omega arith;
+      minView = omega arith;
     })
     (λ e.
     record {
       within = refl;
-      advances = record { low = omega arith; limit = omega arith; flag = λ a e x. x };
+      advances = record { minView = omega arith; limit = omega arith; flag = λ a e x. x };
       keeps = record { storedView = refl; storedBlock = refl; decidedView = refl; decidedBlock = refl; status = λ e. e };
-      low = omega tests;
+      minView = omega tests;
     }))
     (h .1 .0) (h .1 .1 .1 .0) safe hold (reply-leaves m i number hold)
 
@@ -233,7 +233,7 @@ pub reserve-safe : (m : Memory) (i : ℕ) → Holds (reserve m i .needs) → Saf
 unfolding reserve
 reserve-safe m i h safe =
     update-goes-on m i _ safe (h .1 .0) (reserve-leaves m i h) refl
-    (record { low = omega arith; limit = omega arith; flag = λ a e x. x })
+    (record { minView = omega arith; limit = omega arith; flag = λ a e x. x })
     (λ acts mv.
     replica-kept m _ i _ nothing acts mv (λ k. omega arith) (replica m i)
     (record { storedView = refl; storedBlock = refl; decidedView = refl; decidedBlock = refl; status = λ e. e })
@@ -248,14 +248,14 @@ reboot-safe m i h safe =
     let row = safe .rows i (omega tests) in
     by-cond (λ cs. Formed (update m i cs) → GoesOn m (update m i cs)) (retires m i)
     (λ e left.
-    update-goes-on m i _ safe (h .1 .0) left refl (record { low = omega arith; limit = omega arith; flag = λ a s x. x })
+    update-goes-on m i _ safe (h .1 .0) left refl (record { minView = omega arith; limit = omega arith; flag = λ a s x. x })
     (λ acts mv.
     replica-kept m _ i _ nothing acts mv (λ k. omega arith) r
     (record { storedView = refl; storedBlock = refl; decidedView = refl; decidedBlock = refl; status = λ s. absurd (omega arith) }) row)
     refl refl)
     (λ e left.
     update-goes-on m i _ safe (h .1 .0) left refl
-    (record { low = omega tests; limit = omega arith; flag = λ a s x. absurd (omega arith) })
+    (record { minView = omega tests; limit = omega arith; flag = λ a s x. absurd (omega arith) })
     (λ acts mv.
     record {
       stored = inl (refl, refl);
@@ -282,7 +282,7 @@ recover-safe m i list h safe =
     (λ c x t. let t = each _ t in (clause m c REPLY (omega tests) x, omega tests)) in
     let best = picked Report m list size reports .1 in
     update-goes-on m i _ safe (h .1 .0) (recover-leaves m i list h) refl
-    (record { low = omega arith; limit = omega arith; flag = λ a s x. x })
+    (record { minView = omega arith; limit = omega arith; flag = λ a s x. x })
     (λ acts mv.
     record {
       stored = origin-after m _ mv (best .0 .origin);
@@ -326,7 +326,7 @@ decide-safe m i list h safe =
     let c = firstOf (certificatesOf m list) in
     by-cond (λ cs. Formed (update m i cs) → Updated m i cs) (ltb (r .decidedView) (c .view))
     (λ e left.
-    updated m i _ safe (h .1 .0) left refl (record { low = omega arith; limit = omega arith; flag = λ a s x. x })
+    updated m i _ safe (h .1 .0) left refl (record { minView = omega arith; limit = omega arith; flag = λ a s x. x })
     (λ acts mv.
     record {
       stored = stored-after m _ i _ nothing acts mv r refl refl row;
@@ -336,7 +336,7 @@ decide-safe m i list h safe =
       decided = inr (chosen-after m _ mv (chosen m i list h safe));
     }))
     (λ e left.
-    updated m i _ safe (h .1 .0) left refl (record { low = omega arith; limit = omega arith; flag = λ a s x. x })
+    updated m i _ safe (h .1 .0) left refl (record { minView = omega arith; limit = omega arith; flag = λ a s x. x })
     (λ acts mv.
     replica-kept m _ i _ nothing acts mv (λ k. omega arith) r
     (record { storedView = refl; storedBlock = refl; decidedView = refl; decidedBlock = refl; status = λ s. s }) row))

@@ -25,11 +25,11 @@ use Rattle.protocol.proofs.Moves.{Moves, certificate-after, replica-aft
 
 pub opened-safe : (m : Memory) (f : ℕ) (o : Memory) → isFaultBound f ≡ true → lengthsFit m f ≡ true → Opened m f o → Safe o
 unfolding counterStep
-opened-safe m f o low fit h =
+opened-safe m f o bound fit h =
     let none = h .header .certificates in
     let same = h .header .faults in
     record {
-      formed = opened-formed m f o low fit h;
+      formed = opened-formed m f o bound fit h;
       log = λ c l. absurd (omega arith);
       rows =
           λ i l.
@@ -59,7 +59,7 @@ adds-moves m m′ h =
     record {
       faults = h .faults;
       extends = record { certificates = omega arith; certificate = λ c l. h .certificate c; blocks = h .blocks; parent = h .parent };
-      lows = λ i. let e = ap (λ (r : Replica). r .minView) (h .replica i) in omega arith;
+      minViews = λ i. let e = ap (λ (r : Replica). r .minView) (h .replica i) in omega arith;
       limits = λ i. let e = ap (λ (r : Replica). r .viewLimit) (h .replica i) in omega arith;
       flags = λ i a b e. ap (λ (r : Replica). r .flag) (h .replica i) ∙ e;
       commits = λ c a b k. absurd (omega arith);
@@ -120,7 +120,7 @@ chosen-proposal m safe {v} {b} h =
     let c = certificate m (x .number) in
     let k = clause m c COMMIT (x .holds .commit .kind) (safe .log (x .number) (x .issued)) in
     let view = x .holds .commit .view in
-    let low = k .positive in
+    let positive = k .positive in
     record { positive = omega arith; proposed = rw (view, x .holds .block) at (k .proposed) }
 
 chosen-choosable : (m : Memory) {v b : ℕ} → Chosen m v b → Choosable m v

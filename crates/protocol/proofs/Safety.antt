@@ -77,19 +77,19 @@ pub record PropSafe (m : Memory) (c : Certificate) : Type 0 where
   pub leader : leads (faultBound m) (c .view) (c .signer) ≡ true
   pub positive : 1 ≤ c .view
   pub below : c .view < replica m (c .signer) .viewLimit
-  pub low : c .view ≤ replica m (c .signer) .minView
+  pub minView : c .view ≤ replica m (c .signer) .minView
   pub flag : c .view ≡ replica m (c .signer) .minView → replica m (c .signer) .flag ≡ raised
   pub chain : (v : ℕ) → 1 ≤ v → v < c .view → Choosable m v → Ancestor m v (c .block)
 
 -- A COMMIT: of a proposal, in a view that its signer has left.
 pub record CommitSafe (m : Memory) (c : Certificate) : Type 0 where
   pub positive : 1 ≤ c .view
-  pub low : c .view < replica m (c .signer) .minView
+  pub minView : c .view < replica m (c .signer) .minView
   pub proposed : Proposed m (c .view) (c .block)
 
 -- A NEWVIEW or a REPLY: it reports a stored block, and no later view below its own that its signer committed in may be decided.
 pub record ReportSafe (m : Memory) (c : Certificate) : Type 0 where
-  pub low : c .view ≤ replica m (c .signer) .minView
+  pub minView : c .view ≤ replica m (c .signer) .minView
   pub origin : Origin m (c .ofView) (c .block)
   pub covers : (v : ℕ) → v < c .view → Committed m v (c .signer) → Choosable m v → v ≤ c .ofView
 

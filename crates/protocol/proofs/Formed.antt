@@ -1,10 +1,12 @@
--- The form, both ways: what it tells, and what shows it; and the numbers that it tells.
+-- The form, both ways: what it tells, and what shows it; that parents fall, and the numbers that it tells.
 use Prim.Native.Nat.{ℕ, _≤_, _<_, _%_}
 use mathlib.Core.Path.{_≡_}
-use mathlib.Core.Bool.{true}
+use mathlib.Core.Bool.{true, false}
 use lib.ListN.{length}
+use lib.Dec.{eqb}
 use Rattle.protocol.specs.Memory.{Memory, replicaCount, faultBound, certificateCount, blockCount, tableLength, replica}
 use Rattle.protocol.specs.Memory.{certificateWords, certificateAt, certificate, words, blockAt, parent}
+use Rattle.protocol.specs.Ancestry.{Falls}
 use Rattle.protocol.specs.Form.{isFaultBound, lengthsFit, countsFit, blockFormed, replicaFormed, certificateFormed}
 use Rattle.protocol.specs.Form.{wellFormed}
 use Rattle.protocol.proofs.Tests.{tests, each, all-hold, at-below, all-below}
@@ -41,6 +43,14 @@ form m h =
         (h .counts, (all-below _ _ (h .parents), (all-below _ _ (h .rows), (all-below _ _ (h .log), tt)))),
       ),
     )
+
+-- Well-formed parents fall.
+pub falls : (m : Memory) → Formed m → Falls (parent m) (blockCount m)
+unfolding blockFormed
+falls m h b l n =
+    let z : eqb b 0 ≡ false = omega tests in
+    let e = rw z at (h .parents b l) in
+    omega tests
 
 -- The numbers that the form tells.
 pub record Sizes (m : Memory) : Type 0 where

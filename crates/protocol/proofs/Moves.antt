@@ -9,12 +9,11 @@ use native.Mathlib.Omega.{arith}
 use lib.Dec.{ltb, eqb}
 use Rattle.protocol.specs.Memory.{Memory, Replica, Certificate, faultBound, certificateCount, blockCount, replica}
 use Rattle.protocol.specs.Memory.{certificate, parent, raised}
-use Rattle.protocol.specs.Form.{blockFormed}
 use Rattle.protocol.specs.Certificates.{COMMIT}
 use Rattle.protocol.specs.Agreement.{Extends}
 use Rattle.protocol.proofs.Tests.{tests, by-test, each}
-use Rattle.protocol.proofs.Formed.{Formed}
-use Rattle.protocol.proofs.Line.{Falls, line-same}
+use Rattle.protocol.proofs.Formed.{Formed, falls}
+use Rattle.protocol.proofs.Line.{line-same}
 use Rattle.protocol.proofs.Safety.{Issued, Commit, Committed, Origin, CanCommit, Choosable, Chosen, Ancestor, PropSafe}
 use Rattle.protocol.proofs.Safety.{ReportSafe, clauses, CertificateSafe, ReplicaSafe}
 
@@ -32,14 +31,6 @@ pub record Moves (m m′ : Memory) : Type 0 where
       (c : ℕ) → certificateCount m ≤ c → c < certificateCount m′ → certificate m′ c .kind ≡ COMMIT
       → (replica m (certificate m′ c .signer) .minView ≤ certificate m′ c .view)
       × (certificate m′ c .view < replica m′ (certificate m′ c .signer) .minView)
-
--- Well-formed parents fall.
-pub falls : (m : Memory) → Formed m → Falls (parent m) (blockCount m)
-unfolding blockFormed
-falls m h b l n =
-    let z : eqb b 0 ≡ false = omega tests in
-    let e = rw z at (h .parents b l) in
-    omega tests
 
 -- One statement of a list carried to another list's, at the same place.
 abbrev Carries : List (Type 0) → List (Type 0) → Type 0

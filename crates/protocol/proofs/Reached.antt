@@ -9,7 +9,7 @@ use lib.ListN.{getD}
 use lib.Dec.{ltb, leb, eqb}
 use Rattle.protocol.specs.Memory.{Memory, Replica, _becomes_, decidedViewAt, decidedBlockAt, replicaCount, faultBound}
 use Rattle.protocol.specs.Memory.{blockCount, replica, parent, appendBlock}
-use Rattle.protocol.specs.Ancestry.{stepsToRoot, heightBy, height, isAncestorBy}
+use Rattle.protocol.specs.Ancestry.{Falls, stepsToRoot, heightBy, height, isAncestorBy}
 use Rattle.protocol.specs.Form.{replicaFormed, certificateFormed}
 use Rattle.protocol.specs.Quorum.{certificatesOf, firstOf}
 use Rattle.protocol.specs.Calls.{block, decide}
@@ -19,11 +19,11 @@ use Rattle.protocol.specs.Agreement.{OneLine, PanelsRise, Told, Extends}
 use Rattle.protocol.proofs.Tests.{tests, by-test, by-cond, each}
 use Rattle.protocol.proofs.Needs.{Holds}
 use Rattle.protocol.proofs.Changes.{changed, block-new, block-old, block-count}
-use Rattle.protocol.proofs.Formed.{sizes}
+use Rattle.protocol.proofs.Formed.{sizes, falls}
 use Rattle.protocol.proofs.Keeps.{block-keeps}
-use Rattle.protocol.proofs.Line.{Line, Falls, line-same, is-ancestor, height-same, height-line}
+use Rattle.protocol.proofs.Line.{Line, line-same, is-ancestor, height-same, height-line}
 use Rattle.protocol.proofs.Safety.{Chosen, Safe}
-use Rattle.protocol.proofs.Moves.{falls, chosen-after}
+use Rattle.protocol.proofs.Moves.{chosen-after}
 use Rattle.protocol.proofs.Acts.{GoesOn}
 use Rattle.protocol.proofs.SafeCalls.{chosen, decide-safe}
 use Rattle.protocol.proofs.SafeEnds.{adds-moves, adds-safe, block-adds, chosen-proposal, chosen-line}

@@ -4,7 +4,7 @@ use borrow.Author.Needs.{needs}
 use Rattle.protocol.specs.Memory.{memory}
 use Rattle.protocol.proofs.Tests.{tests}
 use Rattle.layout.proofs.Within.{replica-within, replica-bounds}
-use Rattle.ancestry.proofs.Lineage.{lineage}
+use Rattle.ancestry.proofs.Fitting.{ancestry-fits}
 use Rattle.checks.proofs.Ready.{ready}
 use Rattle.ledger.proofs.Panels.{panel-refused, panel-shown}
 use Rattle.ledger.proofs.panel.Statement.{statement}
@@ -26,7 +26,7 @@ height-requires c κs =
     (sym (c .before .before .replica-refusal .ensures) ∙ c .before .if1 .left) in
     let own = r .own in
     let b = replica-bounds _ (r .formed) (c .before .before .before .before .before .before .args .replica) (omega tests) in
-    lineage _ (r .formed) _ (omega (arith, b .decidedBlock, c .replica-word .ensures))
+    ancestry-fits _ (r .formed) _ (omega (arith, b .decidedBlock, c .replica-word .ensures))
 
 returns-2 : tie.Need-returns-2
 returns-2 c =

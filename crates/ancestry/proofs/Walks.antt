@@ -1,7 +1,7 @@
 -- What a walk up the parents finds, one step at a time, for any parents that fall.
 use Prim.Native.Nat.{ℕ, zero, suc, _≤_, _<_}
 use mathlib.Core.Path.{_≡_, refl, sym}
-use mathlib.Core.Bool.{true, false, or-false}
+use mathlib.Core.Bool.{false, or-false}
 use native.Mathlib.Omega.{arith}
 use lib.Dec.{eqb}
 use Rattle.protocol.specs.Ancestry.{inLine, Falls, isAncestorBy, stepsToRoot, heightBy}

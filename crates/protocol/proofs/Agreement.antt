@@ -8,7 +8,7 @@ use lib.Dec.{eqb, eqb·suc-zero}
 use Rattle.protocol.specs.declared.Call.{Call}
 use Rattle.protocol.specs.declared.Call.the-variants.{Open, Block, Prepare, Store, View, Accumulate, Decide, Reboot}
 use Rattle.protocol.specs.declared.Call.the-variants.{Reserve, Request, Reply, Recover}
-use Rattle.protocol.specs.Memory.{Memory, Replica, parent}
+use Rattle.protocol.specs.Memory.{Memory, Replica}
 use Rattle.protocol.specs.Counter.{counterStep}
 use Rattle.protocol.specs.Outcome.{firstRefusal, answered, follow}
 use Rattle.protocol.specs.Calls.{opening, block, decide}

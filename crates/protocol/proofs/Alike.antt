@@ -8,7 +8,7 @@ use lib.ListN.{length, getD, length-set}
 use lib.Seq.{length-sets}
 use lib.Dec.{ltb, eqb}
 use Rattle.protocol.specs.Memory.{Memory, Assignment, replicaCount, faultBound, certificateCount, blockCount, rowAt}
-use Rattle.protocol.specs.Memory.{certificateWords, certificateAt, certificateWord, certificate, words, blockAt, parent}
+use Rattle.protocol.specs.Memory.{certificateWords, certificateAt, certificateWord, certificate, blockAt, parent}
 use Rattle.protocol.specs.Memory.{assign, update, appendCertificate, appendBlock}
 use Rattle.protocol.specs.Form.{countsFit, blockFormed, certificateFormed, wellFormed}
 use Rattle.protocol.specs.Certificates.{firstBelow, hasWords, numberFor, isFiled, canFile, file}

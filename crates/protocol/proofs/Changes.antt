@@ -9,7 +9,7 @@ use lib.ListN.{length, getD, length-set}
 use lib.Seq.{getD-set-same, getD-set-other, length-sets}
 use Rattle.protocol.specs.Memory.{Memory, Replica, Certificate, Assignment, certificateCountAt, blockCountAt}
 use Rattle.protocol.specs.Memory.{certificateCount, blockCount, rowStart, rowAt, replicaWords, replicaWord, replica}
-use Rattle.protocol.specs.Memory.{certificateWords, certificateAt, certificateWord, certificate, words, blockAt, parent}
+use Rattle.protocol.specs.Memory.{certificateWords, certificateAt, certificateWord, certificate, blockAt, parent}
 use Rattle.protocol.specs.Memory.{update, appendCertificate, appendBlock}
 use Rattle.protocol.specs.Theorems.{SameLengths}
 use Rattle.protocol.proofs.Words.{assigned, withinRow, avoids-row, length-assign, assign-elsewhere, assign-at}

@@ -5,7 +5,7 @@ use mathlib.Core.Bool.{true, false}
 use lib.ListN.{length}
 use lib.Dec.{eqb}
 use Rattle.protocol.specs.Memory.{Memory, replicaCount, faultBound, certificateCount, blockCount, tableLength, replica}
-use Rattle.protocol.specs.Memory.{certificateWords, certificateAt, certificate, words, blockAt, parent}
+use Rattle.protocol.specs.Memory.{certificateWords, certificateAt, certificate, blockAt, parent}
 use Rattle.protocol.specs.Ancestry.{Falls}
 use Rattle.protocol.specs.Form.{isFaultBound, lengthsFit, countsFit, blockFormed, replicaFormed, certificateFormed}
 use Rattle.protocol.specs.Form.{wellFormed}

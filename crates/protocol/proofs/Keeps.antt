@@ -8,7 +8,7 @@ use lib.ListN.{length}
 use lib.Dec.{eqb}
 use Rattle.protocol.specs.Memory.{Memory, Replica, Certificate, Assignment, replicaCount, faultBound, certificateCount}
 use Rattle.protocol.specs.Memory.{blockCount, replica, certificateWords, certificateAt, certificate, words, blockAt}
-use Rattle.protocol.specs.Memory.{parent, update, appendCertificate, appendBlock}
+use Rattle.protocol.specs.Memory.{update, appendCertificate, appendBlock}
 use Rattle.protocol.specs.Form.{lengthsFit, countsFit, blockFormed, replicaFormed, certificateFormed}
 use Rattle.protocol.specs.Certificates.{canFile, file, logHasRoom}
 use Rattle.protocol.specs.Outcome.{Need, _else_, noRoom}

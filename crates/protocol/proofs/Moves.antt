@@ -1,17 +1,16 @@
 -- What every call does to the memory, shown once, and what the invariant keeps from that alone.
 use Prim.Native.Nat.{ℕ, zero, suc, _≤_, _<_}
 use mathlib.Core.Path.{_≡_, sym, ap, subst}
-use mathlib.Core.Bool.{false}
 use mathlib.Core.Logic.{_⊎_, inl, inr, ⊎-elim}
 use mathlib.Core.List.{List, [], _∷_}
 use lib.ListN.{getD}
 use native.Mathlib.Omega.{arith}
-use lib.Dec.{ltb, eqb}
+use lib.Dec.{ltb}
 use Rattle.protocol.specs.Memory.{Memory, Replica, Certificate, faultBound, certificateCount, blockCount, replica}
 use Rattle.protocol.specs.Memory.{certificate, parent, raised}
 use Rattle.protocol.specs.Certificates.{COMMIT}
 use Rattle.protocol.specs.Agreement.{Extends}
-use Rattle.protocol.proofs.Tests.{tests, by-test, each}
+use Rattle.protocol.proofs.Tests.{tests, by-test}
 use Rattle.protocol.proofs.Formed.{Formed, falls}
 use Rattle.protocol.proofs.Line.{line-same}
 use Rattle.protocol.proofs.Safety.{Issued, Commit, Committed, Origin, CanCommit, Choosable, Chosen, Ancestor, PropSafe}

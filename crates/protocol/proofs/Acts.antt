@@ -7,8 +7,8 @@ use mathlib.Core.List.{List}
 use native.Mathlib.Omega.{arith}
 use lib.ListN.{getD}
 use lib.Dec.{ltb, eqb}
-use Rattle.protocol.specs.Memory.{Memory, Replica, Certificate, Assignment, faultBound, certificateCount, blockCount}
-use Rattle.protocol.specs.Memory.{replica, certificate, words, parent, raised, update}
+use Rattle.protocol.specs.Memory.{Memory, Replica, Certificate, Assignment, faultBoundAt, certificateCountAt, blockCountAt}
+use Rattle.protocol.specs.Memory.{faultBound, certificateCount, blockCount, replica, certificate, words, parent, raised, update}
 use Rattle.protocol.specs.Form.{certificateFormed}
 use Rattle.protocol.specs.Certificates.{PROP, COMMIT, file}
 use Rattle.protocol.specs.Outcome.{Need}
@@ -48,10 +48,10 @@ pub update-acts : (m : Memory) (i : ℕ) (cs : List Assignment) (c : Certificate
 unfolding update
 update-acts m i cs c h own within =
     let z = sizes m h in
-    let count : certificateCount (update m i cs) ≡ certificateCount m = update-header m i cs within 1 (omega arith) in
+    let count = update-header m i cs within certificateCountAt (omega arith) in
     record {
-      faults = update-header m i cs within 0 (omega arith);
-      blocks = update-header m i cs within 2 (omega arith);
+      faults = update-header m i cs within faultBoundAt (omega arith);
+      blocks = update-header m i cs within blockCountAt (omega arith);
       parents = refl;
       own = update-own m i cs within (omega tests);
       others = λ j q. update-other m i cs within j q;
@@ -67,7 +67,7 @@ issuing-acts m needs i cs c hold h own within =
     let ws = words c in
     let same = file-replica m ws refl in
     let s = file-lengths m ws refl in
-    let count : certificateCount (update (file m ws) i cs) ≡ certificateCount (file m ws) = update-header (file m ws) i cs within 1 (omega arith) in
+    let count = update-header (file m ws) i cs within certificateCountAt (omega arith) in
     let filed : Files m (file m ws) c =
     file-cases (λ x. Files m x c) m ws (λ e. files-none m c)
     (λ e.
@@ -79,8 +79,8 @@ issuing-acts m needs i cs c hold h own within =
       new = λ k a b. let q : k ≡ certificateCount m = omega arith in rw q (append-new m ws refl (omega tests));
     }) in
     record {
-      faults = update-header (file m ws) i cs within 0 (omega arith) ∙ file-table m ws refl 0 (omega arith);
-      blocks = update-header (file m ws) i cs within 2 (omega arith) ∙ file-table m ws refl 2 (omega arith);
+      faults = update-header (file m ws) i cs within faultBoundAt (omega arith) ∙ file-table m ws refl faultBoundAt (omega arith);
+      blocks = update-header (file m ws) i cs within blockCountAt (omega arith) ∙ file-table m ws refl blockCountAt (omega arith);
       parents = file-blocks m ws refl;
       own = update-own (file m ws) i cs within (omega tests) ∙ ap (changed cs) (same i);
       others = λ j q. update-other (file m ws) i cs within j q ∙ same j;

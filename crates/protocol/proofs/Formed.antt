@@ -4,8 +4,8 @@ use mathlib.Core.Path.{_≡_}
 use mathlib.Core.Bool.{true, false}
 use lib.ListN.{length}
 use lib.Dec.{eqb}
-use Rattle.protocol.specs.Memory.{Memory, replicaCount, faultBound, certificateCount, blockCount, tableLength, replica}
-use Rattle.protocol.specs.Memory.{certificateWords, certificateAt, certificate, blockAt, parent}
+use Rattle.protocol.specs.Memory.{Memory, maxFaultBound, replicaCount, faultBound, certificateCount, blockCount, tableLength}
+use Rattle.protocol.specs.Memory.{replica, certificateWords, certificateAt, certificate, blockAt, parent}
 use Rattle.protocol.specs.Ancestry.{Falls}
 use Rattle.protocol.specs.Form.{isFaultBound, lengthsFit, countsFit, blockFormed, replicaFormed, certificateFormed}
 use Rattle.protocol.specs.Form.{wellFormed}
@@ -55,7 +55,7 @@ falls m h b l n =
 -- The numbers that the form tells.
 pub record Sizes (m : Memory) : Type 0 where
   pub faultsLow : 1 ≤ faultBound m
-  pub faultsHigh : faultBound m ≤ 30
+  pub faultsHigh : faultBound m ≤ maxFaultBound
   pub table : length (m .table) ≡ tableLength (faultBound m)
   pub logWhole : length (m .log) % certificateWords ≡ 0
   pub certificatesFit : certificateAt (certificateCount m) ≤ length (m .log)

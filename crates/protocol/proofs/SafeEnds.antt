@@ -6,8 +6,8 @@ use mathlib.Core.Logic.{inl}
 use mathlib.Core.List.{List, [], _∷_}
 use native.Mathlib.Omega.{arith}
 use lib.Dec.{eqb}
-use Rattle.protocol.specs.Memory.{Memory, Replica, faultBound, certificateCount, blockCount, replica, certificate, parent}
-use Rattle.protocol.specs.Memory.{appendBlock}
+use Rattle.protocol.specs.Memory.{Memory, Replica, faultBoundAt, certificateCountAt, faultBound, certificateCount, blockCount}
+use Rattle.protocol.specs.Memory.{replica, certificate, parent, appendBlock}
 use Rattle.protocol.specs.Form.{isFaultBound, lengthsFit, certificateFormed}
 use Rattle.protocol.specs.Certificates.{PROP, COMMIT}
 use Rattle.protocol.specs.Counter.{counterStep}
@@ -93,8 +93,8 @@ block-adds m p h =
     let z = sizes m h in
     let more = block-count m p (omega arith) in
     record {
-      faults = block-table m p 0 (omega arith);
-      certificates = block-table m p 1 (omega arith);
+      faults = block-table m p faultBoundAt (omega arith);
+      certificates = block-table m p certificateCountAt (omega arith);
       certificate = λ c. refl;
       replica = λ i. block-replica m p i;
       blocks = omega arith;

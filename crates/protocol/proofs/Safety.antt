@@ -1,4 +1,4 @@
--- The invariant of a list of calls, over what is read of the memory: certificates, replicas and parents, and no word's place.
+-- The invariant of a list of calls, over what is read of the memory: certificates, replicas and parents, and no word's address.
 use Prim.Native.Nat.{ℕ, _≤_, _<_}
 use mathlib.Core.Path.{_≡_, subst}
 use mathlib.Core.Bool.{true}

@@ -18,12 +18,12 @@ pub record Case : Type 0 where
   pub calls : List Invocation
   pub expected : List Answer
 
--- Zeros, with a table for f and so many certificate and block places.
+-- Zeros, with a table for f and so many slots for certificates and for blocks.
 zeros : ℕ → ℕ → ℕ → Memory
 zeros f certificates blocks =
     record { table = replicate (tableLength f) 0; log = replicate (certificateAt certificates) 0; blocks = replicate (blockAt blocks) 0 }
 
--- The places of the script program.
+-- The slots of the script program.
 blank : ℕ → Memory
 blank f = zeros f 2048 1024
 

@@ -119,7 +119,7 @@ module _ (m m′ : Memory) (i : ℕ) (r′ : Replica) (c : Certificate) (acts : 
       → P (replica m j) (replica m′ j)
   each-replica P mine stay j =
       by-test (eqb j i)
-      (λ e. let q : j ≡ i = omega tests in subst (λ (k : ℕ). P (replica m k) (replica m′ k)) (sym q) (subst (P (replica m i)) (sym (acts .own)) mine))
+      (λ e. let q : j ≡ i = omega tests in rw q (subst (P (replica m i)) (sym (acts .own)) mine))
       (λ e. subst (P (replica m j)) (sym (acts .others j (omega tests))) (stay (replica m j)))
 
   -- Whatever holds of the certificates of before and of the one issued holds of all.

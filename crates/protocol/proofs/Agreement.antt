@@ -30,15 +30,21 @@ use Rattle.protocol.proofs.Reached.{Reached, Follows, one-line, chosen-
 
 -- ---- one call
 
--- A refused call, or an accepted one with its values.
+-- The event of a call that is accepted, with its values.
+abbrev eventIfAccepted : Memory → Call → List ℕ → Event
+eventIfAccepted m call list =
+    let rule = ruleOf m call list in
+    acceptedEvent call (record { number = 0; first = rule .first; second = rule .second })
+
+-- A refused call, or an accepted one.
 step-cases : (P : Event → Memory → Type 0) (m : Memory) (call : Call) (list : List ℕ) → P other m
-    → (Holds (ruleOf m call list .needs) → P (acceptedEvent call (record { number = 0; first = ruleOf m call list .first; second = ruleOf m call list .second })) (ruleOf m call list .after))
+    → (Holds (ruleOf m call list .needs) → P (eventIfAccepted m call list) (ruleOf m call list .after))
     → P (eventOf call (step m call list .answer)) (step m call list .memory)
 unfolding step follow answered eventOf
 step-cases P m call list refused accepted = go (firstRefusal (ruleOf m call list .needs)) refl
   where
     go : (n : ℕ) → firstRefusal (ruleOf m call list .needs) ≡ n
-        → P (cond (eqb (answered n m (ruleOf m call list) .answer .number) 0) (acceptedEvent call (answered n m (ruleOf m call list) .answer)) other) (answered n m (ruleOf m call list) .memory)
+        → let o = answered n m (ruleOf m call list) in P (eventOf call (o .answer)) (o .memory)
     go zero e = accepted (needs-hold m call list e)
     go (suc n) e = rw (eqb·suc-zero n) refused
 
@@ -60,9 +66,8 @@ idle m safe =
     }
 
 accepted-step : (f : ℕ) (past : List Event) (m : Memory) → Reached f past m → (call : Call) (list : List ℕ)
-    → Holds (ruleOf m call list .needs)
-    → let e = acceptedEvent call (record { number = 0; first = ruleOf m call list .first; second = ruleOf m call list .second }) in (e ≡ reopened → ⊥)
-    → Follows f (e ∷ past) m (ruleOf m call list .after)
+    → Holds (ruleOf m call list .needs) → (eventIfAccepted m call list ≡ reopened → ⊥)
+    → Follows f (eventIfAccepted m call list ∷ past) m (ruleOf m call list .after)
 unfolding ruleOf block
 accepted-step f past m h (Open g) list hold again = absurd (again refl)
 accepted-step f past m h (Block p) list hold again = added-block f past m h p hold

@@ -7,8 +7,8 @@ use native.Mathlib.Omega.{arith}
 use lib.ListN.{length}
 use lib.Dec.{eqb}
 use Rattle.protocol.specs.Memory.{Memory, Replica, Certificate, Assignment, replicaCount, faultBoundAt, certificateCountAt}
-use Rattle.protocol.specs.Memory.{blockCountAt, faultBound, certificateCount, blockCount, replica, certificateWords, certificateAt, certificate, words, blockAt}
-use Rattle.protocol.specs.Memory.{update, appendCertificate, appendBlock}
+use Rattle.protocol.specs.Memory.{blockCountAt, faultBound, certificateCount, blockCount, replica, certificateWords}
+use Rattle.protocol.specs.Memory.{certificateAt, certificate, words, blockAt, update, appendCertificate, appendBlock}
 use Rattle.protocol.specs.Form.{lengthsFit, countsFit, blockFormed, replicaFormed, certificateFormed}
 use Rattle.protocol.specs.Certificates.{canFile, file, logHasRoom}
 use Rattle.protocol.specs.Outcome.{Need, _else_, noRoom}

@@ -62,7 +62,8 @@ height-up p count falls zero l n = absurd (n refl)
 height-up p count falls (suc b) l n =
     let lower = falls (suc b) l n in
     let e : eqb (suc b) 0 ≡ false = omega tests in
-    rw e (ap (λ (h : ℕ). h + 1) (steps-same p p count falls (λ x y. refl) (p (suc b)) b (p (suc b)) (omega arith) (omega arith) (omega arith)))
+    let same = steps-same p p count falls (λ x y. refl) (p (suc b)) b (p (suc b)) (omega arith) (omega arith) (omega arith) in
+    rw e (ap (λ (h : ℕ). h + 1) same)
 
 -- An ancestor is not higher.
 pub height-line : (p : ℕ → ℕ) (count : ℕ) → Falls p count → {a b : ℕ} → b < count → Line p a b → heightBy p a ≤ heightBy p b

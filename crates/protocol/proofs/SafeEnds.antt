@@ -135,7 +135,8 @@ chosen-choosable m h =
 one-proposal : (m : Memory) → Safe m → {v b c : ℕ} → Proposed m v b → Proposed m v c → b ≡ c
 one-proposal m safe x y =
     sym (x .holds .block)
-    ∙ safe .onePerView (x .number) (y .number) (x .issued) (y .issued) (x .holds .kind) (y .holds .kind) (x .holds .view ∙ sym (y .holds .view))
+    ∙ safe .onePerView (x .number) (y .number) (x .issued) (y .issued) (x .holds .kind) (y .holds .kind)
+    (x .holds .view ∙ sym (y .holds .view))
     ∙ y .holds .block
 
 pub chosen-line : (m : Memory) → Safe m → {v b w c : ℕ} → Chosen m v b → Chosen m w c → v ≤ w → Line (parent m) b c

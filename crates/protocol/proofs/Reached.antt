@@ -1,6 +1,6 @@
 -- What every list of calls after an opening keeps: the invariant, and that the words are what the calls and answers told.
 use Prim.Native.Nat.{ℕ, zero, _≤_, _<_}
-use mathlib.Core.Path.{_≡_, refl, ap, _∙_}
+use mathlib.Core.Path.{_≡_, refl, sym, ap, _∙_, subst}
 use mathlib.Core.Bool.{true, false, cond}
 use mathlib.Core.Logic.{inl, inr, ⊎-elim}
 use mathlib.Core.List.{List, [], _∷_, List·Memᴰ, List·Memᴰ·cases-cons}
@@ -73,6 +73,9 @@ module _ (f : ℕ) (past : List Event) (m : Memory) (h : Reached f past m) where
       let lower = falls m (h .safe .formed) b l n in
       omega arith
 
+  holds-latest : (i : ℕ) → i < replicaCount f → HoldsLatest (replica m i) (latest past i)
+  holds-latest i own = record { view = h .told .views i own; block = h .told .blocks i own }
+
   -- The block of a latest decision is an added one.
   latest-known : (i : ℕ) → latestBlock (latest past i) < blockCount m
   unfolding replicaFormed
@@ -122,7 +125,9 @@ module _ (f : ℕ) (past : List Event) (m : Memory) (h : Reached f past m) where
                     blocks = λ i l. q .decidedBlock i ∙ h .told .blocks i l;
                   };
               strangers = h .strangers;
-              decisions = λ i b v w. chosen-after m _ (g .moves) (h .decisions i b v (older (λ e. let z : _≡_ {A = ℕ} 0 1 = cc in omega arith) w));
+              decisions =
+                  λ i b v w.
+                  chosen-after m _ (g .moves) (h .decisions i b v (older (λ e. let z : _≡_ {A = ℕ} 0 1 = cc in omega arith) w));
               panels = (λ i. omega arith, h .panels);
             };
         extends = g .moves .extends;
@@ -158,7 +163,7 @@ module _ (f : ℕ) (past : List Event) (m : Memory) (h : Reached f past m) where
                 λ i.
                     let same =
                     height-same (givenParent past) (λ x. cond (eqb x (blockCount m)) p (givenParent past x)) (blockCount m) given-falls
-                    (λ x l. let e : eqb x (blockCount m) ≡ false = omega tests in rw e refl) (latestBlock (latest past i)) (latest-known i) in
+                    (λ x l. let e : eqb x (blockCount m) ≡ false = omega tests in rw e refl) _ (latest-known i) in
                     omega arith,
                 h .panels,
               );
@@ -207,9 +212,16 @@ module _ (f : ℕ) (past : List Event) (m : Memory) (h : Reached f past m) where
       let c = firstOf (certificatesOf m list) in
       let x = chosen m i list needs (h .safe) in
       let positive = chosen-proposal m (h .safe) x .positive in
-      let mine =
-      words-told (replica m i) (c .block) (c .view) (latest past i) positive
-      (record { view = h .told .views i own; block = h .told .blocks i own }) in
+      let rows :
+      (j : ℕ) → j < replicaCount f → HoldsLatest (replica (decide m i list .after) j) (latest (decided i (c .block) (c .view) ∷ past) j) =
+      λ j l.
+      by-test (eqb j i)
+      (λ e.
+      let q : j ≡ i = omega tests in
+      let mine = words-told (replica m i) (c .block) (c .view) (latest past i) positive (holds-latest i own) in
+      rw e (rw q (subst (λ (r : Replica). HoldsLatest r (later (latest past i) (c .block) (c .view))) (sym (u .acts .own)) mine)))
+      (λ e.
+      rw e (subst (λ (r : Replica). HoldsLatest r (latest past j)) (sym (u .acts .others j (omega tests))) (holds-latest j l))) in
       record {
         reached =
             record {
@@ -219,20 +231,8 @@ module _ (f : ℕ) (past : List Event) (m : Memory) (h : Reached f past m) where
                   record {
                     parents =
                         λ y l. ap (λ (bs : List ℕ). getD bs y 0) (u .acts .parents) ∙ h .told .parents y (omega arith);
-                    views =
-                        λ j l.
-                        by-test (eqb j i)
-                        (λ e.
-                        let q : j ≡ i = omega tests in
-                        rw e (rw q (ap (λ (r : Replica). r .decidedView) (u .acts .own) ∙ mine .view)))
-                        (λ e. rw e (ap (λ (r : Replica). r .decidedView) (u .acts .others j (omega tests)) ∙ h .told .views j l));
-                    blocks =
-                        λ j l.
-                        by-test (eqb j i)
-                        (λ e.
-                        let q : j ≡ i = omega tests in
-                        rw e (rw q (ap (λ (r : Replica). r .decidedBlock) (u .acts .own) ∙ mine .block)))
-                        (λ e. rw e (ap (λ (r : Replica). r .decidedBlock) (u .acts .others j (omega tests)) ∙ h .told .blocks j l));
+                    views = λ j l. rows j l .view;
+                    blocks = λ j l. rows j l .block;
                   };
               strangers = λ j l. let e : eqb j i ≡ false = omega tests in rw e (h .strangers j l);
               decisions =

@@ -1,7 +1,7 @@
 -- Words past the counts are not read.
 use Prim.Native.Nat.{ℕ, zero, suc}
 use mathlib.Core.Path.{_≡_, refl, ap, subst}
-use mathlib.Core.Bool.{Bool, true}
+use mathlib.Core.Bool.{Bool, true, cond}
 use mathlib.Core.List.{List, [], _∷_}
 use native.Mathlib.Omega.{arith}
 use lib.ListN.{length-set}
@@ -79,6 +79,9 @@ follow-same m m′ r r′ a hold s =
 
 record Within (cs : List Assignment) : Type 0 where
   row : withinRow cs ≡ true
+
+within-cond : (t : Bool) {cs cs′ : List Assignment} → Within cs → Within cs′ → Within (cond t cs cs′)
+within-cond t x y = by-cond Within t (λ e. x) (λ e. y)
 
 module _ (m : Memory) (l b : List ℕ) (a : Alike m (twin m l b)) where
   issued-same : (ns ns′ : List Need) (i : ℕ) (cs : List Assignment) (c : Certificate) → Within cs → wellFormed m ≡ true
@@ -168,7 +171,7 @@ module _ (m : Memory) (l b : List ℕ) (a : Alike m (twin m l b)) where
             λ h.
             simp (named-same m l b a list (h .1 .1 .1 .0))
             (let c = firstOf (certificatesOf (twin m l b) list) in
-            let within = by-cond Within (ltb (replica m i .decidedView) (c .view)) (λ _. record { row = refl }) (λ _. record { row = refl }) in
+            let within = within-cond (ltb (replica m i .decidedView) (c .view)) (record { row = refl }) (record { row = refl }) in
             record { first = refl; second = refl; after = updated-same i _ within });
       }
 
@@ -179,7 +182,7 @@ module _ (m : Memory) (l b : List ℕ) (a : Alike m (twin m l b)) where
         needs = next (form-same m l b a) (λ _. agree-self _);
         results =
             λ h.
-            let within = by-cond Within (retires m i) (λ _. record { row = refl }) (λ _. record { row = refl }) in
+            let within = within-cond (retires m i) (record { row = refl }) (record { row = refl }) in
             record { first = refl; second = refl; after = updated-same i _ within };
       }
 
@@ -212,8 +215,7 @@ module _ (m : Memory) (l b : List ℕ) (a : Alike m (twin m l b)) where
       let issued = h .1 .1 .0 in
       simp (word-same m l b a)
       (issued-same _ _ i _ _
-      (by-cond Within (ltb (replica m i .minView) (certificate (twin m l b) number .view)) (λ _. record { row = refl })
-      (λ _. record { row = refl }))
+      (within-cond (ltb (replica m i .minView) (certificate (twin m l b) number .view)) (record { row = refl }) (record { row = refl }))
       (h .0))
 
   recover-same : (i : ℕ) (list : List ℕ) → SameRule (recover m i list) (recover (twin m l b) i list)

@@ -59,7 +59,7 @@ store-safe m i number hold safe =
     })
     (λ k. absurd (omega arith)) refl refl
 
--- Assignments that keep what the replica stored and decided.
+-- Assignments that keep what the replica stored and decided, and lower neither its lowest view nor its limit.
 record KeepsWords (r : Replica) (cs : List Assignment) : Type 0 where
   within : withinRow cs ≡ true
   advances : Advances r (changed cs r)
@@ -85,7 +85,7 @@ signs m needs i cs c hold safe own kept no-prop no-commit formed new =
     (replica-kept m _ i _ c acts mv no-commit (replica m i) (kept .keeps) (safe .rows i (omega tests)))
     (λ k. absurd (no-prop k)) (kept .keeps .decidedView) (kept .keeps .decidedBlock)
 
--- The replica's lowest view is then at least w.
+-- Such assignments, after which the lowest view is at least w.
 record Raises (r : Replica) (w : ℕ) (cs : List Assignment) : Type 0 where
   kept : KeepsWords r cs
   minView : w ≤ changed cs r .minView
@@ -95,18 +95,18 @@ abbrev reportOf : ℕ → ℕ → ℕ → Replica → ℕ → ℕ → Certificat
 reportOf kind i w r subject boot =
     record { kind = kind; signer = i; view = w; block = r .storedBlock; ofView = r .storedView; subject = subject; boot = boot }
 
--- Such a certificate of a live replica that has left the views below w.
+-- A live replica issues one, and has left the views below w.
 reports : (m : Memory) (needs : List Need) (i kind w subject boot : ℕ) (cs : List Assignment) → Raises (replica m i) w cs
     → isReplica m i ≡ true → hasStatus m i live ≡ true → Safe m → kind ≢ PROP → kind ≢ COMMIT
     → (let c = reportOf kind i w (replica m i) subject boot in
     let out = issuing m needs i cs c in
     Holds (out .needs) → Formed (out .after) → (ReportSafe (out .after) c → Clause kind (out .after) c) → GoesOn m (out .after))
-reports m needs i kind w subject boot cs raises own lives safe no-prop no-commit hold formed kinds =
+reports m needs i kind w subject boot cs raises own lives safe no-prop no-commit hold formed by-kind =
     signs m needs i cs _ hold safe own (raises .kept) no-prop no-commit formed
     (λ acts mv.
     let row = safe .rows i (omega tests) in
     let minView = ap (λ (r : Replica). r .minView) (acts .own) in
-    kinds
+    by-kind
     (record {
       minView = omega (arith, minView, raises .minView);
       origin = origin-after m _ mv (row .stored);

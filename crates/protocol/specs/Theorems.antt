@@ -1,6 +1,6 @@
 -- What holds of the rules, for every call and any contents of the memory: what a refused call leaves, what an accepted one leaves and
--- may change, what is not read, which refusal is returned, and how large an answer is. Each type without parameters is a statement,
--- proved in proofs/ under the same name in lower case with hyphens; the others say its parts.
+-- may change, what is not read, which refusal is returned, and how large an answer is. Each unfoldable type here is a statement,
+-- proved in proofs/ under the same name in lower case with hyphens.
 use Prim.Native.Nat.{ℕ, zero, suc, _+_, _≤_, _<_}
 use mathlib.Core.Path.{_≡_}
 use mathlib.Core.Bool.{Bool, true, false}

@@ -1,7 +1,7 @@
 -- Only the words named for a call change, and lengths never do.
 use Prim.Native.Nat.{ℕ, zero, suc, _+_, _≤_}
 use mathlib.Core.Path.{_≡_, refl, sym, ap, _∙_}
-use mathlib.Core.List.{List, [], _∷_, _++_, map, List·Memᴰ, List·Memᴰ·head, List·Memᴰ·tail}
+use mathlib.Core.List.{List, [], _∷_, map, List·Memᴰ, List·Memᴰ·head, List·Memᴰ·tail}
 use native.Mathlib.Nat.{zero-add}
 use native.Mathlib.Omega.{arith}
 use lib.ListN.{length, getD, List·getD-eq-default}
@@ -36,10 +36,6 @@ Apart a (x ∷ xs) = (a ≡ x → ⊥) × Apart a xs
 apart : (a : Address) (xs : List Address) → (List·Memᴰ a xs → ⊥) → Apart a xs
 apart a [] h = tt
 apart a (x ∷ xs) h = (λ e. h (List·Memᴰ·head e), apart a xs (λ w. h (List·Memᴰ·tail w)))
-
-apart-both : (a : Address) (xs ys : List Address) → Apart a (xs ++ ys) → Apart a xs × Apart a ys
-apart-both a [] ys h = (tt, h)
-apart-both a (x ∷ xs) ys h = let both = apart-both a xs ys (h .1) in ((h .0, both .0), both .1)
 
 -- An index past a run of words from an index on.
 past-run : (word : ℕ → Address) (n at j : ℕ) → Apart (word j) (map (λ k. word (at + k)) (below n)) → at ≤ j → at + n ≤ j

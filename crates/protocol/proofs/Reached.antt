@@ -1,5 +1,5 @@
 -- What every list of calls after an opening keeps: the invariant, and that the words are what the calls and answers told.
-use Prim.Native.Nat.{ℕ, zero, _≤_, _<_}
+use Prim.Native.Nat.{ℕ, _≤_, _<_}
 use mathlib.Core.Path.{_≡_, refl, sym, ap, _∙_, subst}
 use mathlib.Core.Bool.{true, false, cond}
 use mathlib.Core.Logic.{inl, inr, ⊎-elim}
@@ -193,7 +193,7 @@ module _ (f : ℕ) (past : List Event) (m : Memory) (h : Reached f past m) where
       let faults = h .faults in
       let view : replica m i .decidedView ≡ w = h .told .views i own ∙ ap latestView e in
       let blk : replica m i .decidedBlock ≡ c = h .told .blocks i own ∙ ap latestBlock e in
-      ⊎-elim (λ z. let zero = z .1 in let q : c ≡ 0 = omega arith in rw q (omega arith))
+      ⊎-elim (λ z. let root = z .1 in let q : c ≡ 0 = omega arith in rw q (omega arith))
       (λ y.
       height-line given (blockCount m) given-falls (chosen-known x)
       (line-same (parent m) given (blockCount m) (falls m (h .safe .formed)) (h .told .parents) (chosen-known x)

@@ -18,7 +18,7 @@ use Rattle.protocol.proofs.Tests.{tests, by-cond, each}
 use Rattle.protocol.proofs.Needs.{Holds}
 use Rattle.protocol.proofs.Words.{withinRow}
 use Rattle.protocol.proofs.Changes.{changed}
-use Rattle.protocol.proofs.Formed.{Formed, formed}
+use Rattle.protocol.proofs.Formed.{Formed}
 use Rattle.protocol.proofs.Keeps.{issuing-needs}
 use Rattle.protocol.proofs.Lists.{picked}
 use Rattle.protocol.proofs.Quorums.{signed-by, all-map, each-tested, quorum, covers}

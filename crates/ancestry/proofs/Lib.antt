@@ -1,4 +1,3 @@
--- Laws of lines and heights, and where a block has its line.
-pub mod Lines
-pub mod Heights
-pub mod Lineage
+-- Where a walk up the parents may start, and what it finds.
+pub mod Fitting
+pub mod Walks

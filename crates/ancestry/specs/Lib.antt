@@ -1,2 +1,2 @@
 -- What the functions of this crate ask of the blocks.
-pub mod Lineage
+pub mod AncestryFits

@@ -7,8 +7,8 @@ use mathlib.Core.List.{List}
 use native.Mathlib.Omega.{arith}
 use lib.ListN.{getD}
 use lib.Dec.{ltb, eqb}
-use Rattle.protocol.specs.Memory.{Memory, Replica, Certificate, Assignment, faultBound, certificateCount, blockCount}
-use Rattle.protocol.specs.Memory.{replica, certificate, words, parent, raised, update}
+use Rattle.protocol.specs.Memory.{Memory, Replica, Certificate, Assignment, faultBoundAt, certificateCountAt, blockCountAt}
+use Rattle.protocol.specs.Memory.{faultBound, certificateCount, blockCount, replica, certificate, words, parent, raised, update}
 use Rattle.protocol.specs.Form.{certificateFormed}
 use Rattle.protocol.specs.Certificates.{PROP, COMMIT, file}
 use Rattle.protocol.specs.Outcome.{Need}
@@ -48,10 +48,10 @@ pub update-acts : (m : Memory) (i : ℕ) (cs : List Assignment) (c : Certificate
 unfolding update
 update-acts m i cs c h own within =
     let z = sizes m h in
-    let count : certificateCount (update m i cs) ≡ certificateCount m = update-header m i cs within 1 (omega arith) in
+    let count = update-header m i cs within certificateCountAt (omega arith) in
     record {
-      faults = update-header m i cs within 0 (omega arith);
-      blocks = update-header m i cs within 2 (omega arith);
+      faults = update-header m i cs within faultBoundAt (omega arith);
+      blocks = update-header m i cs within blockCountAt (omega arith);
       parents = refl;
       own = update-own m i cs within (omega tests);
       others = λ j q. update-other m i cs within j q;
@@ -67,7 +67,7 @@ issuing-acts m needs i cs c hold h own within =
     let ws = words c in
     let same = file-replica m ws refl in
     let s = file-lengths m ws refl in
-    let count : certificateCount (update (file m ws) i cs) ≡ certificateCount (file m ws) = update-header (file m ws) i cs within 1 (omega arith) in
+    let count = update-header (file m ws) i cs within certificateCountAt (omega arith) in
     let filed : Files m (file m ws) c =
     file-cases (λ x. Files m x c) m ws (λ e. files-none m c)
     (λ e.
@@ -79,8 +79,8 @@ issuing-acts m needs i cs c hold h own within =
       new = λ k a b. let q : k ≡ certificateCount m = omega arith in rw q (append-new m ws refl (omega tests));
     }) in
     record {
-      faults = update-header (file m ws) i cs within 0 (omega arith) ∙ file-table m ws refl 0 (omega arith);
-      blocks = update-header (file m ws) i cs within 2 (omega arith) ∙ file-table m ws refl 2 (omega arith);
+      faults = update-header (file m ws) i cs within faultBoundAt (omega arith) ∙ file-table m ws refl faultBoundAt (omega arith);
+      blocks = update-header (file m ws) i cs within blockCountAt (omega arith) ∙ file-table m ws refl blockCountAt (omega arith);
       parents = file-blocks m ws refl;
       own = update-own (file m ws) i cs within (omega tests) ∙ ap (changed cs) (same i);
       others = λ j q. update-other (file m ws) i cs within j q ∙ same j;
@@ -91,7 +91,7 @@ issuing-acts m needs i cs c hold h own within =
 
 -- No lowest view and no limit falls; a flag falls only where the lowest view rises, or reaches the limit.
 pub record Advances (r r′ : Replica) : Type 0 where
-  pub low : r .minView ≤ r′ .minView
+  pub minView : r .minView ≤ r′ .minView
   pub limit : r .viewLimit ≤ r′ .viewLimit
   pub flag : r′ .minView < r .viewLimit → r′ .minView ≡ r .minView → r .flag ≡ raised → r′ .flag ≡ raised
 
@@ -119,7 +119,7 @@ module _ (m m′ : Memory) (i : ℕ) (r′ : Replica) (c : Certificate) (acts : 
       → P (replica m j) (replica m′ j)
   each-replica P mine stay j =
       by-test (eqb j i)
-      (λ e. let q : j ≡ i = omega tests in subst (λ (k : ℕ). P (replica m k) (replica m′ k)) (sym q) (subst (P (replica m i)) (sym (acts .own)) mine))
+      (λ e. let q : j ≡ i = omega tests in rw q (subst (P (replica m i)) (sym (acts .own)) mine))
       (λ e. subst (P (replica m j)) (sym (acts .others j (omega tests))) (stay (replica m j)))
 
   -- Whatever holds of the certificates of before and of the one issued holds of all.
@@ -144,7 +144,7 @@ module _ (m m′ : Memory) (i : ℕ) (r′ : Replica) (c : Certificate) (acts : 
       record {
         faults = acts .faults;
         extends = extends;
-        lows = each-replica (λ r s. r .minView ≤ s .minView) (adv .low) (λ r. omega arith);
+        minViews = each-replica (λ r s. r .minView ≤ s .minView) (adv .minView) (λ r. omega arith);
         limits = each-replica (λ r s. r .viewLimit ≤ s .viewLimit) (adv .limit) (λ r. omega arith);
         flags =
             each-replica

@@ -1,20 +1,19 @@
 -- Demand 3: the theorems that specs/Agreement.antt states.
 use Prim.Native.Nat.{ℕ, zero, suc, _≤_}
 use mathlib.Core.Path.{_≡_, refl, sym, ap, _∙_}
-use mathlib.Core.Bool.{cond}
 use mathlib.Core.List.{List, [], _∷_, _++_, List·Memᴰ, List·Memᴰ·head, List·Memᴰ·tail, List·Memᴰ·not-nil}
 use native.Mathlib.Omega.{arith}
-use lib.Dec.{eqb, eqb·suc-zero}
+use lib.Dec.{eqb·suc-zero}
 use Rattle.protocol.specs.declared.Call.{Call}
 use Rattle.protocol.specs.declared.Call.the-variants.{Open, Block, Prepare, Store, View, Accumulate, Decide, Reboot}
 use Rattle.protocol.specs.declared.Call.the-variants.{Reserve, Request, Reply, Recover}
-use Rattle.protocol.specs.Memory.{Memory, Replica, parent}
+use Rattle.protocol.specs.Memory.{Memory, Replica}
 use Rattle.protocol.specs.Counter.{counterStep}
 use Rattle.protocol.specs.Outcome.{firstRefusal, answered, follow}
 use Rattle.protocol.specs.Calls.{opening, block, decide}
 use Rattle.protocol.specs.Runs.{Invocation, ruleOf, step, run}
 use Rattle.protocol.specs.Theorems.{Accepted}
-use Rattle.protocol.specs.History.{Event, reopened, other, acceptedEvent, eventOf, history, givenParent, shown, panel}
+use Rattle.protocol.specs.History.{Event, reopened, other, acceptedEvent, eventOf, history, givenParent, latest, panel}
 use Rattle.protocol.specs.Agreement.{PanelsRise, Life, eventsOf, endOf, Agreement, WordsMatchHistory, Extends, OnlyAppended}
 use Rattle.protocol.specs.Agreement.{WouldAgree}
 use Rattle.protocol.proofs.Needs.{Holds, no-refusal, accepted-after, accepted-first}
@@ -30,15 +29,21 @@ use Rattle.protocol.proofs.Reached.{Reached, Follows, one-line, chosen-
 
 -- ---- one call
 
--- A refused call, or an accepted one with its values.
+-- The event of a call that is accepted, with its values.
+abbrev eventIfAccepted : Memory → Call → List ℕ → Event
+eventIfAccepted m call list =
+    let rule = ruleOf m call list in
+    acceptedEvent call (record { number = 0; first = rule .first; second = rule .second })
+
+-- A refused call, or an accepted one.
 step-cases : (P : Event → Memory → Type 0) (m : Memory) (call : Call) (list : List ℕ) → P other m
-    → (Holds (ruleOf m call list .needs) → P (acceptedEvent call (record { number = 0; first = ruleOf m call list .first; second = ruleOf m call list .second })) (ruleOf m call list .after))
+    → (Holds (ruleOf m call list .needs) → P (eventIfAccepted m call list) (ruleOf m call list .after))
     → P (eventOf call (step m call list .answer)) (step m call list .memory)
 unfolding step follow answered eventOf
 step-cases P m call list refused accepted = go (firstRefusal (ruleOf m call list .needs)) refl
   where
     go : (n : ℕ) → firstRefusal (ruleOf m call list .needs) ≡ n
-        → P (cond (eqb (answered n m (ruleOf m call list) .answer .number) 0) (acceptedEvent call (answered n m (ruleOf m call list) .answer)) other) (answered n m (ruleOf m call list) .memory)
+        → let o = answered n m (ruleOf m call list) in P (eventOf call (o .answer)) (o .memory)
     go zero e = accepted (needs-hold m call list e)
     go (suc n) e = rw (eqb·suc-zero n) refused
 
@@ -51,7 +56,7 @@ idle m safe =
           record {
             faults = refl;
             extends = record { certificates = omega arith; certificate = λ c l. refl; blocks = omega arith; parent = λ b l. refl };
-            lows = λ i. omega arith;
+            minViews = λ i. omega arith;
             limits = λ i. omega arith;
             flags = λ i a b e. e;
             commits = λ c a b k. absurd (omega arith);
@@ -60,9 +65,8 @@ idle m safe =
     }
 
 accepted-step : (f : ℕ) (past : List Event) (m : Memory) → Reached f past m → (call : Call) (list : List ℕ)
-    → Holds (ruleOf m call list .needs)
-    → let e = acceptedEvent call (record { number = 0; first = ruleOf m call list .first; second = ruleOf m call list .second }) in (e ≡ reopened → ⊥)
-    → Follows f (e ∷ past) m (ruleOf m call list .after)
+    → Holds (ruleOf m call list .needs) → (eventIfAccepted m call list ≡ reopened → ⊥)
+    → Follows f (eventIfAccepted m call list ∷ past) m (ruleOf m call list .after)
 unfolding ruleOf block
 accepted-step f past m h (Open g) list hold again = absurd (again refl)
 accepted-step f past m h (Block p) list hold again = added-block f past m h p hold
@@ -120,7 +124,7 @@ runs f past since m (q ∷ qs) h once =
 
 -- What an accepted opening leaves is a start.
 start : (m : Memory) (f : ℕ) (list : List ℕ) → Accepted (step m (Open f) list) → Reached f [] (step m (Open f) list .memory)
-unfolding step ruleOf opening givenParent shown counterStep
+unfolding step ruleOf opening givenParent latest counterStep
 start m f list accepted =
     let h = needs-hold m (Open f) list (no-refusal m (ruleOf m (Open f) list) accepted) in
     let o = opened m f (h .1 .0) in

@@ -7,8 +7,8 @@ use native.Mathlib.Omega.{arith}
 use lib.ListN.{length, getD, length-set}
 use lib.Seq.{length-sets}
 use lib.Dec.{ltb, eqb}
-use Rattle.protocol.specs.Memory.{Memory, Assignment, replicaCount, faultBound, certificateCount, blockCount, rowAt}
-use Rattle.protocol.specs.Memory.{certificateWords, certificateAt, certificateWord, certificate, words, blockAt, parent}
+use Rattle.protocol.specs.Memory.{Memory, Assignment, replicaCount, certificateCountAt, blockCountAt, faultBound, certificateCount}
+use Rattle.protocol.specs.Memory.{blockCount, rowAt, certificateWords, certificateAt, certificateWord, certificate, blockAt, parent}
 use Rattle.protocol.specs.Memory.{assign, update, appendCertificate, appendBlock}
 use Rattle.protocol.specs.Form.{countsFit, blockFormed, certificateFormed, wellFormed}
 use Rattle.protocol.specs.Certificates.{firstBelow, hasWords, numberFor, isFiled, canFile, file}
@@ -83,7 +83,7 @@ module _ (m : Memory) (l b : List ℕ) (a : Alike m (twin m l b)) where
   append-alike ws whole formed =
       let z = sizes m formed in
       let more = append-count m ws whole (omega arith) in
-      let same : blockCount (appendCertificate m ws) ≡ blockCount m = append-table m ws whole 2 (omega arith) in
+      let same = append-table m ws whole blockCountAt (omega arith) in
       let at = certificateAt (certificateCount m) in
       record {
         table = refl;
@@ -111,7 +111,7 @@ module _ (m : Memory) (l b : List ℕ) (a : Alike m (twin m l b)) where
   block-alike p formed =
       let z = sizes m formed in
       let more = block-count m p (omega arith) in
-      let same : certificateCount (appendBlock m p) ≡ certificateCount m = block-table m p 1 (omega arith) in
+      let same = block-table m p certificateCountAt (omega arith) in
       let at = blockAt (blockCount m) in
       record {
         table = refl;
@@ -125,8 +125,8 @@ pub update-alike : (m m′ : Memory) (i : ℕ) (cs : List Assignment) → within
     → Alike (update m i cs) (update m′ i cs)
 unfolding update
 update-alike m m′ i cs within a =
-    let c : certificateCount (update m i cs) ≡ certificateCount m = update-header m i cs within 1 (omega arith) in
-    let b : blockCount (update m i cs) ≡ blockCount m = update-header m i cs within 2 (omega arith) in
+    let c = update-header m i cs within certificateCountAt (omega arith) in
+    let b = update-header m i cs within blockCountAt (omega arith) in
     record {
       table = ap (λ (t : List ℕ). assign t (rowAt i) cs) (a .table);
       logLength = a .logLength;

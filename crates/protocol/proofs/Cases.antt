@@ -14,5 +14,8 @@ use Rattle.protocol.specs.Runs.{ruleOf, step, run, answers}
 use Rattle.protocol.specs.Cases.{cases, CasesHold}
 
 pub cases-hold : CasesHold
-unfolding update appendCertificate appendBlock allHold allBelow blockFormed replicaFormed certificateFormed lengthsFit countsFit wellFormed firstBelow hasWords numberFor isFiled canFile file leads counterStep every contains distinct isCommitQuorum isNewViewQuorum isReplyQuorum greatestFrom firstRefusal answered follow issuing freshReplicas opening block prepare store view accumulate decide reboot reserve request reply recover ruleOf step run answers cases CasesHold
+unfolding update appendCertificate appendBlock allHold allBelow blockFormed replicaFormed certificateFormed lengthsFit countsFit wellFormed
+    firstBelow hasWords numberFor isFiled canFile file leads counterStep every contains distinct isCommitQuorum isNewViewQuorum
+    isReplyQuorum greatestFrom firstRefusal answered follow issuing freshReplicas opening block prepare store view accumulate decide
+    reboot reserve request reply recover ruleOf step run answers cases CasesHold
 cases-hold = refl

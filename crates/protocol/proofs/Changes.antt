@@ -8,38 +8,40 @@ use native.Mathlib.Omega.{arith}
 use lib.ListN.{length, getD, length-set}
 use lib.Seq.{getD-set-same, getD-set-other, length-sets}
 use Rattle.protocol.specs.Memory.{Memory, Replica, Certificate, Assignment, certificateCountAt, blockCountAt}
-use Rattle.protocol.specs.Memory.{certificateCount, blockCount, rowStart, rowAt, replicaWords, replicaWord, replica}
-use Rattle.protocol.specs.Memory.{certificateWords, certificateAt, certificateWord, certificate, blockAt, parent}
+use Rattle.protocol.specs.Memory.{certificateCount, blockCount, rowStart, rowAt, replicaWords, replicaWord, replica, statusAt}
+use Rattle.protocol.specs.Memory.{bootAt, minViewAt, viewLimitAt, flagAt, storedViewAt, storedBlockAt, decidedViewAt}
+use Rattle.protocol.specs.Memory.{decidedBlockAt, certificateWords, certificateAt, certificateWord, certificate, kindAt}
+use Rattle.protocol.specs.Memory.{signerAt, viewAt, proposedBlockAt, ofViewAt, subjectAt, subjectBootAt, blockAt, parent}
 use Rattle.protocol.specs.Memory.{update, appendCertificate, appendBlock}
 use Rattle.protocol.specs.Theorems.{SameLengths}
 use Rattle.protocol.proofs.Words.{assigned, withinRow, avoids-row, length-assign, assign-elsewhere, assign-at}
 use Rattle.protocol.proofs.Words.{sets-elsewhere, sets-at}
 
--- A replica and a certificate, by the words at their places.
+-- A replica and a certificate, by their words.
 abbrev replicaBy : ((k : ℕ) → k < replicaWords → ℕ) → Replica
 replicaBy word =
     record {
-      status = word 0 (omega arith);
-      boot = word 1 (omega arith);
-      minView = word 2 (omega arith);
-      viewLimit = word 3 (omega arith);
-      flag = word 4 (omega arith);
-      storedView = word 5 (omega arith);
-      storedBlock = word 6 (omega arith);
-      decidedView = word 7 (omega arith);
-      decidedBlock = word 8 (omega arith);
+      status = word statusAt (omega arith);
+      boot = word bootAt (omega arith);
+      minView = word minViewAt (omega arith);
+      viewLimit = word viewLimitAt (omega arith);
+      flag = word flagAt (omega arith);
+      storedView = word storedViewAt (omega arith);
+      storedBlock = word storedBlockAt (omega arith);
+      decidedView = word decidedViewAt (omega arith);
+      decidedBlock = word decidedBlockAt (omega arith);
     }
 
 abbrev certificateBy : ((k : ℕ) → k < certificateWords → ℕ) → Certificate
 certificateBy word =
     record {
-      kind = word 0 (omega arith);
-      signer = word 1 (omega arith);
-      view = word 2 (omega arith);
-      block = word 3 (omega arith);
-      ofView = word 4 (omega arith);
-      subject = word 5 (omega arith);
-      boot = word 6 (omega arith);
+      kind = word kindAt (omega arith);
+      signer = word signerAt (omega arith);
+      view = word viewAt (omega arith);
+      block = word proposedBlockAt (omega arith);
+      ofView = word ofViewAt (omega arith);
+      subject = word subjectAt (omega arith);
+      boot = word subjectBootAt (omega arith);
     }
 
 -- They are as before where their words are.
@@ -57,15 +59,15 @@ certificate-same m m′ c h = λ d. certificateBy (λ k l. h k l d)
 abbrev pub changed : List Assignment → Replica → Replica
 changed cs r =
     record {
-      status = assigned cs 0 (r .status);
-      boot = assigned cs 1 (r .boot);
-      minView = assigned cs 2 (r .minView);
-      viewLimit = assigned cs 3 (r .viewLimit);
-      flag = assigned cs 4 (r .flag);
-      storedView = assigned cs 5 (r .storedView);
-      storedBlock = assigned cs 6 (r .storedBlock);
-      decidedView = assigned cs 7 (r .decidedView);
-      decidedBlock = assigned cs 8 (r .decidedBlock);
+      status = assigned cs statusAt (r .status);
+      boot = assigned cs bootAt (r .boot);
+      minView = assigned cs minViewAt (r .minView);
+      viewLimit = assigned cs viewLimitAt (r .viewLimit);
+      flag = assigned cs flagAt (r .flag);
+      storedView = assigned cs storedViewAt (r .storedView);
+      storedBlock = assigned cs storedBlockAt (r .storedBlock);
+      decidedView = assigned cs decidedViewAt (r .decidedView);
+      decidedBlock = assigned cs decidedBlockAt (r .decidedBlock);
     }
 
 pub update-lengths : (m : Memory) (i : ℕ) (cs : List Assignment) → SameLengths (update m i cs) m

@@ -19,7 +19,7 @@ file-cases P m ws old new = go (isFiled m ws) refl
     go true e = old e
     go false e = new e
 
--- A certificate that must be added has a place.
+-- A certificate that must be added has a slot.
 pub must-have-room : (m : Memory) (ws : List ℕ) → canFile m ws ≡ true → isFiled m ws ≡ false → logHasRoom m ≡ true
 unfolding canFile
 must-have-room m ws can e = rw e at can

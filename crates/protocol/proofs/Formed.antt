@@ -1,10 +1,12 @@
--- The form, both ways: what it tells, and what shows it. Then the three changes that keep it: words of a replica, a certificate, a block.
+-- The form, both ways: what it tells, and what shows it; that parents fall, and the numbers that it tells.
 use Prim.Native.Nat.{ℕ, _≤_, _<_, _%_}
 use mathlib.Core.Path.{_≡_}
-use mathlib.Core.Bool.{true}
+use mathlib.Core.Bool.{true, false}
 use lib.ListN.{length}
-use Rattle.protocol.specs.Memory.{Memory, replicaCount, faultBound, certificateCount, blockCount, tableLength, replica}
-use Rattle.protocol.specs.Memory.{certificateWords, certificateAt, certificate, words, blockAt, parent}
+use lib.Dec.{eqb}
+use Rattle.protocol.specs.Memory.{Memory, maxFaultBound, replicaCount, faultBound, certificateCount, blockCount, tableLength}
+use Rattle.protocol.specs.Memory.{replica, certificateWords, certificateAt, certificate, blockAt, parent}
+use Rattle.protocol.specs.Ancestry.{Falls}
 use Rattle.protocol.specs.Form.{isFaultBound, lengthsFit, countsFit, blockFormed, replicaFormed, certificateFormed}
 use Rattle.protocol.specs.Form.{wellFormed}
 use Rattle.protocol.proofs.Tests.{tests, each, all-hold, at-below, all-below}
@@ -42,10 +44,18 @@ form m h =
       ),
     )
 
+-- Well-formed parents fall.
+pub falls : (m : Memory) → Formed m → Falls (parent m) (blockCount m)
+unfolding blockFormed
+falls m h b l n =
+    let z : eqb b 0 ≡ false = omega tests in
+    let e = rw z at (h .parents b l) in
+    omega tests
+
 -- The numbers that the form tells.
 pub record Sizes (m : Memory) : Type 0 where
   pub faultsLow : 1 ≤ faultBound m
-  pub faultsHigh : faultBound m ≤ 30
+  pub faultsHigh : faultBound m ≤ maxFaultBound
   pub table : length (m .table) ≡ tableLength (faultBound m)
   pub logWhole : length (m .log) % certificateWords ≡ 0
   pub certificatesFit : certificateAt (certificateCount m) ≤ length (m .log)

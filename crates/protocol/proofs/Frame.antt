@@ -1,7 +1,7 @@
 -- Only the words named for a call change, and lengths never do.
 use Prim.Native.Nat.{ℕ, zero, suc, _+_, _≤_}
 use mathlib.Core.Path.{_≡_, refl, sym, ap, _∙_}
-use mathlib.Core.List.{List, [], _∷_, _++_, map, List·Memᴰ, List·Memᴰ·head, List·Memᴰ·tail}
+use mathlib.Core.List.{List, [], _∷_, map, List·Memᴰ, List·Memᴰ·head, List·Memᴰ·tail}
 use native.Mathlib.Nat.{zero-add}
 use native.Mathlib.Omega.{arith}
 use lib.ListN.{length, getD, List·getD-eq-default}
@@ -19,7 +19,7 @@ use Rattle.protocol.specs.Outcome.{Need}
 use Rattle.protocol.specs.Calls.{issuing, freshReplicas, freshHeader, retires, opening, block, prepare, store, view}
 use Rattle.protocol.specs.Calls.{accumulate, decide, reboot, reserve, request, reply, recover}
 use Rattle.protocol.specs.Runs.{ruleOf, step}
-use Rattle.protocol.specs.Theorems.{Place, tableWord, logWord, blockWord, wordAt, below, certificatePlaces, blockPlaces}
+use Rattle.protocol.specs.Theorems.{Address, tableWord, logWord, blockWord, wordAt, below, certificateAddresses, blockAddresses}
 use Rattle.protocol.specs.Theorems.{named, SameLengths, OnlyNamedChange, LengthsStay}
 use Rattle.protocol.proofs.Tests.{by-cond}
 use Rattle.protocol.proofs.Needs.{left-memory}
@@ -28,21 +28,17 @@ use Rattle.protocol.proofs.Changes.{update-lengths, append-table, block
 use Rattle.protocol.proofs.Filing.{file-cases, file-lengths}
 use Rattle.protocol.proofs.Opened.{fresh-lengths, fresh-log, fresh-blocks, header-lengths}
 
--- A place that is none of a list.
-abbrev Apart : Place → List Place → Type 0
-Apart p [] = Unit {0}
-Apart p (x ∷ xs) = (p ≡ x → ⊥) × Apart p xs
+-- An address that is none of a list.
+abbrev Apart : Address → List Address → Type 0
+Apart a [] = Unit {0}
+Apart a (x ∷ xs) = (a ≡ x → ⊥) × Apart a xs
 
-apart : (p : Place) (xs : List Place) → (List·Memᴰ p xs → ⊥) → Apart p xs
-apart p [] h = tt
-apart p (x ∷ xs) h = (λ e. h (List·Memᴰ·head e), apart p xs (λ w. h (List·Memᴰ·tail w)))
+apart : (a : Address) (xs : List Address) → (List·Memᴰ a xs → ⊥) → Apart a xs
+apart a [] h = tt
+apart a (x ∷ xs) h = (λ e. h (List·Memᴰ·head e), apart a xs (λ w. h (List·Memᴰ·tail w)))
 
-apart-both : (p : Place) (xs ys : List Place) → Apart p (xs ++ ys) → Apart p xs × Apart p ys
-apart-both p [] ys h = (tt, h)
-apart-both p (x ∷ xs) ys h = let both = apart-both p xs ys (h .1) in ((h .0, both .0), both .1)
-
--- A place past a run of words from an index on.
-past-run : (word : ℕ → Place) (n at j : ℕ) → Apart (word j) (map (λ k. word (at + k)) (below n)) → at ≤ j → at + n ≤ j
+-- An index past a run of words from an index on.
+past-run : (word : ℕ → Address) (n at j : ℕ) → Apart (word j) (map (λ k. word (at + k)) (below n)) → at ≤ j → at + n ≤ j
 past-run word zero at j h le = omega arith
 past-run word (suc n) at j h le =
     let more = past-run word n at j (h .1) le in
@@ -51,23 +47,23 @@ past-run word (suc n) at j h le =
 
 -- ---- the changes
 
--- A place that no assignment to a replica names.
-abbrev AwayFrom : ℕ → Place → List Assignment → Type 0
-AwayFrom i p [] = Unit {0}
-AwayFrom i p ((o becomes v) ∷ rest) = (p ≡ tableWord (rowAt i + o) → ⊥) × AwayFrom i p rest
+-- An address that no assignment to a replica names.
+abbrev AwayFrom : ℕ → Address → List Assignment → Type 0
+AwayFrom i a [] = Unit {0}
+AwayFrom i a ((o becomes v) ∷ rest) = (a ≡ tableWord (rowAt i + o) → ⊥) × AwayFrom i a rest
 
 avoids : (i j : ℕ) (cs : List Assignment) → AwayFrom i (tableWord j) cs → Avoids (rowAt i) cs j
 avoids i j [] h = tt
 avoids i j ((o becomes v) ∷ rest) h = (λ e. h .0 (ap tableWord e), avoids i j rest (h .1))
 
-update-frame : (m : Memory) (i : ℕ) (cs : List Assignment) (p : Place) → AwayFrom i p cs → wordAt (update m i cs) p ≡ wordAt m p
+update-frame : (m : Memory) (i : ℕ) (cs : List Assignment) (a : Address) → AwayFrom i a cs → wordAt (update m i cs) a ≡ wordAt m a
 unfolding wordAt update
 update-frame m i cs (tableWord j) h = assign-elsewhere cs (m .table) (rowAt i) j (avoids i j cs h)
 update-frame m i cs (logWord j) h = refl
 update-frame m i cs (blockWord j) h = refl
 
-append-frame : (m : Memory) (ws : List ℕ) → length ws ≡ certificateWords → (p : Place) → Apart p (certificatePlaces m)
-    → wordAt (appendCertificate m ws) p ≡ wordAt m p
+append-frame : (m : Memory) (ws : List ℕ) → length ws ≡ certificateWords → (a : Address) → Apart a (certificateAddresses m)
+    → wordAt (appendCertificate m ws) a ≡ wordAt m a
 unfolding wordAt appendCertificate
 append-frame m ws whole (tableWord j) h = append-table m ws whole j (λ e. h .0 (ap tableWord e))
 append-frame m ws whole (logWord j) h =
@@ -75,14 +71,14 @@ append-frame m ws whole (logWord j) h =
     (λ le. let far = past-run logWord certificateWords (certificateAt (certificateCount m)) j (h .1) le in omega arith)
 append-frame m ws whole (blockWord j) h = refl
 
-issuing-frame : (m : Memory) (needs : List Need) (i : ℕ) (cs : List Assignment) (c : Certificate) (p : Place) → AwayFrom i p cs
-    → Apart p (certificatePlaces m) → wordAt (issuing m needs i cs c .after) p ≡ wordAt m p
+issuing-frame : (m : Memory) (needs : List Need) (i : ℕ) (cs : List Assignment) (c : Certificate) (a : Address) → AwayFrom i a cs
+    → Apart a (certificateAddresses m) → wordAt (issuing m needs i cs c .after) a ≡ wordAt m a
 unfolding issuing
-issuing-frame m needs i cs c p away new =
-    update-frame (file m (words c)) i cs p away
-    ∙ file-cases (λ x. wordAt x p ≡ wordAt m p) m (words c) (λ e. refl) (λ e. append-frame m (words c) refl p new)
+issuing-frame m needs i cs c a away new =
+    update-frame (file m (words c)) i cs a away
+    ∙ file-cases (λ x. wordAt x a ≡ wordAt m a) m (words c) (λ e. refl) (λ e. append-frame m (words c) refl a new)
 
-block-frame : (m : Memory) (b : ℕ) (p : Place) → Apart p (blockPlaces m) → wordAt (appendBlock m b) p ≡ wordAt m p
+block-frame : (m : Memory) (b : ℕ) (a : Address) → Apart a (blockAddresses m) → wordAt (appendBlock m b) a ≡ wordAt m a
 unfolding wordAt appendBlock
 block-frame m b (tableWord j) h = block-table m b j (λ e. h .0 (ap tableWord e))
 block-frame m b (logWord j) h = refl
@@ -94,8 +90,8 @@ opening-lengths m f =
     let s = header-lengths m f in
     record { table = l .table ∙ s .table; log = l .log ∙ s .log; blocks = l .blocks ∙ s .blocks }
 
-opening-frame : (m : Memory) (f : ℕ) (p : Place) → Apart p (named m (Open f))
-    → wordAt (freshReplicas (freshHeader m f) (replicaCount f)) p ≡ wordAt m p
+opening-frame : (m : Memory) (f : ℕ) (a : Address) → Apart a (named m (Open f))
+    → wordAt (freshReplicas (freshHeader m f) (replicaCount f)) a ≡ wordAt m a
 unfolding wordAt named
 opening-frame m f (tableWord j) h =
     let far = past-run tableWord (length (m .table)) 0 j (simp zero-add (h .1)) (omega arith) in
@@ -109,31 +105,31 @@ opening-frame m f (blockWord j) h =
 
 -- ---- the calls
 
-frame : (m : Memory) (call : Call) (list : List ℕ) (p : Place) → Apart p (named m call)
-    → wordAt (ruleOf m call list .after) p ≡ wordAt m p
+frame : (m : Memory) (call : Call) (list : List ℕ) (a : Address) → Apart a (named m call)
+    → wordAt (ruleOf m call list .after) a ≡ wordAt m a
 unfolding ruleOf named opening block prepare store view accumulate decide reboot reserve request reply recover
-frame m (Open f) list p h = opening-frame m f p h
-frame m (Block b) list p h = block-frame m b p h
-frame m (Prepare i b justification) list p h = issuing-frame m _ i _ _ p (h .0, tt) (h .1)
-frame m (Store i number) list p h = issuing-frame m _ i _ _ p (h .0, (h .1 .0, (h .1 .1 .0, (h .1 .1 .1 .0, tt)))) (h .1 .1 .1 .1)
-frame m (View i w) list p h = issuing-frame m _ i _ _ p (h .0, (h .1 .0, tt)) (h .1 .1)
-frame m (Accumulate i) list p h = issuing-frame m _ i _ _ p tt h
-frame m (Decide i) list p h =
-    update-frame m i _ p
-    (by-cond (AwayFrom i p) (ltb (replica m i .decidedView) (firstOf (certificatesOf m list) .view)) (λ e. h) (λ e. tt))
-frame m (Reboot i) list p h = update-frame m i _ p (by-cond (AwayFrom i p) (retires m i) (λ e. (h .0, tt)) (λ e. h))
-frame m (Reserve i) list p h = update-frame m i _ p h
-frame m (Request i) list p h = issuing-frame m _ i _ _ p tt h
-frame m (Reply i number) list p h =
-    issuing-frame m _ i _ _ p
-    (by-cond (AwayFrom i p) (ltb (replica m i .minView) (certificate m number .view)) (λ e. (h .0, (h .1 .0, tt))) (λ e. tt)) (h .1 .1)
-frame m (Recover i) list p h = update-frame m i _ p h
+frame m (Open f) list a h = opening-frame m f a h
+frame m (Block b) list a h = block-frame m b a h
+frame m (Prepare i b justification) list a h = issuing-frame m _ i _ _ a (h .0, tt) (h .1)
+frame m (Store i number) list a h = issuing-frame m _ i _ _ a (h .0, (h .1 .0, (h .1 .1 .0, (h .1 .1 .1 .0, tt)))) (h .1 .1 .1 .1)
+frame m (View i w) list a h = issuing-frame m _ i _ _ a (h .0, (h .1 .0, tt)) (h .1 .1)
+frame m (Accumulate i) list a h = issuing-frame m _ i _ _ a tt h
+frame m (Decide i) list a h =
+    update-frame m i _ a
+    (by-cond (AwayFrom i a) (ltb (replica m i .decidedView) (firstOf (certificatesOf m list) .view)) (λ e. h) (λ e. tt))
+frame m (Reboot i) list a h = update-frame m i _ a (by-cond (AwayFrom i a) (retires m i) (λ e. (h .0, tt)) (λ e. h))
+frame m (Reserve i) list a h = update-frame m i _ a h
+frame m (Request i) list a h = issuing-frame m _ i _ _ a tt h
+frame m (Reply i number) list a h =
+    issuing-frame m _ i _ _ a
+    (by-cond (AwayFrom i a) (ltb (replica m i .minView) (certificate m number .view)) (λ e. (h .0, (h .1 .0, tt))) (λ e. tt)) (h .1 .1)
+frame m (Recover i) list a h = update-frame m i _ a h
 
 pub only-named-change : OnlyNamedChange
 unfolding OnlyNamedChange step
-only-named-change m call list p h =
-    left-memory (λ x. wordAt x p ≡ wordAt m p) m (ruleOf m call list) refl
-    (λ e. frame m call list p (apart p (named m call) h))
+only-named-change m call list a h =
+    left-memory (λ x. wordAt x a ≡ wordAt m a) m (ruleOf m call list) refl
+    (λ e. frame m call list a (apart a (named m call) h))
 
 issuing-lengths : (m : Memory) (needs : List Need) (i : ℕ) (cs : List Assignment) (c : Certificate)
     → SameLengths (issuing m needs i cs c .after) m

@@ -6,9 +6,9 @@ use mathlib.Core.List.{List, [], _∷_}
 use native.Mathlib.Omega.{arith}
 use lib.ListN.{length}
 use lib.Dec.{eqb}
-use Rattle.protocol.specs.Memory.{Memory, Replica, Certificate, Assignment, replicaCount, faultBound, certificateCount}
-use Rattle.protocol.specs.Memory.{blockCount, replica, certificateWords, certificateAt, certificate, words, blockAt}
-use Rattle.protocol.specs.Memory.{parent, update, appendCertificate, appendBlock}
+use Rattle.protocol.specs.Memory.{Memory, Replica, Certificate, Assignment, replicaCount, faultBoundAt, certificateCountAt}
+use Rattle.protocol.specs.Memory.{blockCountAt, faultBound, certificateCount, blockCount, replica, certificateWords}
+use Rattle.protocol.specs.Memory.{certificateAt, certificate, words, blockAt, update, appendCertificate, appendBlock}
 use Rattle.protocol.specs.Form.{lengthsFit, countsFit, blockFormed, replicaFormed, certificateFormed}
 use Rattle.protocol.specs.Certificates.{canFile, file, logHasRoom}
 use Rattle.protocol.specs.Outcome.{Need, _else_, noRoom}
@@ -60,9 +60,9 @@ unfolding update
 update-keeps m i cs h own suits =
     let within = suits .within in
     let z = sizes m h in
-    let f : faultBound (update m i cs) ≡ faultBound m = update-header m i cs within 0 (omega arith) in
-    let c : certificateCount (update m i cs) ≡ certificateCount m = update-header m i cs within 1 (omega arith) in
-    let b : blockCount (update m i cs) ≡ blockCount m = update-header m i cs within 2 (omega arith) in
+    let f = update-header m i cs within faultBoundAt (omega arith) in
+    let c = update-header m i cs within certificateCountAt (omega arith) in
+    let b = update-header m i cs within blockCountAt (omega arith) in
     let same = lengths-same (update m i cs) m (faultBound m) (update-lengths m i cs) in
     record {
       faults = rw f (h .faults);
@@ -87,9 +87,9 @@ pub append-keeps : (m : Memory) (ws : List ℕ) → length ws ≡ certificateWor
 unfolding appendCertificate
 append-keeps m ws whole h room good =
     let z = sizes m h in
-    let f : faultBound (appendCertificate m ws) ≡ faultBound m = append-table m ws whole 0 (omega arith) in
+    let f = append-table m ws whole faultBoundAt (omega arith) in
     let c = append-count m ws whole (omega arith) in
-    let b : blockCount (appendCertificate m ws) ≡ blockCount m = append-table m ws whole 2 (omega arith) in
+    let b = append-table m ws whole blockCountAt (omega arith) in
     let s = append-lengths m ws whole in
     let fits : certificateAt (certificateCount m) + certificateWords ≤ length (m .log) = omega tests in
     record {
@@ -121,8 +121,8 @@ pub block-keeps : (m : Memory) (p : ℕ) → Formed m → p < blockCount m → b
 unfolding appendBlock
 block-keeps m p h known room =
     let z = sizes m h in
-    let f : faultBound (appendBlock m p) ≡ faultBound m = block-table m p 0 (omega arith) in
-    let c : certificateCount (appendBlock m p) ≡ certificateCount m = block-table m p 1 (omega arith) in
+    let f = block-table m p faultBoundAt (omega arith) in
+    let c = block-table m p certificateCountAt (omega arith) in
     let b = block-count m p (omega arith) in
     let s = block-lengths m p in
     record {
@@ -160,8 +160,8 @@ pub issuing-keeps : (m : Memory) (needs : List Need) (i : ℕ) (cs : List Assign
     → Formed (issuing m needs i cs c .after)
 unfolding issuing
 issuing-keeps m needs i cs c hold h own certificate suits =
-    let f : faultBound (file m (words c)) ≡ faultBound m = file-table m (words c) refl 0 (omega arith) in
-    let b : blockCount (file m (words c)) ≡ blockCount m = file-table m (words c) refl 2 (omega arith) in
+    let f = file-table m (words c) refl faultBoundAt (omega arith) in
+    let b = file-table m (words c) refl blockCountAt (omega arith) in
     let can = issuing-needs m needs i cs c hold .1 in
     update-keeps (file m (words c)) i cs (file-keeps m c h can certificate) (omega tests)
     (record {

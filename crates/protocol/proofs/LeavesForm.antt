@@ -64,7 +64,9 @@ view-leaves m i w hold =
     issuing-keeps m _ i _ _ hold z (h .1 .0) (all-hold _ (omega tests))
     (record {
       within = refl;
-      row = all-hold _ (omega tests, (by-cond (λ (x : ℕ). leb x raised ≡ true) (isAhead (replica m i) w) (λ e. omega tests) (λ e. omega tests), omega tests));
+      row =
+          let flag = by-cond (λ (x : ℕ). leb x raised ≡ true) (isAhead (replica m i) w) (λ e. omega tests) (λ e. omega tests) in
+          all-hold _ (omega tests, (flag, omega tests));
     })
 
 pub accumulate-leaves : (m : Memory) (i : ℕ) (list : List ℕ) → Holds (accumulate m i list .needs)

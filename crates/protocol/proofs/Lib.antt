@@ -1,4 +1,5 @@
--- What follows from the definitions: laws of their parts, then the theorems that specs/Theorems.antt states, and the table of cases.
+-- What follows from the definitions: laws of their parts, then the theorems that specs/Theorems.antt and specs/Agreement.antt state, and
+-- the table of cases.
 pub mod Tests
 pub mod Needs
 pub mod Rules

@@ -1,20 +1,16 @@
 -- Lines of parents: a block's ancestors, as the steps up to them; and what the tests and heights of specs/Ancestry.antt say of them.
 use Prim.Native.Nat.{ℕ, zero, suc, _+_, _≤_, _<_}
 use mathlib.Core.Path.{_≡_, refl, ap}
-use mathlib.Core.Bool.{Bool, true, false, not, _||_}
+use mathlib.Core.Bool.{true, false, or-true}
 use native.Mathlib.Omega.{arith}
 use lib.Dec.{eqb}
-use Rattle.protocol.specs.Ancestry.{inLine, isAncestorBy, stepsToRoot, heightBy}
+use Rattle.protocol.specs.Ancestry.{inLine, Falls, isAncestorBy, stepsToRoot, heightBy}
 use Rattle.protocol.proofs.Tests.{tests, by-test}
 
 -- Block a is block b, or is in the line of b's parent, for b not 0.
 pub data Line (parentOf : ℕ → ℕ) (a : ℕ) : ℕ → Type 0 where
   self : Line parentOf a a
   up : {b : ℕ} → (b ≡ 0 → ⊥) → Line parentOf a (parentOf b) → Line parentOf a b
-
--- Each parent is below its block, for the blocks below a count.
-abbrev pub Falls : (ℕ → ℕ) → ℕ → Type 0
-Falls parentOf count = (b : ℕ) → b < count → (b ≡ 0 → ⊥) → parentOf b < b
 
 -- ---- lines are the same where the parents are
 
@@ -38,11 +34,7 @@ line-found p count falls {a} {b} (suc steps) le l (up n w) =
     let lower = falls b l n in
     let found = line-found p count falls steps (omega arith) (omega arith) w in
     let e : eqb b 0 ≡ false = omega tests in
-    rw (e, found) (either (eqb a b))
-  where
-    either : (t : Bool) → (t || true) ≡ true
-    either true = refl
-    either false = refl
+    rw (e, found) (or-true (eqb a b))
 
 pub is-ancestor : (p : ℕ → ℕ) (count : ℕ) → Falls p count → {a b : ℕ} → b < count → Line p a b → isAncestorBy p a b ≡ true
 is-ancestor p count falls {a} {b} l w = line-found p count falls b (omega arith) l w
@@ -70,7 +62,8 @@ height-up p count falls zero l n = absurd (n refl)
 height-up p count falls (suc b) l n =
     let lower = falls (suc b) l n in
     let e : eqb (suc b) 0 ≡ false = omega tests in
-    rw e (ap (λ (h : ℕ). h + 1) (steps-same p p count falls (λ x y. refl) (p (suc b)) b (p (suc b)) (omega arith) (omega arith) (omega arith)))
+    let same = steps-same p p count falls (λ x y. refl) (p (suc b)) b (p (suc b)) (omega arith) (omega arith) (omega arith) in
+    rw e (ap (λ (h : ℕ). h + 1) same)
 
 -- An ancestor is not higher.
 pub height-line : (p : ℕ → ℕ) (count : ℕ) → Falls p count → {a b : ℕ} → b < count → Line p a b → heightBy p a ≤ heightBy p b

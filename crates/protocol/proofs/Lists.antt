@@ -1,4 +1,5 @@
--- Lists of certificates: what holds of every issued certificate holds of each one that an issued list names, of its first and of its greatest.
+-- Lists of certificates: what holds of every issued certificate holds of each one that an issued list names, of its first and of its
+-- greatest.
 use Prim.Native.Nat.{ℕ, _<_}
 use mathlib.Core.Path.{_≡_}
 use mathlib.Core.Bool.{true}

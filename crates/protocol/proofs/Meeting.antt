@@ -1,7 +1,7 @@
 -- Quorums meet, for every f: two lists of f+1 different numbers below 2f+1 share a member.
 use Prim.Native.Nat.{ℕ, zero, suc, _+_, _≤_, _<_}
 use mathlib.Core.Path.{_≡_, refl, ap}
-use mathlib.Core.Bool.{Bool, true, false, cond, not, _||_}
+use mathlib.Core.Bool.{true, false, cond, not, or-true}
 use mathlib.Core.Logic.{_⊎_, inl, inr, ⊎-elim}
 use mathlib.Core.List.{List, [], _∷_, _++_}
 use native.Mathlib.Omega.{arith}
@@ -105,12 +105,8 @@ search-shared (x ∷ xs) R =
     by-test (contains x R)
     (λ e. inl (record { member = x; left = let s : eqb x x ≡ true = omega tests in rw s refl; right = e }))
     (λ e.
-    ⊎-elim (λ s. inl (record { member = s .member; left = rw (s .left) (either (eqb (s .member) x)); right = s .right }))
+    ⊎-elim (λ s. inl (record { member = s .member; left = rw (s .left) (or-true (eqb (s .member) x)); right = s .right }))
     (λ m. inr (e, m)) (search-shared xs R))
-  where
-    either : (t : Bool) → (t || true) ≡ true
-    either true = refl
-    either false = refl
 
 append-absent : (x : ℕ) (Q R : List ℕ) → contains x Q ≡ false → contains x R ≡ false → contains x (Q ++ R) ≡ false
 unfolding contains

@@ -1,20 +1,18 @@
 -- What every call does to the memory, shown once, and what the invariant keeps from that alone.
 use Prim.Native.Nat.{ℕ, zero, suc, _≤_, _<_}
 use mathlib.Core.Path.{_≡_, sym, ap, subst}
-use mathlib.Core.Bool.{false}
 use mathlib.Core.Logic.{_⊎_, inl, inr, ⊎-elim}
 use mathlib.Core.List.{List, [], _∷_}
 use lib.ListN.{getD}
 use native.Mathlib.Omega.{arith}
-use lib.Dec.{ltb, eqb}
+use lib.Dec.{ltb}
 use Rattle.protocol.specs.Memory.{Memory, Replica, Certificate, faultBound, certificateCount, blockCount, replica}
 use Rattle.protocol.specs.Memory.{certificate, parent, raised}
-use Rattle.protocol.specs.Form.{blockFormed}
 use Rattle.protocol.specs.Certificates.{COMMIT}
 use Rattle.protocol.specs.Agreement.{Extends}
-use Rattle.protocol.proofs.Tests.{tests, by-test, each}
-use Rattle.protocol.proofs.Formed.{Formed}
-use Rattle.protocol.proofs.Line.{Falls, line-same}
+use Rattle.protocol.proofs.Tests.{tests, by-test}
+use Rattle.protocol.proofs.Formed.{Formed, falls}
+use Rattle.protocol.proofs.Line.{line-same}
 use Rattle.protocol.proofs.Safety.{Issued, Commit, Committed, Origin, CanCommit, Choosable, Chosen, Ancestor, PropSafe}
 use Rattle.protocol.proofs.Safety.{ReportSafe, clauses, CertificateSafe, ReplicaSafe}
 
@@ -23,7 +21,7 @@ use Rattle.protocol.proofs.Safety.{ReportSafe, clauses, CertificateSafe
 pub record Moves (m m′ : Memory) : Type 0 where
   pub faults : faultBound m′ ≡ faultBound m
   pub extends : Extends m m′
-  pub lows : (i : ℕ) → replica m i .minView ≤ replica m′ i .minView
+  pub minViews : (i : ℕ) → replica m i .minView ≤ replica m′ i .minView
   pub limits : (i : ℕ) → replica m i .viewLimit ≤ replica m′ i .viewLimit
   pub flags :
       (i : ℕ) → replica m′ i .minView < replica m i .viewLimit → replica m′ i .minView ≡ replica m i .minView
@@ -32,14 +30,6 @@ pub record Moves (m m′ : Memory) : Type 0 where
       (c : ℕ) → certificateCount m ≤ c → c < certificateCount m′ → certificate m′ c .kind ≡ COMMIT
       → (replica m (certificate m′ c .signer) .minView ≤ certificate m′ c .view)
       × (certificate m′ c .view < replica m′ (certificate m′ c .signer) .minView)
-
--- Well-formed parents fall.
-pub falls : (m : Memory) → Formed m → Falls (parent m) (blockCount m)
-unfolding blockFormed
-falls m h b l n =
-    let z : eqb b 0 ≡ false = omega tests in
-    let e = rw z at (h .parents b l) in
-    omega tests
 
 -- One statement of a list carried to another list's, at the same place.
 abbrev Carries : List (Type 0) → List (Type 0) → Type 0
@@ -105,7 +95,7 @@ module _ (m m′ : Memory) (mv : Moves m m′) where
 
   can-commit-before : {v i : ℕ} → CanCommit m′ v i → CanCommit m v i
   can-commit-before {v} {i} h =
-      let low = mv .lows i in
+      let minView = mv .minViews i in
       ⊎-elim (λ c. ⊎-elim (λ old. inl old) (λ new. inr (new .0)) (committed-before c)) (λ le. inr (omega arith)) h
 
   -- What may be decided now might have been before.
@@ -119,43 +109,43 @@ module _ (m m′ : Memory) (mv : Moves m m′) where
 
   -- A COMMIT below its signer's lowest view was there before.
   pub committed-below : {v i : ℕ} → v < replica m i .minView → Committed m′ v i → Committed m v i
-  committed-below {v} {i} below c = ⊎-elim (λ old. old) (λ new. let low = new .0 in absurd (omega arith)) (committed-before c)
+  committed-below {v} {i} below c = ⊎-elim (λ old. old) (λ new. let minView = new .0 in absurd (omega arith)) (committed-before c)
 
   -- ---- the clauses of an old certificate, and of a replica that stays as it was
 
   module _ (c : Certificate) where
     report-after : ReportSafe m c → ReportSafe m′ c
     report-after h =
-        let low = mv .lows (c .signer) in
-        let had = h .low in
+        let minView = mv .minViews (c .signer) in
+        let had = h .minView in
         record {
-          low = omega arith;
+          minView = omega arith;
           origin = origin-after (h .origin);
           covers = λ v l x ch. h .covers v l (committed-below (omega arith) x) (choosable-before ch);
         }
 
     prop-after : Formed m → c .block < blockCount m → PropSafe m c → PropSafe m′ c
     prop-after formed known h =
-        let low = mv .lows (c .signer) in
+        let minView = mv .minViews (c .signer) in
         let limit = mv .limits (c .signer) in
         record {
           leader = rw (mv .faults) (h .leader);
           positive = h .positive;
           below = omega arith;
-          low = omega arith;
+          minView = omega arith;
           flag = λ e. mv .flags (c .signer) (omega arith) (omega arith) (h .flag (omega arith));
           chain = λ v a b ch. ancestor-after formed known (h .chain v a b (choosable-before ch));
         }
 
     pub certificate-after : Formed m → c .block < blockCount m → CertificateSafe m c → CertificateSafe m′ c
     certificate-after formed known h =
-        let low = mv .lows (c .signer) in
+        let minView = mv .minViews (c .signer) in
         carried (clauses m c) (clauses m′ c) (
           λ x. tt,
           (
             prop-after formed known,
             (
-              λ h. record { positive = h .positive; low = omega arith; proposed = issued-after _ (h .proposed) },
+              λ h. record { positive = h .positive; minView = omega arith; proposed = issued-after _ (h .proposed) },
               (
                 λ h. (report-after (h .0), h .1),
                 (
@@ -176,7 +166,7 @@ module _ (m m′ : Memory) (mv : Moves m m′) where
 
   pub replica-after : (i : ℕ) → replica m′ i ≡ replica m i → ReplicaSafe m i (replica m i) → ReplicaSafe m′ i (replica m i)
   replica-after i same h =
-      let low : replica m′ i .minView ≡ replica m i .minView = ap (λ (r : Replica). r .minView) same in
+      let minView : replica m′ i .minView ≡ replica m i .minView = ap (λ (r : Replica). r .minView) same in
       record {
         stored = origin-after (h .stored);
         covers =

@@ -98,7 +98,8 @@ refuses m rule n e h = rw (← e) (go n h)
     go zero h = absurd (h refl)
     go (suc n) h = refl
 
-pub accepts : (m : Memory) (rule : Rule) → 0 ≡ firstRefusal (rule .needs) → acceptance (rule .first) (rule .second) (rule .after) ≡ follow m rule
+pub accepts : (m : Memory) (rule : Rule) → 0 ≡ firstRefusal (rule .needs)
+    → acceptance (rule .first) (rule .second) (rule .after) ≡ follow m rule
 unfolding follow answered
 accepts m rule e = rw (← e) refl
 
@@ -142,7 +143,8 @@ rising-least : (ns : List Need) (least : ℕ) → risingFrom least ns ≡ true �
 rising-least [] least r w = absurd (List·Memᴰ·not-nil w)
 rising-least ((s else n) ∷ rest) least r {t} {k} w =
     let both = and-true (leb least n) (risingFrom n rest) r in
-    ⊎-elim (λ e. let q = same-number e in omega tests) (λ v. let b = rising-least rest n (both .1) v in omega tests) (List·Memᴰ·cases-cons w)
+    ⊎-elim (λ e. let q = same-number e in omega tests) (λ v. let b = rising-least rest n (both .1) v in omega tests)
+    (List·Memᴰ·cases-cons w)
 
 pub lowest-refusal : (ns : List Need) (least : ℕ) → risingFrom least ns ≡ true → {k : ℕ} → List·Memᴰ (false else k) ns
     → (least ≤ firstRefusal ns) × (firstRefusal ns ≤ k)

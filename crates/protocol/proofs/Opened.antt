@@ -6,8 +6,8 @@ use native.Mathlib.Omega.{arith}
 use lib.ListN.{length, getD, set, length-set}
 use lib.Seq.{getD-set-same, getD-set-other}
 use lib.Dec.{eqb}
-use Rattle.protocol.specs.Memory.{Memory, Replica, replicaCount, faultBound, certificateCount, blockCount, rowStart}
-use Rattle.protocol.specs.Memory.{rowAt, replica, parent, live, lowered, update}
+use Rattle.protocol.specs.Memory.{Memory, Replica, replicaCount, faultBoundAt, certificateCountAt, blockCountAt, faultBound}
+use Rattle.protocol.specs.Memory.{certificateCount, blockCount, rowStart, rowAt, replica, parent, live, lowered, update}
 use Rattle.protocol.specs.Form.{isFaultBound, lengthsFit, blockFormed, replicaFormed}
 use Rattle.protocol.specs.Counter.{counterStep}
 use Rattle.protocol.specs.Calls.{freshReplica, freshReplicas, freshHeader}
@@ -79,16 +79,17 @@ pub header : (m : Memory) (f : ℕ) → lengthsFit m f ≡ true → Header (fres
 unfolding lengthsFit
 header m f fit =
     let h = each _ fit in
-    let t = m .table in
+    let bounded = set (m .table) faultBoundAt f in
+    let counted = set bounded certificateCountAt 0 in
     record {
       faults =
-          getD-set-other (set (set t 0 f) 1 0) 2 0 1 0 (omega arith)
-          ∙ getD-set-other (set t 0 f) 1 0 0 0 (omega arith)
-          ∙ getD-set-same t 0 f 0 (omega tests);
+          getD-set-other counted blockCountAt faultBoundAt 1 0 (omega arith)
+          ∙ getD-set-other bounded certificateCountAt faultBoundAt 0 0 (omega arith)
+          ∙ getD-set-same (m .table) faultBoundAt f 0 (omega tests);
       certificates =
-          getD-set-other (set (set t 0 f) 1 0) 2 1 1 0 (omega arith)
-          ∙ getD-set-same (set t 0 f) 1 0 0 (simp length-set (omega tests));
-      blocks = getD-set-same (set (set t 0 f) 1 0) 2 1 0 (simp length-set (omega tests));
+          getD-set-other counted blockCountAt certificateCountAt 1 0 (omega arith)
+          ∙ getD-set-same bounded certificateCountAt 0 0 (simp length-set (omega tests));
+      blocks = getD-set-same counted blockCountAt 1 0 (simp length-set (omega tests));
     }
 
 -- What opening leaves, named: everything that the form and the later argument about lists of calls need to know of it.
@@ -110,9 +111,9 @@ opened m f fit =
       lengths = record { table = l .table ∙ s .table; log = l .log ∙ s .log; blocks = l .blocks ∙ s .blocks };
       header =
           record {
-            faults = same 0 (omega arith) ∙ head .faults;
-            certificates = same 1 (omega arith) ∙ head .certificates;
-            blocks = same 2 (omega arith) ∙ head .blocks;
+            faults = same faultBoundAt (omega arith) ∙ head .faults;
+            certificates = same certificateCountAt (omega arith) ∙ head .certificates;
+            blocks = same blockCountAt (omega arith) ∙ head .blocks;
           };
       root = rw (fresh-blocks (freshHeader m f) (replicaCount f)) (getD-set-same (m .blocks) 0 0 0 (omega tests));
       rows = λ i own. fresh-row (freshHeader m f) (replicaCount f) i own (omega tests);
@@ -120,12 +121,12 @@ opened m f fit =
 
 pub opened-formed : (m : Memory) (f : ℕ) (o : Memory) → isFaultBound f ≡ true → lengthsFit m f ≡ true → Opened m f o → Formed o
 unfolding lengthsFit blockFormed replicaFormed counterStep
-opened-formed m f o low fit h =
+opened-formed m f o bound fit h =
     let a = each _ fit in
     let head = h .header in
     let s = h .lengths in
     record {
-      faults = rw (head .faults) low;
+      faults = rw (head .faults) bound;
       lengths = rw (head .faults) (lengths-same o m f s ∙ fit);
       counts = counts-fit o (omega tests) (omega tests) (omega tests);
       parents = λ x l. let q : x ≡ 0 = omega arith in rw q (let r = h .root in omega tests);

@@ -105,8 +105,8 @@ covers m cs w q reports v below ch =
     let r = x .holds .0 .0 in
     let w′ = x .holds .0 .1 in
     let g = x .holds .1 in
-    let low = r .low in
+    let minView = r .minView in
     ⊎-elim
     (λ c. let most = r .covers v (omega arith) (rw (x .signer) c) ch in omega arith)
-    (λ le. let same = rw (x .signer) at low in absurd (omega arith))
+    (λ le. let same = rw (x .signer) at minView in absurd (omega arith))
     (ch .each (s .member) (s .left))

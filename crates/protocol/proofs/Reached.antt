@@ -1,6 +1,6 @@
 -- What every list of calls after an opening keeps: the invariant, and that the words are what the calls and answers told.
-use Prim.Native.Nat.{ℕ, zero, _≤_, _<_}
-use mathlib.Core.Path.{_≡_, refl, ap, _∙_}
+use Prim.Native.Nat.{ℕ, _≤_, _<_}
+use mathlib.Core.Path.{_≡_, refl, sym, ap, _∙_, subst}
 use mathlib.Core.Bool.{true, false, cond}
 use mathlib.Core.Logic.{inl, inr, ⊎-elim}
 use mathlib.Core.List.{List, [], _∷_, List·Memᴰ, List·Memᴰ·cases-cons}
@@ -9,21 +9,21 @@ use lib.ListN.{getD}
 use lib.Dec.{ltb, leb, eqb}
 use Rattle.protocol.specs.Memory.{Memory, Replica, _becomes_, decidedViewAt, decidedBlockAt, replicaCount, faultBound}
 use Rattle.protocol.specs.Memory.{blockCount, replica, parent, appendBlock}
-use Rattle.protocol.specs.Ancestry.{stepsToRoot, heightBy, height, isAncestorBy}
+use Rattle.protocol.specs.Ancestry.{Falls, stepsToRoot, heightBy, height, isAncestorBy}
 use Rattle.protocol.specs.Form.{replicaFormed, certificateFormed}
 use Rattle.protocol.specs.Quorum.{certificatesOf, firstOf}
 use Rattle.protocol.specs.Calls.{block, decide}
-use Rattle.protocol.specs.History.{Event, added, decided, other, givenParent, Shown, none, _inView_, later, shown}
-use Rattle.protocol.specs.History.{shownBlock, shownView, panel}
+use Rattle.protocol.specs.History.{Event, added, decided, other, givenParent, Latest, none, _inView_, later, latest}
+use Rattle.protocol.specs.History.{latestBlock, latestView, panel}
 use Rattle.protocol.specs.Agreement.{OneLine, PanelsRise, Told, Extends}
 use Rattle.protocol.proofs.Tests.{tests, by-test, by-cond, each}
 use Rattle.protocol.proofs.Needs.{Holds}
 use Rattle.protocol.proofs.Changes.{changed, block-new, block-old, block-count}
-use Rattle.protocol.proofs.Formed.{sizes}
+use Rattle.protocol.proofs.Formed.{sizes, falls}
 use Rattle.protocol.proofs.Keeps.{block-keeps}
-use Rattle.protocol.proofs.Line.{Line, Falls, line-same, is-ancestor, height-same, height-line}
+use Rattle.protocol.proofs.Line.{Line, line-same, is-ancestor, height-same, height-line}
 use Rattle.protocol.proofs.Safety.{Chosen, Safe}
-use Rattle.protocol.proofs.Moves.{falls, chosen-after}
+use Rattle.protocol.proofs.Moves.{chosen-after}
 use Rattle.protocol.proofs.Acts.{GoesOn}
 use Rattle.protocol.proofs.SafeCalls.{chosen, decide-safe}
 use Rattle.protocol.proofs.SafeEnds.{adds-moves, adds-safe, block-adds, chosen-proposal, chosen-line}
@@ -33,7 +33,7 @@ pub record Reached (f : ℕ) (past : List Event) (m : Memory) : Type 0 where
   pub faults : faultBound m ≡ f
   pub told : Told f past m
   -- a number that is no replica's has decided nothing
-  pub strangers : (i : ℕ) → replicaCount f ≤ i → shown past i ≡ none
+  pub strangers : (i : ℕ) → replicaCount f ≤ i → latest past i ≡ none
   pub decisions : (i b v : ℕ) → List·Memᴰ (decided i b v) past → Chosen m v b
   pub panels : PanelsRise past
 
@@ -46,21 +46,21 @@ pub record Follows (f : ℕ) (past : List Event) (m m′ : Memory) : Type 0 wher
 older : {x e : Event} {past : List Event} → (x ≡ e → ⊥) → List·Memᴰ x (e ∷ past) → List·Memᴰ x past
 older differs w = ⊎-elim (λ e. absurd (differs e)) (λ w. w) (List·Memᴰ·cases-cons w)
 
--- The decided words of a replica are what its history shows.
-record Shows (r : Replica) (s : Shown) : Type 0 where
-  view : r .decidedView ≡ shownView s
-  block : r .decidedBlock ≡ shownBlock s
+-- The decided words of a replica are those of its latest decision.
+record HoldsLatest (r : Replica) (s : Latest) : Type 0 where
+  view : r .decidedView ≡ latestView s
+  block : r .decidedBlock ≡ latestBlock s
 
-words-told : (r : Replica) (b v : ℕ) (s : Shown) → 1 ≤ v → Shows r s
-    → Shows (changed (cond (ltb (r .decidedView) v) (decidedViewAt becomes v ∷ decidedBlockAt becomes b ∷ []) []) r) (later s b v)
+words-told : (r : Replica) (b v : ℕ) (d : Latest) → 1 ≤ v → HoldsLatest r d
+    → HoldsLatest (changed (cond (ltb (r .decidedView) v) (decidedViewAt becomes v ∷ decidedBlockAt becomes b ∷ []) []) r) (later d b v)
 unfolding later
-words-told r b v none low h =
+words-told r b v none positive h =
     let z = h .view in
-    by-cond (λ cs. Shows (changed cs r) (b inView v)) (ltb (r .decidedView) v) (λ e. record { view = refl; block = refl })
+    by-cond (λ cs. HoldsLatest (changed cs r) (b inView v)) (ltb (r .decidedView) v) (λ e. record { view = refl; block = refl })
     (λ e. absurd (omega tests))
-words-told r b v (c inView w) low h =
+words-told r b v (c inView w) positive h =
     let z = h .view in
-    by-cond (λ cs. Shows (changed cs r) (later (c inView w) b v)) (ltb (r .decidedView) v)
+    by-cond (λ cs. HoldsLatest (changed cs r) (later (c inView w) b v)) (ltb (r .decidedView) v)
     (λ e. let q : ltb w v ≡ true = omega tests in rw q (record { view = refl; block = refl }))
     (λ e. let q : ltb w v ≡ false = omega tests in rw q h)
 
@@ -73,10 +73,13 @@ module _ (f : ℕ) (past : List Event) (m : Memory) (h : Reached f past m) where
       let lower = falls m (h .safe .formed) b l n in
       omega arith
 
-  -- The block that a panel shows is an added one.
-  shown-known : (i : ℕ) → shownBlock (shown past i) < blockCount m
+  holds-latest : (i : ℕ) → i < replicaCount f → HoldsLatest (replica m i) (latest past i)
+  holds-latest i own = record { view = h .told .views i own; block = h .told .blocks i own }
+
+  -- The block of a latest decision is an added one.
+  latest-known : (i : ℕ) → latestBlock (latest past i) < blockCount m
   unfolding replicaFormed
-  shown-known i =
+  latest-known i =
       let z = sizes m (h .safe .formed) in
       let same = h .faults in
       by-test (ltb i (replicaCount f))
@@ -91,7 +94,7 @@ module _ (f : ℕ) (past : List Event) (m : Memory) (h : Reached f past m) where
   unfolding panel
   panel-height i own =
       ap (height m) (h .told .blocks i own)
-      ∙ height-same (parent m) (givenParent past) (blockCount m) (falls m (h .safe .formed)) (h .told .parents) _ (shown-known i)
+      ∙ height-same (parent m) (givenParent past) (blockCount m) (falls m (h .safe .formed)) (h .told .parents) _ (latest-known i)
 
   pub one-line : {v b w c : ℕ} → b < blockCount m → c < blockCount m → Chosen m v b → Chosen m w c → OneLine past b c
   one-line {v} {b} {w} {c} known-b known-c hb hc =
@@ -106,7 +109,7 @@ module _ (f : ℕ) (past : List Event) (m : Memory) (h : Reached f past m) where
   -- ---- an event that the history does not see
 
   pub quiet : {m′ : Memory} → GoesOn m m′ → Follows f (other ∷ past) m m′
-  unfolding givenParent shown panel
+  unfolding givenParent latest panel
   quiet g =
       let q = g .quiet in
       let count = q .blocks in
@@ -122,7 +125,9 @@ module _ (f : ℕ) (past : List Event) (m : Memory) (h : Reached f past m) where
                     blocks = λ i l. q .decidedBlock i ∙ h .told .blocks i l;
                   };
               strangers = h .strangers;
-              decisions = λ i b v w. chosen-after m _ (g .moves) (h .decisions i b v (older (λ e. let z : _≡_ {A = ℕ} 0 1 = cc in omega arith) w));
+              decisions =
+                  λ i b v w.
+                  chosen-after m _ (g .moves) (h .decisions i b v (older (λ e. let z : _≡_ {A = ℕ} 0 1 = cc in omega arith) w));
               panels = (λ i. omega arith, h .panels);
             };
         extends = g .moves .extends;
@@ -131,7 +136,7 @@ module _ (f : ℕ) (past : List Event) (m : Memory) (h : Reached f past m) where
   -- ---- a block is added
 
   pub added-block : (p : ℕ) → Holds (block m p .needs) → Follows f (added (blockCount m) p ∷ past) m (appendBlock m p)
-  unfolding block givenParent shown panel
+  unfolding block givenParent latest panel
   added-block p needs =
       let z = sizes m (h .safe .formed) in
       let adds = block-adds m p (h .safe .formed) in
@@ -158,7 +163,7 @@ module _ (f : ℕ) (past : List Event) (m : Memory) (h : Reached f past m) where
                 λ i.
                     let same =
                     height-same (givenParent past) (λ x. cond (eqb x (blockCount m)) p (givenParent past x)) (blockCount m) given-falls
-                    (λ x l. let e : eqb x (blockCount m) ≡ false = omega tests in rw e refl) (shownBlock (shown past i)) (shown-known i) in
+                    (λ x l. let e : eqb x (blockCount m) ≡ false = omega tests in rw e refl) _ (latest-known i) in
                     omega arith,
                 h .panels,
               );
@@ -177,18 +182,18 @@ module _ (f : ℕ) (past : List Event) (m : Memory) (h : Reached f past m) where
       omega tests
 
   -- The panel of a replica that decides does not fall.
-  panel-rises : (i b v : ℕ) (s : Shown) → i < replicaCount f → shown past i ≡ s → Chosen m v b
-      → heightBy (givenParent past) (shownBlock s) ≤ heightBy (givenParent past) (shownBlock (later s b v))
+  panel-rises : (i b v : ℕ) (d : Latest) → i < replicaCount f → latest past i ≡ d → Chosen m v b
+      → heightBy (givenParent past) (latestBlock d) ≤ heightBy (givenParent past) (latestBlock (later d b v))
   unfolding later stepsToRoot
   panel-rises i b v none own e x = omega arith
   panel-rises i b v (c inView w) own e x =
       let given = givenParent past in
-      by-cond (λ (z : Shown). heightBy given c ≤ heightBy given (shownBlock z)) (ltb w v)
+      by-cond (λ (z : Latest). heightBy given c ≤ heightBy given (latestBlock z)) (ltb w v)
       (λ t.
       let faults = h .faults in
-      let view : replica m i .decidedView ≡ w = h .told .views i own ∙ ap shownView e in
-      let blk : replica m i .decidedBlock ≡ c = h .told .blocks i own ∙ ap shownBlock e in
-      ⊎-elim (λ z. let zero = z .1 in let q : c ≡ 0 = omega arith in rw q (omega arith))
+      let view : replica m i .decidedView ≡ w = h .told .views i own ∙ ap latestView e in
+      let blk : replica m i .decidedBlock ≡ c = h .told .blocks i own ∙ ap latestBlock e in
+      ⊎-elim (λ z. let root = z .1 in let q : c ≡ 0 = omega arith in rw q (omega arith))
       (λ y.
       height-line given (blockCount m) given-falls (chosen-known x)
       (line-same (parent m) given (blockCount m) (falls m (h .safe .formed)) (h .told .parents) (chosen-known x)
@@ -198,7 +203,7 @@ module _ (f : ℕ) (past : List Event) (m : Memory) (h : Reached f past m) where
 
   pub decides : (i : ℕ) (list : List ℕ) → Holds (decide m i list .needs)
       → Follows f (decided i (decide m i list .first) (decide m i list .second) ∷ past) m (decide m i list .after)
-  unfolding decide givenParent shown panel
+  unfolding decide givenParent latest panel
   decides i list needs =
       let faults = h .faults in
       let own : i < replicaCount f = omega tests in
@@ -206,10 +211,17 @@ module _ (f : ℕ) (past : List Event) (m : Memory) (h : Reached f past m) where
       let count = u .acts .blocks in
       let c = firstOf (certificatesOf m list) in
       let x = chosen m i list needs (h .safe) in
-      let low = chosen-proposal m (h .safe) x .positive in
-      let mine =
-      words-told (replica m i) (c .block) (c .view) (shown past i) low
-      (record { view = h .told .views i own; block = h .told .blocks i own }) in
+      let positive = chosen-proposal m (h .safe) x .positive in
+      let rows :
+      (j : ℕ) → j < replicaCount f → HoldsLatest (replica (decide m i list .after) j) (latest (decided i (c .block) (c .view) ∷ past) j) =
+      λ j l.
+      by-test (eqb j i)
+      (λ e.
+      let q : j ≡ i = omega tests in
+      let mine = words-told (replica m i) (c .block) (c .view) (latest past i) positive (holds-latest i own) in
+      rw e (rw q (subst (λ (r : Replica). HoldsLatest r (later (latest past i) (c .block) (c .view))) (sym (u .acts .own)) mine)))
+      (λ e.
+      rw e (subst (λ (r : Replica). HoldsLatest r (latest past j)) (sym (u .acts .others j (omega tests))) (holds-latest j l))) in
       record {
         reached =
             record {
@@ -219,20 +231,8 @@ module _ (f : ℕ) (past : List Event) (m : Memory) (h : Reached f past m) where
                   record {
                     parents =
                         λ y l. ap (λ (bs : List ℕ). getD bs y 0) (u .acts .parents) ∙ h .told .parents y (omega arith);
-                    views =
-                        λ j l.
-                        by-test (eqb j i)
-                        (λ e.
-                        let q : j ≡ i = omega tests in
-                        rw e (rw q (ap (λ (r : Replica). r .decidedView) (u .acts .own) ∙ mine .view)))
-                        (λ e. rw e (ap (λ (r : Replica). r .decidedView) (u .acts .others j (omega tests)) ∙ h .told .views j l));
-                    blocks =
-                        λ j l.
-                        by-test (eqb j i)
-                        (λ e.
-                        let q : j ≡ i = omega tests in
-                        rw e (rw q (ap (λ (r : Replica). r .decidedBlock) (u .acts .own) ∙ mine .block)))
-                        (λ e. rw e (ap (λ (r : Replica). r .decidedBlock) (u .acts .others j (omega tests)) ∙ h .told .blocks j l));
+                    views = λ j l. rows j l .view;
+                    blocks = λ j l. rows j l .block;
                   };
               strangers = λ j l. let e : eqb j i ≡ false = omega tests in rw e (h .strangers j l);
               decisions =
@@ -247,7 +247,7 @@ module _ (f : ℕ) (past : List Event) (m : Memory) (h : Reached f past m) where
               panels = (
                 λ j.
                     by-test (eqb j i)
-                    (λ e. let q : j ≡ i = omega tests in rw e (rw q (panel-rises i (c .block) (c .view) (shown past i) own refl x)))
+                    (λ e. let q : j ≡ i = omega tests in rw e (rw q (panel-rises i (c .block) (c .view) (latest past i) own refl x)))
                     (λ e. rw e (omega arith)),
                 h .panels,
               );

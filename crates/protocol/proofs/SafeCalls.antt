@@ -2,14 +2,14 @@
 use Prim.Native.Nat.{ℕ, _≤_}
 use mathlib.Core.Path.{_≡_, refl, ap}
 use mathlib.Core.Bool.{true}
-use mathlib.Core.Logic.{inl, inr, ⊎-elim}
-use mathlib.Core.List.{List, [], _∷_}
+use mathlib.Core.Logic.{_≢_, inl, inr, ⊎-elim}
+use mathlib.Core.List.{List, []}
 use native.Mathlib.Omega.{arith}
 use lib.Dec.{ltb}
 use Rattle.protocol.specs.Memory.{Memory, Replica, Certificate, Assignment}
 use Rattle.protocol.specs.Memory.{replica, certificate, live, raised, update}
 use Rattle.protocol.specs.Form.{replicaFormed}
-use Rattle.protocol.specs.Certificates.{NEWVIEW, REPLY, replyOf}
+use Rattle.protocol.specs.Certificates.{PROP, COMMIT, NEWVIEW, REPLY}
 use Rattle.protocol.specs.Quorum.{certificatesOf, signers, firstOf, isCommitQuorum, isNewViewQuorum, isReplyQuorum}
 use Rattle.protocol.specs.Calls.{isReplica, isAhead, retires, decisionWords, store, view, accumulate, decide, reboot}
 use Rattle.protocol.specs.Calls.{hasStatus, issuing, reserve, request, reply, recover}
@@ -18,14 +18,14 @@ use Rattle.protocol.proofs.Tests.{tests, by-cond, each}
 use Rattle.protocol.proofs.Needs.{Holds}
 use Rattle.protocol.proofs.Words.{withinRow}
 use Rattle.protocol.proofs.Changes.{changed}
-use Rattle.protocol.proofs.Formed.{Formed, formed}
+use Rattle.protocol.proofs.Formed.{Formed}
 use Rattle.protocol.proofs.Keeps.{issuing-needs}
 use Rattle.protocol.proofs.Lists.{picked}
 use Rattle.protocol.proofs.Quorums.{signed-by, all-map, each-tested, quorum, covers}
 use Rattle.protocol.proofs.LeavesForm.{store-leaves, view-leaves, accumulate-leaves, decide-leaves, reboot-leaves}
 use Rattle.protocol.proofs.LeavesForm.{reserve-leaves, request-leaves, reply-leaves, recover-leaves}
-use Rattle.protocol.proofs.Safety.{Issued, CommitTo, Proposed, Chosen, ReportSafe, NewViewSafe, CertificateSafe, clause}
-use Rattle.protocol.proofs.Safety.{ReplicaSafe, Safe}
+use Rattle.protocol.proofs.Safety.{Issued, CommitTo, Proposed, Chosen, ReportSafe, NewViewSafe, Clause, CertificateSafe}
+use Rattle.protocol.proofs.Safety.{clause, ReplicaSafe, Safe}
 use Rattle.protocol.proofs.Moves.{Moves, issued-after, origin-after, chosen-after, choosable-before, committed-before}
 use Rattle.protocol.proofs.Acts.{Acts, Advances, GoesOn, update-acts, issuing-acts, moves, committed-same, safe-after}
 use Rattle.protocol.proofs.Acts.{quiet-after, goes-on}
@@ -42,13 +42,13 @@ store-safe m i number hold safe =
     let row = safe .rows i (omega tests) in
     let acts = issuing-acts m _ i _ _ hold z (h .1 .0) refl in
     let mv =
-    moves m _ i _ _ acts (record { low = omega tests; limit = omega arith; flag = λ a e x. absurd (omega tests) })
+    moves m _ i _ _ acts (record { minView = omega tests; limit = omega arith; flag = λ a e x. absurd (omega tests) })
     (λ k. record { signer = refl; could = omega tests; left = omega arith }) in
     let proposed : Proposed m (p .view) (p .block) =
     record { number = number; issued = omega tests; holds = record { kind = omega tests; view = refl; block = refl } } in
-    let low = ap (λ (r : Replica). r .minView) (acts .own) in
+    let minView = ap (λ (r : Replica). r .minView) (acts .own) in
     goes-on m _ i _ _ acts safe (store-leaves m i number hold) mv
-    (record { positive = omega tests; low = omega arith; proposed = issued-after m _ mv _ proposed })
+    (record { positive = omega tests; minView = omega arith; proposed = issued-after m _ mv _ proposed })
     (record {
       stored = inr (issued-after m _ mv _ proposed);
       covers =
@@ -59,44 +59,89 @@ store-safe m i number hold safe =
     })
     (λ k. absurd (omega arith)) refl refl
 
+-- Assignments that keep what the replica stored and decided, and lower neither its lowest view nor its limit.
+record KeepsWords (r : Replica) (cs : List Assignment) : Type 0 where
+  within : withinRow cs ≡ true
+  advances : Advances r (changed cs r)
+  keeps : Keeps r (changed cs r)
+
+no-words : (r : Replica) → KeepsWords r []
+no-words r =
+    record {
+      within = refl;
+      advances = record { minView = omega arith; limit = omega arith; flag = λ a e x. x };
+      keeps = record { storedView = refl; storedBlock = refl; decidedView = refl; decidedBlock = refl; status = λ e. e };
+    }
+
+-- A certificate that is neither a PROP nor a COMMIT, by a replica that keeps what it stored and decided.
+signs : (m : Memory) (needs : List Need) (i : ℕ) (cs : List Assignment) (c : Certificate) → Holds (issuing m needs i cs c .needs)
+    → Safe m → isReplica m i ≡ true → KeepsWords (replica m i) cs → c .kind ≢ PROP → c .kind ≢ COMMIT
+    → (let out = issuing m needs i cs c .after in
+    Formed out → (Acts m out i (changed cs (replica m i)) c → Moves m out → CertificateSafe out c) → GoesOn m out)
+signs m needs i cs c hold safe own kept no-prop no-commit formed new =
+    let acts = issuing-acts m needs i cs c hold (safe .formed) own (kept .within) in
+    let mv = moves m _ i _ c acts (kept .advances) (λ k. absurd (no-commit k)) in
+    goes-on m _ i _ c acts safe formed mv (new acts mv)
+    (replica-kept m _ i _ c acts mv no-commit (replica m i) (kept .keeps) (safe .rows i (omega tests)))
+    (λ k. absurd (no-prop k)) (kept .keeps .decidedView) (kept .keeps .decidedBlock)
+
+-- Such assignments, after which the lowest view is at least w.
+record Raises (r : Replica) (w : ℕ) (cs : List Assignment) : Type 0 where
+  kept : KeepsWords r cs
+  minView : w ≤ changed cs r .minView
+
+-- What a replica stored, as a certificate of view w.
+abbrev reportOf : ℕ → ℕ → ℕ → Replica → ℕ → ℕ → Certificate
+reportOf kind i w r subject boot =
+    record { kind = kind; signer = i; view = w; block = r .storedBlock; ofView = r .storedView; subject = subject; boot = boot }
+
+-- A live replica issues one, and has left the views below w.
+reports : (m : Memory) (needs : List Need) (i kind w subject boot : ℕ) (cs : List Assignment) → Raises (replica m i) w cs
+    → isReplica m i ≡ true → hasStatus m i live ≡ true → Safe m → kind ≢ PROP → kind ≢ COMMIT
+    → (let c = reportOf kind i w (replica m i) subject boot in
+    let out = issuing m needs i cs c in
+    Holds (out .needs) → Formed (out .after) → (ReportSafe (out .after) c → Clause kind (out .after) c) → GoesOn m (out .after))
+reports m needs i kind w subject boot cs raises own lives safe no-prop no-commit hold formed by-kind =
+    signs m needs i cs _ hold safe own (raises .kept) no-prop no-commit formed
+    (λ acts mv.
+    let row = safe .rows i (omega tests) in
+    let minView = ap (λ (r : Replica). r .minView) (acts .own) in
+    by-kind
+    (record {
+      minView = omega (arith, minView, raises .minView);
+      origin = origin-after m _ mv (row .stored);
+      covers = λ v l x ch. row .covers (omega tests) v (committed-same m _ i _ _ acts no-commit x) (choosable-before m _ mv ch);
+    }))
+
 pub view-safe : (m : Memory) (i w : ℕ) → Holds (view m i w .needs) → Safe m → GoesOn m (view m i w .after)
 unfolding view replicaFormed
 view-safe m i w hold safe =
     let h = issuing-needs m _ i _ _ hold .0 in
-    let z = safe .formed in
-    let f = each _ (z .rows i (omega tests)) in
+    let f = each _ (safe .formed .rows i (omega tests)) in
     let r = replica m i in
-    let row = safe .rows i (omega tests) in
-    let acts = issuing-acts m _ i _ _ hold z (h .1 .0) refl in
-    let mv =
-    moves m _ i _ _ acts
+    reports m _ i NEWVIEW w 0 0 _
     (record {
-      low = omega tests;
-      limit = omega arith;
-      flag = λ a e x. by-cond (λ (y : ℕ). y ≡ raised) (isAhead r w) (λ t. absurd (omega tests)) (λ t. x);
+      kept =
+          record {
+            within = refl;
+            advances =
+                record {
+                  minView = omega tests;
+                  limit = omega arith;
+                  flag = λ a e x. by-cond (λ (y : ℕ). y ≡ raised) (isAhead r w) (λ t. absurd (omega tests)) (λ t. x);
+                };
+            keeps = record { storedView = refl; storedBlock = refl; decidedView = refl; decidedBlock = refl; status = λ e. e };
+          };
+      minView = omega arith;
     })
-    (λ k. absurd (omega arith)) in
-    let low = ap (λ (r : Replica). r .minView) (acts .own) in
-    goes-on m _ i _ _ acts safe (view-leaves m i w hold) mv (
-      record {
-        low = omega arith;
-        origin = origin-after m _ mv (row .stored);
-        covers =
-            λ v l x ch.
-            row .covers (omega tests) v (committed-same m _ i _ _ acts (λ k. omega arith) x) (choosable-before m _ mv ch);
-      },
-      record { positive = omega tests; older = omega tests },
-    )
-    (replica-kept m _ i _ _ acts mv (λ k. omega arith) r
-    (record { storedView = refl; storedBlock = refl; decidedView = refl; decidedBlock = refl; status = λ e. e }) row)
-    (λ k. absurd (omega arith)) refl refl
+    (h .1 .0) (omega tests) safe (λ k. omega arith) (λ k. omega arith) hold (view-leaves m i w hold)
+    (λ x. (x, record { positive = omega tests; older = omega tests }))
 
 pub accumulate-safe : (m : Memory) (i : ℕ) (list : List ℕ) → Holds (accumulate m i list .needs) → Safe m
     → GoesOn m (accumulate m i list .after)
 unfolding accumulate isNewViewQuorum
 accumulate-safe m i list hold safe =
     let h = issuing-needs m _ i _ _ hold .0 in
-    let z = safe .formed in
     let cs = certificatesOf m list in
     let w = firstOf cs .view in
     let size = h .1 .1 .0 in
@@ -109,64 +154,24 @@ accumulate-safe m i list hold safe =
     let two = picked Report m list size reports in
     let first = two .0 in
     let best = two .1 in
-    let acts = issuing-acts m _ i _ _ hold z (h .1 .0) refl in
-    let mv =
-    moves m _ i _ _ acts (record { low = omega arith; limit = omega arith; flag = λ a e x. x }) (λ k. absurd (omega arith)) in
-    goes-on m _ i _ _ acts safe (accumulate-leaves m i list hold) mv
-    (record {
+    signs m _ i _ _ hold safe (h .1 .0) (no-words (replica m i)) (λ k. omega arith) (λ k. omega arith) (accumulate-leaves m i list hold)
+    (λ acts mv.
+    record {
       positive = first .1 .positive;
       older = omega (arith, best .1 .older, best .0 .1);
       origin = origin-after m _ mv (best .0 .0 .origin);
       covers =
           λ v a b ch.
-          covers m cs w (quorum m list z size issued (tested .1 .0)) (all-map Report _ cs (λ c x. x .0) reports) v b
+          covers m cs w (quorum m list (safe .formed) size issued (tested .1 .0)) (all-map Report _ cs (λ c x. x .0) reports) v b
           (choosable-before m _ mv ch);
     })
-    (replica-kept m _ i _ _ acts mv (λ k. omega arith) (replica m i)
-    (record { storedView = refl; storedBlock = refl; decidedView = refl; decidedBlock = refl; status = λ e. e })
-    (safe .rows i (omega tests)))
-    (λ k. absurd (omega arith)) refl refl
 
 pub request-safe : (m : Memory) (i : ℕ) → Holds (request m i .needs) → Safe m → GoesOn m (request m i .after)
 unfolding request
 request-safe m i hold safe =
     let h = issuing-needs m _ i _ _ hold .0 in
-    let acts = issuing-acts m _ i _ _ hold (safe .formed) (h .1 .0) refl in
-    let mv =
-    moves m _ i _ _ acts (record { low = omega arith; limit = omega arith; flag = λ a e x. x }) (λ k. absurd (omega arith)) in
-    goes-on m _ i _ _ acts safe (request-leaves m i hold) mv tt
-    (replica-kept m _ i _ _ acts mv (λ k. omega arith) (replica m i)
-    (record { storedView = refl; storedBlock = refl; decidedView = refl; decidedBlock = refl; status = λ e. e })
-    (safe .rows i (omega tests)))
-    (λ k. absurd (omega arith)) refl refl
-
--- Assignments that keep what the replica stored and decided; its lowest view is then at least w.
-record Raises (r : Replica) (w : ℕ) (cs : List Assignment) : Type 0 where
-  within : withinRow cs ≡ true
-  advances : Advances r (changed cs r)
-  keeps : Keeps r (changed cs r)
-  low : w ≤ changed cs r .minView
-
-reply-goes : (m : Memory) (needs : List Need) (i number subject boot : ℕ) (cs : List Assignment)
-    → Raises (replica m i) (certificate m number .view) cs
-    → isReplica m i ≡ true → hasStatus m i live ≡ true → Safe m
-    → (let out = issuing m needs i cs (replyOf i (certificate m number .view) (replica m i .storedBlock) (replica m i .storedView) subject boot) in
-    Holds (out .needs) → Formed (out .after) → GoesOn m (out .after))
-reply-goes m needs i number subject boot cs raises own lives safe hold leaves =
-    let row = safe .rows i (omega tests) in
-    let acts = issuing-acts m _ i _ _ hold (safe .formed) own (raises .within) in
-    let mv = moves m _ i _ _ acts (raises .advances) (λ k. absurd (omega arith)) in
-    let low = ap (λ (r : Replica). r .minView) (acts .own) in
-    goes-on m _ i _ _ acts safe leaves mv
-    (record {
-      low = omega (arith, low, raises .low);
-      origin = origin-after m _ mv (row .stored);
-      covers =
-          λ v l x ch.
-          row .covers (omega tests) v (committed-same m _ i _ _ acts (λ k. omega arith) x) (choosable-before m _ mv ch);
-    })
-    (replica-kept m _ i _ _ acts mv (λ k. omega arith) (replica m i) (raises .keeps) row)
-    (λ k. absurd (omega arith)) (raises .keeps .decidedView) (raises .keeps .decidedBlock)
+    signs m _ i _ _ hold safe (h .1 .0) (no-words (replica m i)) (λ k. omega arith) (λ k. omega arith) (request-leaves m i hold)
+    (λ acts mv. tt)
 
 pub reply-safe : (m : Memory) (i number : ℕ) → Holds (reply m i number .needs) → Safe m → GoesOn m (reply m i number .after)
 unfolding reply
@@ -174,23 +179,20 @@ reply-safe m i number hold safe =
     let h = issuing-needs m _ i _ _ hold .0 in
     let r = replica m i in
     let w = certificate m number .view in
-    reply-goes m _ i number _ _ _
+    reports m _ i REPLY w _ _ _
     (by-cond (Raises r w) (ltb (r .minView) w)
     (λ e.
     record {
-      within = refl;
-      advances = record { low = omega tests; limit = omega arith; flag = λ a s x. omega tests };
-      keeps = record { storedView = refl; storedBlock = refl; decidedView = refl; decidedBlock = refl; status = λ e. e };
-      low = omega arith;
+      kept =
+          record {
+            within = refl;
+            advances = record { minView = omega tests; limit = omega arith; flag = λ a s x. omega tests };
+            keeps = record { storedView = refl; storedBlock = refl; decidedView = refl; decidedBlock = refl; status = λ e. e };
+          };
+      minView = omega arith;
     })
-    (λ e.
-    record {
-      within = refl;
-      advances = record { low = omega arith; limit = omega arith; flag = λ a e x. x };
-      keeps = record { storedView = refl; storedBlock = refl; decidedView = refl; decidedBlock = refl; status = λ e. e };
-      low = omega tests;
-    }))
-    (h .1 .0) (h .1 .1 .1 .0) safe hold (reply-leaves m i number hold)
+    (λ e. record { kept = no-words r; minView = omega tests }))
+    (h .1 .0) (h .1 .1 .1 .0) safe (λ k. omega arith) (λ k. omega arith) hold (reply-leaves m i number hold) (λ x. x)
 
 -- ---- the calls that issue nothing
 
@@ -206,7 +208,9 @@ pub record Updated (m : Memory) (i : ℕ) (cs : List Assignment) : Type 0 where
 module _ (m : Memory) (i : ℕ) (cs : List Assignment) where
   -- What the replica's new words must meet.
   abbrev Meets : Type 0
-  Meets = Acts m (update m i cs) i (changed cs (replica m i)) nothing → Moves m (update m i cs) → ReplicaSafe (update m i cs) i (changed cs (replica m i))
+  Meets =
+      Acts m (update m i cs) i (changed cs (replica m i)) nothing → Moves m (update m i cs)
+      → ReplicaSafe (update m i cs) i (changed cs (replica m i))
 
   updated : Safe m → isReplica m i ≡ true → Formed (update m i cs) → withinRow cs ≡ true
       → Advances (replica m i) (changed cs (replica m i)) → Meets → Updated m i cs
@@ -233,7 +237,7 @@ pub reserve-safe : (m : Memory) (i : ℕ) → Holds (reserve m i .needs) → Saf
 unfolding reserve
 reserve-safe m i h safe =
     update-goes-on m i _ safe (h .1 .0) (reserve-leaves m i h) refl
-    (record { low = omega arith; limit = omega arith; flag = λ a e x. x })
+    (record { minView = omega arith; limit = omega arith; flag = λ a e x. x })
     (λ acts mv.
     replica-kept m _ i _ nothing acts mv (λ k. omega arith) (replica m i)
     (record { storedView = refl; storedBlock = refl; decidedView = refl; decidedBlock = refl; status = λ e. e })
@@ -248,14 +252,14 @@ reboot-safe m i h safe =
     let row = safe .rows i (omega tests) in
     by-cond (λ cs. Formed (update m i cs) → GoesOn m (update m i cs)) (retires m i)
     (λ e left.
-    update-goes-on m i _ safe (h .1 .0) left refl (record { low = omega arith; limit = omega arith; flag = λ a s x. x })
+    update-goes-on m i _ safe (h .1 .0) left refl (record { minView = omega arith; limit = omega arith; flag = λ a s x. x })
     (λ acts mv.
     replica-kept m _ i _ nothing acts mv (λ k. omega arith) r
     (record { storedView = refl; storedBlock = refl; decidedView = refl; decidedBlock = refl; status = λ s. absurd (omega arith) }) row)
     refl refl)
     (λ e left.
     update-goes-on m i _ safe (h .1 .0) left refl
-    (record { low = omega tests; limit = omega arith; flag = λ a s x. absurd (omega arith) })
+    (record { minView = omega tests; limit = omega arith; flag = λ a s x. absurd (omega arith) })
     (λ acts mv.
     record {
       stored = inl (refl, refl);
@@ -282,7 +286,7 @@ recover-safe m i list h safe =
     (λ c x t. let t = each _ t in (clause m c REPLY (omega tests) x, omega tests)) in
     let best = picked Report m list size reports .1 in
     update-goes-on m i _ safe (h .1 .0) (recover-leaves m i list h) refl
-    (record { low = omega arith; limit = omega arith; flag = λ a s x. x })
+    (record { minView = omega arith; limit = omega arith; flag = λ a s x. x })
     (λ acts mv.
     record {
       stored = origin-after m _ mv (best .0 .origin);
@@ -310,7 +314,9 @@ chosen m i list h safe =
     (λ k l. record { number = k; issued = l; holds = refl }) (tested .0)
     (λ c x t.
     let t = each _ t in
-    record { number = x .number; issued = x .issued; holds = rw (x .holds) (record { commit = record { kind = omega tests; view = omega tests; signer = refl }; block = omega tests }) }) in
+    let commit : CommitTo v b (c .signer) c =
+    record { commit = record { kind = omega tests; view = omega tests; signer = refl }; block = omega tests } in
+    record { number = x .number; issued = x .issued; holds = rw (x .holds) commit }) in
     record {
       members = signers cs;
       quorum = quorum m list (safe .formed) (h .1 .1 .0) issued (tested .1 .0);
@@ -326,7 +332,7 @@ decide-safe m i list h safe =
     let c = firstOf (certificatesOf m list) in
     by-cond (λ cs. Formed (update m i cs) → Updated m i cs) (ltb (r .decidedView) (c .view))
     (λ e left.
-    updated m i _ safe (h .1 .0) left refl (record { low = omega arith; limit = omega arith; flag = λ a s x. x })
+    updated m i _ safe (h .1 .0) left refl (record { minView = omega arith; limit = omega arith; flag = λ a s x. x })
     (λ acts mv.
     record {
       stored = stored-after m _ i _ nothing acts mv r refl refl row;
@@ -336,8 +342,6 @@ decide-safe m i list h safe =
       decided = inr (chosen-after m _ mv (chosen m i list h safe));
     }))
     (λ e left.
-    updated m i _ safe (h .1 .0) left refl (record { low = omega arith; limit = omega arith; flag = λ a s x. x })
-    (λ acts mv.
-    replica-kept m _ i _ nothing acts mv (λ k. omega arith) r
-    (record { storedView = refl; storedBlock = refl; decidedView = refl; decidedBlock = refl; status = λ s. s }) row))
+    updated m i _ safe (h .1 .0) left refl (no-words r .advances)
+    (λ acts mv. replica-kept m _ i _ nothing acts mv (λ k. omega arith) r (no-words r .keeps) row))
     (decide-leaves m i list h)

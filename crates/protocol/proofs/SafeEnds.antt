@@ -6,8 +6,8 @@ use mathlib.Core.Logic.{inl}
 use mathlib.Core.List.{List, [], _∷_}
 use native.Mathlib.Omega.{arith}
 use lib.Dec.{eqb}
-use Rattle.protocol.specs.Memory.{Memory, Replica, faultBound, certificateCount, blockCount, replica, certificate, parent}
-use Rattle.protocol.specs.Memory.{appendBlock}
+use Rattle.protocol.specs.Memory.{Memory, Replica, faultBoundAt, certificateCountAt, faultBound, certificateCount, blockCount}
+use Rattle.protocol.specs.Memory.{replica, certificate, parent, appendBlock}
 use Rattle.protocol.specs.Form.{isFaultBound, lengthsFit, certificateFormed}
 use Rattle.protocol.specs.Certificates.{PROP, COMMIT}
 use Rattle.protocol.specs.Counter.{counterStep}
@@ -25,11 +25,11 @@ use Rattle.protocol.proofs.Moves.{Moves, certificate-after, replica-aft
 
 pub opened-safe : (m : Memory) (f : ℕ) (o : Memory) → isFaultBound f ≡ true → lengthsFit m f ≡ true → Opened m f o → Safe o
 unfolding counterStep
-opened-safe m f o low fit h =
+opened-safe m f o bound fit h =
     let none = h .header .certificates in
     let same = h .header .faults in
     record {
-      formed = opened-formed m f o low fit h;
+      formed = opened-formed m f o bound fit h;
       log = λ c l. absurd (omega arith);
       rows =
           λ i l.
@@ -59,7 +59,7 @@ adds-moves m m′ h =
     record {
       faults = h .faults;
       extends = record { certificates = omega arith; certificate = λ c l. h .certificate c; blocks = h .blocks; parent = h .parent };
-      lows = λ i. let e = ap (λ (r : Replica). r .minView) (h .replica i) in omega arith;
+      minViews = λ i. let e = ap (λ (r : Replica). r .minView) (h .replica i) in omega arith;
       limits = λ i. let e = ap (λ (r : Replica). r .viewLimit) (h .replica i) in omega arith;
       flags = λ i a b e. ap (λ (r : Replica). r .flag) (h .replica i) ∙ e;
       commits = λ c a b k. absurd (omega arith);
@@ -93,8 +93,8 @@ block-adds m p h =
     let z = sizes m h in
     let more = block-count m p (omega arith) in
     record {
-      faults = block-table m p 0 (omega arith);
-      certificates = block-table m p 1 (omega arith);
+      faults = block-table m p faultBoundAt (omega arith);
+      certificates = block-table m p certificateCountAt (omega arith);
       certificate = λ c. refl;
       replica = λ i. block-replica m p i;
       blocks = omega arith;
@@ -103,7 +103,7 @@ block-adds m p h =
 
 -- ---- two chosen blocks are of one line
 
--- Some replica is in every quorum.
+-- Every quorum has a member.
 member : (f : ℕ) (Q : List ℕ) → Quorum f Q → (j : ℕ) × (contains j Q ≡ true)
 unfolding contains
 member f [] q = let s = q .size in absurd (omega arith)
@@ -120,7 +120,7 @@ chosen-proposal m safe {v} {b} h =
     let c = certificate m (x .number) in
     let k = clause m c COMMIT (x .holds .commit .kind) (safe .log (x .number) (x .issued)) in
     let view = x .holds .commit .view in
-    let low = k .positive in
+    let positive = k .positive in
     record { positive = omega arith; proposed = rw (view, x .holds .block) at (k .proposed) }
 
 chosen-choosable : (m : Memory) {v b : ℕ} → Chosen m v b → Choosable m v
@@ -135,7 +135,8 @@ chosen-choosable m h =
 one-proposal : (m : Memory) → Safe m → {v b c : ℕ} → Proposed m v b → Proposed m v c → b ≡ c
 one-proposal m safe x y =
     sym (x .holds .block)
-    ∙ safe .onePerView (x .number) (y .number) (x .issued) (y .issued) (x .holds .kind) (y .holds .kind) (x .holds .view ∙ sym (y .holds .view))
+    ∙ safe .onePerView (x .number) (y .number) (x .issued) (y .issued) (x .holds .kind) (y .holds .kind)
+    (x .holds .view ∙ sym (y .holds .view))
     ∙ y .holds .block
 
 pub chosen-line : (m : Memory) → Safe m → {v b w c : ℕ} → Chosen m v b → Chosen m w c → v ≤ w → Line (parent m) b c

@@ -46,19 +46,19 @@ module _ (m m′ : Memory) (i : ℕ) (r′ : Replica) (c : Certificate) (acts : 
 pub left-behind : (m : Memory) → Safe m → {v i : ℕ} → Committed m v i → v < replica m i .minView
 left-behind m safe {v} {i} x =
     let c = clause m (certificate m (x .number)) COMMIT (x .holds .kind) (safe .log (x .number) (x .issued)) in
-    rw (x .holds .view, x .holds .signer) at (c .low)
+    rw (x .holds .view, x .holds .signer) at (c .minView)
 
 -- ---- a proposal's line: from a proposal of view g, of the parent of block b, to every view up to g
 
 pub extend : (m : Memory) → Safe m → (g p b v : ℕ) → Proposed m g p → (b ≡ 0 → ⊥) → parent m b ≡ p → 1 ≤ v → v ≤ g → Choosable m v
     → Ancestor m v b
-extend m safe g p b v x n e low le ch =
+extend m safe g p b v x n e positive le ch =
     by-test (eqb v g)
     (λ t. let q : v ≡ g = omega tests in record { block = p; proposed = rw q x; line = above self })
     (λ t.
     let prop = clause m (certificate m (x .number)) PROP (x .holds .kind) (safe .log (x .number) (x .issued)) in
     let view = x .holds .view in
-    let a = rw (x .holds .block) at (prop .chain v low (omega tests) ch) in
+    let a = rw (x .holds .block) at (prop .chain v positive (omega tests) ch) in
     record { block = a .block; proposed = a .proposed; line = above (a .line) })
   where
     above : {a : ℕ} → Line (parent m) a p → Line (parent m) a b

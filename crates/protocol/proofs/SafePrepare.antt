@@ -42,14 +42,14 @@ justified-proposed : (m : Memory) (i : ℕ) (j : Justification) (list : List ℕ
     → v < proposalView j (certificatesOf m (numbersOf j list)) → Choosable m v
     → ProposedFrom m (justifiedBlock j (certificatesOf m (numbersOf j list))) v
 unfolding every isCommitQuorum
-justified-proposed m i (Acc number) list safe size issued justified v low below ch =
+justified-proposed m i (Acc number) list safe size issued justified v positive below ch =
     let known = and-true (isIssued m number) true issued in
     let t = each _ justified in
     let a = clause m (certificate m number) ACC (omega tests) (safe .log number (omega tests)) in
-    let le = a .covers v low below ch in
+    let le = a .covers v positive below ch in
     ⊎-elim (λ z. let none = z .0 in absurd (omega arith)) (λ p. record { view = certificate m number .ofView; proposed = p; covers = le })
     (a .origin)
-justified-proposed m i (Commits u b) list safe size issued justified v low below ch =
+justified-proposed m i (Commits u b) list safe size issued justified v positive below ch =
     let tested = each _ justified in
     let commits =
     each-tested m (CertificateSafe m) (λ c. Proposed m u b) _ list issued (safe .log) (tested .0)
@@ -76,22 +76,23 @@ prepare-safe m i b j list hold safe =
     let turn = block .1 .1 in
     let acts = issuing-acts m _ i _ _ hold (safe .formed) (h .1 .0) refl in
     let mv =
-    moves m _ i _ _ acts (record { low = omega arith; limit = omega arith; flag = λ a e x. refl }) (λ k. absurd (omega arith)) in
-    let low = ap (λ (r : Replica). r .minView) (acts .own) in
+    moves m _ i _ _ acts (record { minView = omega arith; limit = omega arith; flag = λ a e x. refl }) (λ k. absurd (omega arith)) in
+    let minView = ap (λ (r : Replica). r .minView) (acts .own) in
     let limit = ap (λ (r : Replica). r .viewLimit) (acts .own) in
     goes-on m _ i _ _ acts safe (prepare-leaves m i b j list hold) mv
     (record {
       leader = rw (acts .faults) leader;
       positive = omega tests;
       below = omega tests;
-      low = omega tests;
+      minView = omega tests;
       flag = λ e. ap (λ (r : Replica). r .flag) (acts .own);
       chain =
           λ v a l ch.
           let before = choosable-before m _ mv ch in
           let g = justified-proposed m i j list safe (h .1 .1 .0) (ranged .1 .0) (justified .0) v a l before in
+          let above = not-true (eqb b 0) (block .0) in
           ancestor-after m _ mv (safe .formed) (omega tests)
-          (extend m safe (g .view) (justifiedBlock j cs) b v (g .proposed) (omega (tests, not-true (eqb b 0) (block .0))) (omega tests) a (g .covers) before);
+          (extend m safe (g .view) (justifiedBlock j cs) b v (g .proposed) (omega tests) (omega tests) a (g .covers) before);
     })
     (replica-kept m _ i _ _ acts mv (λ k. omega arith) r
     (record { storedView = refl; storedBlock = refl; decidedView = refl; decidedBlock = refl; status = λ e. e })

@@ -1,4 +1,4 @@
--- The invariant of a list of calls, over what is read of the memory: certificates, replicas and parents, and no word's place.
+-- The invariant of a list of calls, over what is read of the memory: certificates, replicas and parents, and no word's address.
 use Prim.Native.Nat.{ℕ, _≤_, _<_}
 use mathlib.Core.Path.{_≡_, subst}
 use mathlib.Core.Bool.{true}
@@ -22,7 +22,7 @@ pub record Issued (m : Memory) (P : Certificate → Type 0) : Type 0 where
   pub issued : number < certificateCount m
   pub holds : P (certificate m number)
 
--- A PROP of view v and block b, a COMMIT of view v by replica i, and one of block b.
+-- A PROP of view v and block b, a COMMIT of view v by replica i, and such a COMMIT to block b.
 pub record Proposal (v b : ℕ) (c : Certificate) : Type 0 where
   pub kind : c .kind ≡ PROP
   pub view : c .view ≡ v
@@ -77,22 +77,23 @@ pub record PropSafe (m : Memory) (c : Certificate) : Type 0 where
   pub leader : leads (faultBound m) (c .view) (c .signer) ≡ true
   pub positive : 1 ≤ c .view
   pub below : c .view < replica m (c .signer) .viewLimit
-  pub low : c .view ≤ replica m (c .signer) .minView
+  pub minView : c .view ≤ replica m (c .signer) .minView
   pub flag : c .view ≡ replica m (c .signer) .minView → replica m (c .signer) .flag ≡ raised
   pub chain : (v : ℕ) → 1 ≤ v → v < c .view → Choosable m v → Ancestor m v (c .block)
 
 -- A COMMIT: of a proposal, in a view that its signer has left.
 pub record CommitSafe (m : Memory) (c : Certificate) : Type 0 where
   pub positive : 1 ≤ c .view
-  pub low : c .view < replica m (c .signer) .minView
+  pub minView : c .view < replica m (c .signer) .minView
   pub proposed : Proposed m (c .view) (c .block)
 
 -- A NEWVIEW or a REPLY: it reports a stored block, and no later view below its own that its signer committed in may be decided.
 pub record ReportSafe (m : Memory) (c : Certificate) : Type 0 where
-  pub low : c .view ≤ replica m (c .signer) .minView
+  pub minView : c .view ≤ replica m (c .signer) .minView
   pub origin : Origin m (c .ofView) (c .block)
   pub covers : (v : ℕ) → v < c .view → Committed m v (c .signer) → Choosable m v → v ≤ c .ofView
 
+-- A NEWVIEW besides: its view is not 0, and its block was stored in an earlier one.
 pub record NewViewSafe (c : Certificate) : Type 0 where
   pub positive : 1 ≤ c .view
   pub older : c .ofView < c .view

@@ -1,7 +1,7 @@
 -- Words past the counts are not read.
 use Prim.Native.Nat.{ℕ, zero, suc}
 use mathlib.Core.Path.{_≡_, refl, ap, subst}
-use mathlib.Core.Bool.{Bool, true}
+use mathlib.Core.Bool.{Bool, true, cond}
 use mathlib.Core.List.{List, [], _∷_}
 use native.Mathlib.Omega.{arith}
 use lib.ListN.{length-set}
@@ -9,7 +9,7 @@ use lib.Dec.{ltb}
 use Rattle.protocol.specs.declared.Call.{Call}
 use Rattle.protocol.specs.declared.Call.the-variants.{Open, Block, Prepare, Store, View, Accumulate, Decide, Reboot}
 use Rattle.protocol.specs.declared.Call.the-variants.{Reserve, Request, Reply, Recover}
-use Rattle.protocol.specs.Memory.{Memory, Certificate, Assignment, replicaCount, certificate, replica, words, update}
+use Rattle.protocol.specs.Memory.{Memory, memory, Certificate, Assignment, replicaCount, certificate, replica, words, update}
 use Rattle.protocol.specs.declared.Justification.{Justification}
 use Rattle.protocol.specs.declared.Justification.the-variants.{Acc, Commits}
 use Rattle.protocol.specs.Counter.{counterStep}
@@ -38,6 +38,7 @@ data Agree : List Need → List Need → Type 0 where
   agree-next : {t t′ : Bool} {k : ℕ} {ns ns′ : List Need} → t ≡ t′ → (t ≡ true → Agree ns ns′)
       → Agree ((t else k) ∷ ns) ((t′ else k) ∷ ns′)
 
+-- As a function, its lists are those of the goal.
 next : {t t′ : Bool} {k : ℕ} {ns ns′ : List Need} → t ≡ t′ → (t ≡ true → Agree ns ns′)
     → Agree ((t else k) ∷ ns) ((t′ else k) ∷ ns′)
 next p q = agree-next p q
@@ -79,6 +80,9 @@ follow-same m m′ r r′ a hold s =
 record Within (cs : List Assignment) : Type 0 where
   row : withinRow cs ≡ true
 
+within-cond : (t : Bool) {cs cs′ : List Assignment} → Within cs → Within cs′ → Within (cond t cs cs′)
+within-cond t x y = by-cond Within t (λ e. x) (λ e. y)
+
 module _ (m : Memory) (l b : List ℕ) (a : Alike m (twin m l b)) where
   issued-same : (ns ns′ : List Need) (i : ℕ) (cs : List Assignment) (c : Certificate) → Within cs → wellFormed m ≡ true
       → Results (issuing m ns i cs c) (issuing (twin m l b) ns′ i cs c)
@@ -87,7 +91,9 @@ module _ (m : Memory) (l b : List ℕ) (a : Alike m (twin m l b)) where
       record {
         first = number-same m l b a (words c);
         second = refl;
-        after = update-alike (file m (words c)) (file (twin m l b) (words c)) i cs (within .row) (file-alike m l b a (words c) refl (formed m form));
+        after =
+            update-alike (file m (words c)) (file (twin m l b) (words c)) i cs (within .row)
+            (file-alike m l b a (words c) refl (formed m form));
       }
 
   updated-same : (i : ℕ) (cs : List Assignment) → Within cs → Alike (update m i cs) (update (twin m l b) i cs)
@@ -164,7 +170,9 @@ module _ (m : Memory) (l b : List ℕ) (a : Alike m (twin m l b)) where
         results =
             λ h.
             simp (named-same m l b a list (h .1 .1 .1 .0))
-            (record { first = refl; second = refl; after = updated-same i _ (by-cond Within (ltb (replica m i .decidedView) (firstOf (certificatesOf (twin m l b) list) .view)) (λ _. record { row = refl }) (λ _. record { row = refl })) });
+            (let c = firstOf (certificatesOf (twin m l b) list) in
+            let within = within-cond (ltb (replica m i .decidedView) (c .view)) (record { row = refl }) (record { row = refl }) in
+            record { first = refl; second = refl; after = updated-same i _ within });
       }
 
   reboot-same : (i : ℕ) → SameRule (reboot m i) (reboot (twin m l b) i)
@@ -174,7 +182,8 @@ module _ (m : Memory) (l b : List ℕ) (a : Alike m (twin m l b)) where
         needs = next (form-same m l b a) (λ _. agree-self _);
         results =
             λ h.
-            record { first = refl; second = refl; after = updated-same i _ (by-cond Within (retires m i) (λ _. record { row = refl }) (λ _. record { row = refl })) };
+            let within = within-cond (retires m i) (record { row = refl }) (record { row = refl }) in
+            record { first = refl; second = refl; after = updated-same i _ within };
       }
 
   reserve-same : (i : ℕ) → SameRule (reserve m i) (reserve (twin m l b) i)
@@ -206,8 +215,7 @@ module _ (m : Memory) (l b : List ℕ) (a : Alike m (twin m l b)) where
       let issued = h .1 .1 .0 in
       simp (word-same m l b a)
       (issued-same _ _ i _ _
-      (by-cond Within (ltb (replica m i .minView) (certificate (twin m l b) number .view)) (λ _. record { row = refl })
-      (λ _. record { row = refl }))
+      (within-cond (ltb (replica m i .minView) (certificate (twin m l b) number .view)) (record { row = refl }) (record { row = refl }))
       (h .0))
 
   recover-same : (i : ℕ) (list : List ℕ) → SameRule (recover m i list) (recover (twin m l b) i list)
@@ -219,7 +227,8 @@ module _ (m : Memory) (l b : List ℕ) (a : Alike m (twin m l b)) where
             (λ _. next refl (λ _. next refl (λ _. next refl (λ issued. simp (named-same m l b a list issued) (agree-self _)))));
         results =
             λ h.
-            simp (named-same m l b a list (h .1 .1 .1 .0)) (record { first = refl; second = refl; after = updated-same i _ (record { row = refl }) });
+            simp (named-same m l b a list (h .1 .1 .1 .0))
+            (record { first = refl; second = refl; after = updated-same i _ (record { row = refl }) });
       }
 
   fresh-alike : (f k : ℕ) → lengthsFit m f ≡ true
@@ -268,6 +277,10 @@ pub past-counts-unread : PastCountsUnread
 unfolding PastCountsUnread
 past-counts-unread m m′ call list a = go (m′ .table) (a .table) a
   where
-    go : (t : List ℕ) → m .table ≡ t → Alike m (record { table = t; log = m′ .log; blocks = m′ .blocks })
-        → SameAnswer (step m call list) (step (record { table = t; log = m′ .log; blocks = m′ .blocks }) call list)
-    go t e = subst (λ (t : List ℕ). Alike m (record { table = t; log = m′ .log; blocks = m′ .blocks }) → SameAnswer (step m call list) (step (record { table = t; log = m′ .log; blocks = m′ .blocks }) call list)) e (λ a. step-same m (m′ .log) (m′ .blocks) a call list)
+    with-table : List ℕ → Memory
+    with-table t = memory t (m′ .log) (m′ .blocks)
+
+    go : (t : List ℕ) → m .table ≡ t → Alike m (with-table t) → SameAnswer (step m call list) (step (with-table t) call list)
+    go t e =
+        subst (λ (t : List ℕ). Alike m (with-table t) → SameAnswer (step m call list) (step (with-table t) call list)) e
+        (λ a. step-same m (m′ .log) (m′ .blocks) a call list)

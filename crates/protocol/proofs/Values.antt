@@ -72,7 +72,8 @@ abbrev RuleFits : Rule → Type 0
 RuleFits rule = (upToNoRoom (rule .needs) ≡ true) × (Holds (rule .needs) → Small (rule .first) (rule .second))
 
 rule-fits : (m : Memory) (call : Call) (list : List ℕ) → RuleFits (ruleOf m call list)
-unfolding ruleOf issuing opening block prepare store view accumulate decide reboot reserve request reply recover replicaFormed certificateFormed
+unfolding ruleOf issuing opening block prepare store view accumulate decide reboot reserve request reply recover replicaFormed
+    certificateFormed
 rule-fits m (Open f) list = (refl, λ h. let range = each _ (h .0) in omega tests)
 rule-fits m (Block p) list = (refl, λ h. let counts = counts-small m (h .0) in omega arith)
 rule-fits m (Prepare i b justification) list = (refl, λ h. issued-small m _ (h .0))

@@ -10,7 +10,7 @@ use Rattle.protocol.specs.Memory.{Memory, replicaCount, certificateCount
 use Rattle.protocol.specs.Ancestry.{isAncestorBy}
 use Rattle.protocol.specs.Runs.{Invocation, step, run}
 use Rattle.protocol.specs.Theorems.{Accepted}
-use Rattle.protocol.specs.History.{Event, reopened, decided, history, givenParent, shown, shownBlock, shownView, panel}
+use Rattle.protocol.specs.History.{Event, reopened, decided, history, givenParent, latest, latestBlock, latestView, panel}
 
 -- One of two blocks is in the other's line, by the parents given.
 abbrev pub OneLine : List Event → ℕ → ℕ → Type 0
@@ -28,6 +28,7 @@ pub record Agreed (events : List Event) : Type 0 where
 
 -- "The list starts from the memory that an accepted Open leaves, for each f, all fitting lengths and any earlier contents. Each call in
 -- it is one of the other eleven or a refused Open, in any order, with any numbers and lists." Nothing else is assumed.
+-- Call this a life of a ledger.
 pub record Life (m : Memory) (f : ℕ) (list : List ℕ) (calls : List Invocation) : Type 0 where
   pub opened : Accepted (step m (Open f) list)
   pub once : List·Memᴰ reopened (history [] (step m (Open f) list .memory) calls) → ⊥
@@ -47,8 +48,8 @@ Agreement =
 
 pub record Told (f : ℕ) (events : List Event) (m : Memory) : Type 0 where
   pub parents : (b : ℕ) → b < blockCount m → parent m b ≡ givenParent events b
-  pub views : (i : ℕ) → i < replicaCount f → replica m i .decidedView ≡ shownView (shown events i)
-  pub blocks : (i : ℕ) → i < replicaCount f → replica m i .decidedBlock ≡ shownBlock (shown events i)
+  pub views : (i : ℕ) → i < replicaCount f → replica m i .decidedView ≡ latestView (latest events i)
+  pub blocks : (i : ℕ) → i < replicaCount f → replica m i .decidedBlock ≡ latestBlock (latest events i)
 
 unfoldable pub WordsMatchHistory : Type 0
 WordsMatchHistory =
@@ -68,7 +69,7 @@ OnlyAppended =
     (m : Memory) (f : ℕ) (list : List ℕ) (calls more : List Invocation) → Life m f list calls
     → (List·Memᴰ reopened (history [] (endOf m f list calls) more) → ⊥) → Extends (endOf m f list calls) (run (endOf m f list calls) more)
 
--- ---- The stronger form: at the end of such a list, the blocks of any two lists that a Decide would accept are of one line, decided or not.
+-- ---- The stronger form: at the end of a life, the blocks of any two lists that a Decide would accept are of one line, decided or not.
 
 unfoldable pub WouldAgree : Type 0
 WouldAgree =

@@ -1,5 +1,6 @@
 -- Lines of parents and heights (document 01, "Memory", the blocks): by recursion up the parents.
-use Prim.Native.Nat.{ℕ, zero, suc, _+_}
+use Prim.Native.Nat.{ℕ, zero, suc, _+_, _<_}
+use mathlib.Core.Path.{_≡_}
 use mathlib.Core.Bool.{Bool, cond, not, _&&_, _||_}
 use lib.Dec.{eqb}
 use Rattle.protocol.specs.Memory.{Memory, parent}
@@ -10,13 +11,14 @@ unfoldable pub inLine : (ℕ → ℕ) → ℕ → ℕ → ℕ → Bool
 inLine parentOf zero a b = eqb a b
 inLine parentOf (suc steps) a b = eqb a b || (not (eqb b 0) && inLine parentOf steps a (parentOf b))
 
--- In well-formed memory each parent is below its block, so block b is at most b steps above block 0 and the steps never run out:
--- the code recurses on the block number itself, which falls.
+-- Each parent is below its block, for the blocks below a count.
+abbrev pub Falls : (ℕ → ℕ) → ℕ → Type 0
+Falls parentOf count = (b : ℕ) → b < count → (b ≡ 0 → ⊥) → parentOf b < b
+
+-- In well-formed memory the parents fall, so block b is at most b steps above block 0 and the steps never run out: the code recurses on
+-- the block number itself.
 abbrev pub isAncestorBy : (ℕ → ℕ) → ℕ → ℕ → Bool
 isAncestorBy parentOf a b = inLine parentOf b a b
-
-abbrev pub isAncestor : Memory → ℕ → ℕ → Bool
-isAncestor m = isAncestorBy (parent m)
 
 -- "Height is the number of steps to block 0."
 unfoldable pub stepsToRoot : (ℕ → ℕ) → ℕ → ℕ → ℕ

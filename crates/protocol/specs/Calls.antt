@@ -233,7 +233,8 @@ retires m i =
     eqb (r .status) retired || ltb ceiling (r .boot + 1) || ltb ceiling (r .viewLimit + counterStep m (r .boot + 1))
 
 -- "Reboot(box): boot + 1, low is the old bound, bound grows by the new boot's step, flag and stored words 0, waiting; shown stays. If
--- boot or bound would pass 1,000,000, or the box is spent, only the status becomes 2. Values boot, low as they then are." "Reboot has no 4."
+-- boot or bound would pass 1,000,000, or the box is spent, only the status becomes 2. Values boot, low as they then are." "Reboot has
+-- no 4."
 unfoldable pub reboot : Memory → ℕ → Rule
 reboot m i =
     let r = replica m i in

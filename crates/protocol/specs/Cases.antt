@@ -18,12 +18,12 @@ pub record Case : Type 0 where
   pub calls : List Invocation
   pub expected : List Answer
 
--- Zeros, with a table for f and so many certificate and block places.
+-- Zeros, with a table for f and so many slots for certificates and for blocks.
 zeros : ℕ → ℕ → ℕ → Memory
 zeros f certificates blocks =
     record { table = replicate (tableLength f) 0; log = replicate (certificateAt certificates) 0; blocks = replicate (blockAt blocks) 0 }
 
--- The places of the script program.
+-- The slots of the script program.
 blank : ℕ → Memory
 blank f = zeros f 2048 1024
 
@@ -112,8 +112,8 @@ cases =
           ∷ accepted 9 0
           ∷ [];
     }
-    -- "Mistakes to rule out: [..] replies taken from an earlier boot". The same replies, to a replica of the next boot that waits at the
-    -- same view: no list of calls leads there, so its boot is set by hand.
+    -- "Mistakes to rule out: [..] replies taken from an earlier boot". The same replies, to a replica of the next boot that is recovering
+    -- at the same view: no list of calls leads there, so its boot is set by hand.
     ∷ record {
       start = update (run (from script) (plain (Request 1) ∷ plain (Reply 0 6) ∷ plain (Reply 2 6) ∷ [])) 1 (bootAt becomes 2 ∷ []);
       calls = Recover 1 on (7 ∷ 8 ∷ []) ∷ [];

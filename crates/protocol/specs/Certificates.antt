@@ -69,7 +69,7 @@ numberFor m ws = firstBelow (certificateCount m) (hasWords m ws)
 unfoldable pub isFiled : Memory → List ℕ → Bool
 isFiled m ws = ltb (numberFor m ws) (certificateCount m)
 
--- A free place in the log.
+-- A free slot in the log.
 abbrev pub logHasRoom : Memory → Bool
 logHasRoom m = ltb (certificateAt (certificateCount m)) (length (m .log))
 

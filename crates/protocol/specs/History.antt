@@ -1,5 +1,5 @@
--- What the calls of a list and their answers tell (document 01, "Whole lists of calls"): the parents given, the decisions named, the panels.
--- Nothing here reads a word of the memory.
+-- What the calls of a list and their answers tell (document 01, "Whole lists of calls"): the parents given, the decisions named, the
+-- panels. Nothing here reads a word of the memory.
 use Prim.Native.Nat.{ℕ}
 use mathlib.Core.Bool.{cond}
 use mathlib.Core.List.{List, [], _∷_}
@@ -52,31 +52,32 @@ givenParent (added number p ∷ past) b = cond (eqb b number) p (givenParent pas
 givenParent (decided i c v ∷ past) b = givenParent past b
 givenParent (other ∷ past) b = givenParent past b
 
--- "the block named by its accepted Decide of greatest view so far (the first if several), or block 0 if there is none"
-pub data Shown : Type 0 where
-  none : Shown
-  _inView_ : ℕ → ℕ → Shown
+-- A replica's latest decision, its shown block and view in document 01: "the block named by its accepted Decide of greatest view so far
+-- (the first if several), or block 0 if there is none". The latest is the one of greatest view, whenever it was made.
+pub data Latest : Type 0 where
+  none : Latest
+  _inView_ : ℕ → ℕ → Latest
 
 infix 68 _inView_
-unfoldable pub later : Shown → ℕ → ℕ → Shown
+unfoldable pub later : Latest → ℕ → ℕ → Latest
 later none b v = b inView v
 later (c inView w) b v = cond (ltb w v) (b inView v) (c inView w)
 
-unfoldable pub shown : List Event → ℕ → Shown
-shown [] i = none
-shown (reopened ∷ past) i = shown past i
-shown (added number p ∷ past) i = shown past i
-shown (decided j b v ∷ past) i = cond (eqb i j) (later (shown past i) b v) (shown past i)
-shown (other ∷ past) i = shown past i
+unfoldable pub latest : List Event → ℕ → Latest
+latest [] i = none
+latest (reopened ∷ past) i = latest past i
+latest (added number p ∷ past) i = latest past i
+latest (decided j b v ∷ past) i = cond (eqb i j) (later (latest past i) b v) (latest past i)
+latest (other ∷ past) i = latest past i
 
-abbrev pub shownBlock : Shown → ℕ
-shownBlock none = 0
-shownBlock (b inView v) = b
+abbrev pub latestBlock : Latest → ℕ
+latestBlock none = 0
+latestBlock (b inView v) = b
 
-abbrev pub shownView : Shown → ℕ
-shownView none = 0
-shownView (b inView v) = v
+abbrev pub latestView : Latest → ℕ
+latestView none = 0
+latestView (b inView v) = v
 
 -- "A box's panel shows the height of its shown block"; "lines and heights go by these" parents.
 unfoldable pub panel : List Event → ℕ → ℕ
-panel past i = heightBy (givenParent past) (shownBlock (shown past i))
+panel past i = heightBy (givenParent past) (latestBlock (latest past i))

@@ -1,4 +1,5 @@
--- What is promised, in the order of document 01: its memory, its calls, lists of calls; then the theorems' statements and the table of cases.
+-- What is promised, in the order of document 01: its memory, its calls, lists of calls; then the theorems' statements and the table of
+-- cases.
 pub mod Memory
 pub mod Ancestry
 pub mod Form

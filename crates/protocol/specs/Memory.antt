@@ -213,7 +213,7 @@ parent m b = getD (m .blocks) (blockAt b) 0
 
 -- ---- changes
 
--- A word of a replica, by its place in the row, and its new value.
+-- A word of a replica, by its offset in the row, and its new value.
 pub data Assignment : Type 0 where
   _becomes_ : ℕ → ℕ → Assignment
 
@@ -227,7 +227,7 @@ assign t at ((k becomes v) ∷ rest) = assign (set t (at + k) v) at rest
 unfoldable pub update : Memory → ℕ → List Assignment → Memory
 update m i changes = record { table = assign (m .table) (rowAt i) changes; log = m .log; blocks = m .blocks }
 
--- The memory with one certificate more, at the log's next place.
+-- The memory with one certificate more, at the log's next slot.
 unfoldable pub appendCertificate : Memory → List ℕ → Memory
 appendCertificate m ws =
     record {

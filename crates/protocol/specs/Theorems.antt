@@ -1,6 +1,6 @@
 -- What holds of the rules, for every call and any contents of the memory: what a refused call leaves, what an accepted one leaves and
--- may change, what is not read, which refusal is returned, and how large an answer is. Each type here is a statement, proved in proofs/
--- under the same name in lower case with hyphens.
+-- may change, what is not read, which refusal is returned, and how large an answer is. Each unfoldable type here is a statement,
+-- proved in proofs/ under the same name in lower case with hyphens.
 use Prim.Native.Nat.{ℕ, zero, suc, _+_, _≤_, _<_}
 use mathlib.Core.Path.{_≡_}
 use mathlib.Core.Bool.{Bool, true, false}
@@ -42,11 +42,11 @@ AcceptedLeavesForm =
 
 -- ---- A call changes at most the words named for it.
 
--- A word of the memory: its slice and its index.
-pub data Place : Type 0 where
-  tableWord logWord blockWord : ℕ → Place
+-- The address of a word of the memory: its slice and its index.
+pub data Address : Type 0 where
+  tableWord logWord blockWord : ℕ → Address
 
-unfoldable pub wordAt : Memory → Place → ℕ
+unfoldable pub wordAt : Memory → Address → ℕ
 wordAt m (tableWord k) = getD (m .table) k 0
 wordAt m (logWord k) = getD (m .log) k 0
 wordAt m (blockWord k) = getD (m .blocks) k 0
@@ -55,37 +55,37 @@ abbrev pub below : ℕ → List ℕ
 below zero = []
 below (suc k) = k ∷ below k
 
-abbrev pub replicaPlaces : ℕ → List ℕ → List Place
-replicaPlaces i offsets = map (λ k. tableWord (rowAt i + k)) offsets
+abbrev pub replicaAddresses : ℕ → List ℕ → List Address
+replicaAddresses i offsets = map (λ k. tableWord (rowAt i + k)) offsets
 
--- Where a new certificate goes: the count and the log's next place; where a new block goes.
-abbrev pub certificatePlaces : Memory → List Place
-certificatePlaces m =
+-- The words that a new certificate changes: the count and the log's next slot; and those that a new block changes.
+abbrev pub certificateAddresses : Memory → List Address
+certificateAddresses m =
     tableWord certificateCountAt ∷ map (λ k. logWord (certificateAt (certificateCount m) + k)) (below certificateWords)
 
-abbrev pub blockPlaces : Memory → List Place
-blockPlaces m = tableWord blockCountAt ∷ blockWord (blockAt (blockCount m)) ∷ []
+abbrev pub blockAddresses : Memory → List Address
+blockAddresses m = tableWord blockCountAt ∷ blockWord (blockAt (blockCount m)) ∷ []
 
 -- The words named for each call: those that it may change where it is accepted.
-unfoldable pub named : Memory → Call → List Place
+unfoldable pub named : Memory → Call → List Address
 named m (Open f) = blockWord (blockAt 0) ∷ map tableWord (below (length (m .table)))
-named m (Block p) = blockPlaces m
-named m (Prepare i b justification) = replicaPlaces i (flagAt ∷ []) ++ certificatePlaces m
-named m (Store i number) = replicaPlaces i (storedViewAt ∷ storedBlockAt ∷ minViewAt ∷ flagAt ∷ []) ++ certificatePlaces m
-named m (View i w) = replicaPlaces i (flagAt ∷ minViewAt ∷ []) ++ certificatePlaces m
-named m (Accumulate i) = certificatePlaces m
-named m (Decide i) = replicaPlaces i (decidedViewAt ∷ decidedBlockAt ∷ [])
+named m (Block p) = blockAddresses m
+named m (Prepare i b justification) = replicaAddresses i (flagAt ∷ []) ++ certificateAddresses m
+named m (Store i number) = replicaAddresses i (storedViewAt ∷ storedBlockAt ∷ minViewAt ∷ flagAt ∷ []) ++ certificateAddresses m
+named m (View i w) = replicaAddresses i (flagAt ∷ minViewAt ∷ []) ++ certificateAddresses m
+named m (Accumulate i) = certificateAddresses m
+named m (Decide i) = replicaAddresses i (decidedViewAt ∷ decidedBlockAt ∷ [])
 named m (Reboot i) =
-    replicaPlaces i (statusAt ∷ bootAt ∷ minViewAt ∷ viewLimitAt ∷ flagAt ∷ storedViewAt ∷ storedBlockAt ∷ [])
-named m (Reserve i) = replicaPlaces i (viewLimitAt ∷ [])
-named m (Request i) = certificatePlaces m
-named m (Reply i number) = replicaPlaces i (minViewAt ∷ flagAt ∷ []) ++ certificatePlaces m
-named m (Recover i) = replicaPlaces i (statusAt ∷ minViewAt ∷ storedViewAt ∷ storedBlockAt ∷ [])
+    replicaAddresses i (statusAt ∷ bootAt ∷ minViewAt ∷ viewLimitAt ∷ flagAt ∷ storedViewAt ∷ storedBlockAt ∷ [])
+named m (Reserve i) = replicaAddresses i (viewLimitAt ∷ [])
+named m (Request i) = certificateAddresses m
+named m (Reply i number) = replicaAddresses i (minViewAt ∷ flagAt ∷ []) ++ certificateAddresses m
+named m (Recover i) = replicaAddresses i (statusAt ∷ minViewAt ∷ storedViewAt ∷ storedBlockAt ∷ [])
 
 unfoldable pub OnlyNamedChange : Type 0
 OnlyNamedChange =
-    (m : Memory) (call : Call) (list : List ℕ) (p : Place) → (List·Memᴰ p (named m call) → ⊥)
-    → wordAt (step m call list .memory) p ≡ wordAt m p
+    (m : Memory) (call : Call) (list : List ℕ) (a : Address) → (List·Memᴰ a (named m call) → ⊥)
+    → wordAt (step m call list .memory) a ≡ wordAt m a
 
 -- Lengths never change.
 pub record SameLengths (m m′ : Memory) : Type 0 where

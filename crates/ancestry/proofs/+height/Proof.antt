@@ -1,12 +1,14 @@
 -- `height` meets its contract. The measure is the block number, which falls on the way up and bounds the height.
 use Prim.Native.Nat.{ℕ, _<_}
-use mathlib.Core.Path.{sym}
 use native.Mathlib.Omega.{arith}
 use borrow.Author.Needs.{needs}
 use borrow.Fn.Kinds.{In}
 use borrow.Fn.PlainCycle.{Measures, is, falls, and}
-use Rattle.ancestry.proofs.Heights.{height-of-root, height-of, height-at-most}
-use Rattle.ancestry.proofs.Lineage.{of-parent}
+use Rattle.protocol.specs.Ancestry.{stepsToRoot}
+use Rattle.protocol.proofs.Line.{height-up}
+use Rattle.ancestry.specs.AncestryFits.{parentIn}
+use Rattle.ancestry.proofs.Fitting.{parent-fits}
+use Rattle.ancestry.proofs.Walks.{height-at-most}
 use Rattle.ancestry.proofs.height.Reads as reads
 use Rattle.ancestry.proofs.height.Kinds as kinds
 use Rattle.ancestry.proofs.+height.Lts-height as lts
@@ -24,25 +26,26 @@ abbrev asked : ℕ → In 1 kinds.ps
 asked t = and 1 kinds.ps (falls 1 kinds.ps _<_ μ t) reads.Pre
 
 returns : (t : ℕ) → lts.Need-returns (asked t, reads.Post) (given t) reads.Post
-returns t c = rw (c .if1 .taken) (sym (height-of-root _))
+unfolding stepsToRoot
+returns t c = rw (c .if1 .taken)
 
 height-requires : (t : ℕ) → lts.Need-height-requires (asked t, reads.Post) (given t) reads.Post
 height-requires t c κs =
     let start = c .before .before .before in
-    let up = of-parent _ _ (start .pre .1) (omega arith) in
+    let up = parent-fits _ _ (start .pre .1) (omega arith) in
     (omega arith, up .1)
 
 add-result : (t : ℕ) → lts.Need-add-result (asked t, reads.Post) (given t) reads.Post
 add-result t c =
     let start = c .before .before .before .before in
-    let up = of-parent _ _ (start .pre .1) (omega arith) in
-    let low = height-at-most _ _ (up .1 .falls) in
-    omega (arith, c .height .ensures)
+    let up = parent-fits _ _ (start .pre .1) (omega arith) in
+    let p = parentIn (start .args .blocks .now) in
+    omega (arith, c .height .ensures, height-at-most p (p (start .args .b)))
 
 returns-2 : (t : ℕ) → lts.Need-returns-2 (asked t, reads.Post) (given t) reads.Post
 returns-2 t c =
     let start = c .before .before .before .before in
-    omega (arith, c .height .ensures, height-of _ _ (start .pre .1 .falls) (omega arith))
+    omega (arith, c .height .ensures, height-up _ _ (start .pre .1 .falls) (start .args .b) (omega arith) (omega arith))
 
 pub +height-spec : {M : Type 1} → statement M
 +height-spec =

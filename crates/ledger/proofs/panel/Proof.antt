@@ -3,7 +3,7 @@ use native.Mathlib.Omega.{arith}
 use borrow.Author.Needs.{needs}
 use Rattle.protocol.proofs.Tests.{tests}
 use Rattle.layout.proofs.Within.{replica-bounds}
-use Rattle.ancestry.proofs.Lineage.{lineage}
+use Rattle.ancestry.proofs.Fitting.{ancestry-fits}
 use Rattle.checks.proofs.Ends.{ready-by, row-within}
 use Rattle.ledger.proofs.Panels.{panel-refused, panel-shown}
 use Rattle.ledger.proofs.panel.Statement.{statement}
@@ -21,7 +21,7 @@ height-requires c κs =
     let ok = c .before in
     let w = ready-by _ _ (ok .before .replica-refusal .ensures) (ok .if1 .left) in
     let b = replica-bounds _ (w .formed) (ok .before .before .before .before .before .args .replica) (omega (tests, w .own)) in
-    lineage _ (w .formed) _ (omega (arith, b .decidedBlock, c .replica-word .ensures))
+    ancestry-fits _ (w .formed) _ (omega (arith, b .decidedBlock, c .replica-word .ensures))
 
 returns-2 : tie.Need-returns-2
 returns-2 c =

@@ -1,0 +1,50 @@
+-- What a walk up the parents finds, one step at a time, for any parents that fall.
+use Prim.Native.Nat.{ℕ, zero, suc, _≤_, _<_}
+use mathlib.Core.Path.{_≡_, refl, sym}
+use mathlib.Core.Bool.{false, or-false}
+use native.Mathlib.Omega.{arith}
+use lib.Dec.{eqb}
+use Rattle.protocol.specs.Ancestry.{inLine, Falls, isAncestorBy, stepsToRoot, heightBy}
+use Rattle.protocol.proofs.Tests.{tests, by-test, by-cond}
+
+module _ (p : ℕ → ℕ) (count : ℕ) (falls : Falls p count) (a : ℕ) where
+  -- A block that is not above a has a in its line only if it is a.
+  pub line-ends : (steps b : ℕ) → b < count → b ≤ a → inLine p steps a b ≡ eqb a b
+  unfolding inLine
+  line-ends zero b l h = refl
+  line-ends (suc steps) b l h =
+      by-test (eqb b 0) (λ e. rw e (or-false (eqb a b)))
+      (λ e.
+      let lower = falls b l (omega tests) in
+      let other : eqb a (p b) ≡ false = omega tests in
+      rw (e, line-ends steps (p b) (omega arith) (omega arith), other) (or-false (eqb a b)))
+
+  -- Steps that reach block 0 are enough: more change nothing.
+  more-steps : (s t b : ℕ) → b < count → b ≤ s → b ≤ t → inLine p s a b ≡ inLine p t a b
+  unfolding inLine
+  more-steps zero t b l x y = sym (line-ends t b l (omega arith))
+  more-steps (suc s) zero b l x y = line-ends (suc s) b l (omega arith)
+  more-steps (suc s) (suc t) b l x y =
+      by-test (eqb b 0) (λ e. rw e refl)
+      (λ e.
+      let lower = falls b l (omega tests) in
+      rw (e, more-steps s t (p b) (omega arith) (omega arith) (omega arith)) refl)
+
+  -- A block above a has a in its line if its parent has.
+  pub line-goes-on : (b : ℕ) → b < count → a < b → isAncestorBy p a b ≡ isAncestorBy p a (p b)
+  unfolding inLine
+  line-goes-on zero l h = absurd (omega arith)
+  line-goes-on (suc n) l h =
+      let lower = falls (suc n) l (omega arith) in
+      let other : eqb a (suc n) ≡ false = omega tests in
+      let above : eqb (suc n) 0 ≡ false = omega tests in
+      rw (other, above) (more-steps n (p (suc n)) (p (suc n)) (omega arith) (omega arith) (omega arith))
+
+-- A block's height is at most its number.
+pub height-at-most : (p : ℕ → ℕ) (b : ℕ) → heightBy p b ≤ b
+unfolding stepsToRoot
+height-at-most p b = go b b
+  where
+    go : (steps b : ℕ) → stepsToRoot p steps b ≤ steps
+    go zero b = omega arith
+    go (suc steps) b = let rest = go steps (p b) in by-cond (λ (h : ℕ). h ≤ suc steps) (eqb b 0) (λ e. omega arith) (λ e. omega arith)

@@ -160,10 +160,14 @@ fn put_answer(text: &mut [u8], line: u32, outcome: Outcome) {
     text[ANSWER_BYTES - 1] = b'\n';
 }
 
-/// Blanks, then the digits over them from the last column on.
+/// Blanks, then the digits over them from the last column on. Most numbers have one digit.
 fn put_number(field: &mut [u8], number: u32) {
-    let first = COLUMNS - digit_count(number);
     field.copy_from_slice(b"        ");
+    if number < 10 {
+        field[COLUMNS - 1] = b'0' + number as u8;
+        return;
+    }
+    let first = COLUMNS - digit_count(number);
     let mut rest = number;
     for at in (first..COLUMNS).rev() {
         field[at] = b'0' + (rest % 10) as u8;

@@ -6,11 +6,12 @@ use mathlib.Core.List.{List}
 use native.Mathlib.Omega.{arith}
 use lib.ListN.{getD}
 use lib.Dec.{eqb}
-use Rattle.protocol.specs.Memory.{words, kindAt, signerAt, viewAt, proposedBlockAt, ofViewAt, subjectAt, subjectBootAt}
+use borrow.Author.Tests.{not-true}
+use Rattle.protocol.specs.Memory.{words, kindAt, signerAt, viewAt, proposedBlockAt, ofViewAt, subjectAt, subjectBootAt, certificateAt}
 use Rattle.protocol.specs.Form.{allBelow}
 use Rattle.protocol.proofs.Tests.{tests, by-test, at-below}
 use Rattle.certificates.specs.declared.Certificate.{Certificate}
-use Rattle.certificates.specs.Filing.{certificateOf, equalFrom}
+use Rattle.certificates.specs.Filing.{certificateOf, equalFrom, isEqual, isOfOtherView}
 
 module _ (log : List ℕ) (start : ℕ) (c : Certificate) where
   abbrev same : ℕ → ℕ → Bool
@@ -34,3 +35,9 @@ module _ (log : List ℕ) (start : ℕ) (c : Certificate) where
   same-view e =
       let t : same viewAt (c .view) ≡ true = omega tests in
       rw t (rw (and-true (same kindAt (c .kind) && same signerAt (c .signer))))
+
+pub of-other-view : (log : List ℕ) (c : Certificate) (number : ℕ) → isOfOtherView log (c .view) number ≡ true
+    → isEqual log (words (certificateOf c)) number ≡ false
+of-other-view log c number e =
+    let differ = not-true (eqb (getD log (certificateAt number + viewAt) 0) (c .view)) e in
+    sym (other-view log (certificateAt number) c (omega tests))

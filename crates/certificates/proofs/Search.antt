@@ -7,12 +7,19 @@ use native.Mathlib.Numerals.{add-one}
 use lib.Dec.{ltb, eqb}
 use Rattle.protocol.specs.Certificates.{firstBelow}
 use Rattle.protocol.proofs.Tests.{tests, by-test}
+use Rattle.layout.specs.Parts.{fourOk}
+use Rattle.layout.proofs.Below.{four-steps}
 
 module _ (test : ℕ → Bool) where
   -- No number below i passes, and i does not either.
   pub none-yet : (i : ℕ) → firstBelow i test ≡ i → test i ≡ false → firstBelow (i + 1) test ≡ i + 1
   unfolding firstBelow
   none-yet i e miss = let l : ltb i i ≡ false = omega tests in rw (add-one i, e, l, miss) (omega arith)
+
+  -- Nor do four, of each of which another test tells that it does not.
+  pub none-of-four : (other : ℕ → Bool) → ((k : ℕ) → other k ≡ true → test k ≡ false) → (i : ℕ) → firstBelow i test ≡ i
+      → fourOk other i ≡ true → firstBelow (i + 4) test ≡ i + 4
+  none-of-four other misses = four-steps other (λ i. firstBelow i test ≡ i) (λ i e o. none-yet i e (misses i o))
 
   -- One that is found stays the first, however many follow.
   stays : (i n : ℕ) → firstBelow i test < i → i ≤ n → firstBelow n test ≡ firstBelow i test

@@ -1,11 +1,11 @@
 -- What filing a certificate asks of the table and the log, and what it gives.
 use Prim.Native.Nat.{ℕ, _+_, _≤_, _<_, _%_}
 use mathlib.Core.Path.{_≡_}
-use mathlib.Core.Bool.{Bool, cond}
+use mathlib.Core.Bool.{Bool, cond, not}
 use mathlib.Core.List.{List}
 use lib.ListN.{length, getD}
 use lib.Dec.{eqb}
-use Rattle.protocol.specs.Memory.{Memory, memory, certificateCountAt, certificateWords, certificateAt, maxCertificates}
+use Rattle.protocol.specs.Memory.{Memory, memory, certificateCountAt, certificateWords, certificateAt, maxCertificates, viewAt}
 use Rattle.protocol.specs.Memory as Memory
 use Rattle.protocol.specs.Form.{allBelow}
 use Rattle.protocol.specs.Certificates.{numberFor, canFile, file}
@@ -50,6 +50,9 @@ equalFrom log start ws = allBelow certificateWords (λ k. eqb (getD log (start +
 
 abbrev pub isEqual : List ℕ → List ℕ → ℕ → Bool
 isEqual log ws number = equalFrom log (certificateAt number) ws
+
+abbrev pub isOfOtherView : List ℕ → ℕ → ℕ → Bool
+isOfOtherView log view number = not (eqb (getD log (certificateAt number + viewAt) 0) view)
 
 -- "A certificate equal in all seven words to an issued one isn't added again: the first such number is returned."
 -- The number that a certificate of these words has or gets; the refusal, where none is equal and no place is free.

@@ -5,12 +5,14 @@ ghost use Prim.Native.Nat.{ℕ, _+_, _≤_};
 ghost use lib.ListN.{length};
 ghost use Rattle.protocol.specs.Memory.{memory, certificateAt, certificateWords, words, appendCertificate};
 ghost use Rattle.protocol.specs.Certificates.{firstBelow};
+ghost use Rattle.layout.specs.Parts.{fourOk};
 ghost use Rattle.certificates.specs.Filing.{
   LogFits,
   LogHasRoom,
   certificateOf,
   equalFrom,
   isEqual,
+  isOfOtherView,
   placeFor,
   leaves,
   filing,
@@ -70,15 +72,42 @@ fn is_equal(log: &[u32], start: usize, c: Certificate) -> bool
         & (log[start + SUBJECT_BOOT_AT] == c.boot)
 }
 
-// The first of so many certificates that equals this one, or their count.
+// Whether a certificate of the log is of another view.
+fn is_of_other_view(log: &[u32], number: usize, view: u32) -> bool
+    requires { ⌜ certificateAt number + certificateWords ≤ length (now log) ⌝ }
+    ensures { λ r. ⌜ r ≡ isOfOtherView (now (log .entry)) view number ⌝ }
+{
+    log[CERTIFICATE_WORDS * number + VIEW_AT] != view
+}
+
+// Four certificates, one after the other, all of other views. It has one caller, and tests joined by `&` alone, so the compiler inlines it.
+fn four_of_other_views(log: &[u32], number: usize, view: u32) -> bool
+    requires { ⌜ certificateAt (number + 4) ≤ length (now log) ⌝ }
+    ensures { λ r. ⌜ r ≡ fourOk (isOfOtherView (now (log .entry)) view) number ⌝ }
+{
+    is_of_other_view(log, number, view)
+        & is_of_other_view(log, number + 1, view)
+        & is_of_other_view(log, number + 2, view)
+        & is_of_other_view(log, number + 3, view)
+}
+
+// The first of so many certificates that equals this one, or their count. Four of other views are passed at a time.
 fn find(log: &[u32], count: u32, c: Certificate) -> u32
     requires { ⌜ certificateAt count ≤ length (now log) ⌝ }
     ensures { λ r. ⌜ r ≡ firstBelow count (isEqual (now (log .entry)) (words (certificateOf c))) ⌝ }
 {
-    let mut number = 0;
-    while number < count {
-        if is_equal(log, CERTIFICATE_WORDS * (number as usize), c) {
-            return number;
+    let end = count as usize;
+    let view = c.view;
+    let mut number: usize = 0;
+    while number + 4 <= end {
+        if !four_of_other_views(log, number, view) {
+            break;
+        }
+        number += 4;
+    }
+    while number < end {
+        if is_equal(log, CERTIFICATE_WORDS * number, c) {
+            return number as u32;
         }
         number += 1;
     }

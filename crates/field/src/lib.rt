@@ -65,13 +65,17 @@ fn write_blanks(bytes: &mut [u8])
     bytes[7] = BLANK;
 }
 
-// The field of a number that has one: blanks, then the digits over them from the last column on.
+// The field of a number that has one: blanks, then the digits over them from the last column on. Most numbers have one digit.
 pub fn write_columns(number: u32, bytes: &mut [u8])
     requires { ⌜ Writable number (now bytes) ⌝ }
     ensures { λ r. ⌜ now (bytes .exit) ≡ fieldOf number ⌝ }
 {
-    let first = COLUMNS - digit_count(number) as usize;
     write_blanks(bytes);
+    if number < 10 {
+        bytes[LAST_COLUMN] = DIGIT_ZERO + number as u8;
+        return;
+    }
+    let first = COLUMNS - digit_count(number) as usize;
     let mut rest = number;
     let mut at = COLUMNS;
     while first < at {

@@ -1,6 +1,6 @@
 -- Tests below a count, as a loop goes over them.
 use Prim.Native.Nat.{ℕ, _+_, _≤_, _<_}
-use mathlib.Core.Path.{_≡_, refl, sym, _∙_}
+use mathlib.Core.Path.{_≡_, refl, sym, subst, _∙_}
 use mathlib.Core.Bool.{Bool, true, false, _&&_}
 use native.Mathlib.Numerals.{add-one}
 use native.Mathlib.Omega.{arith}
@@ -9,6 +9,18 @@ use Rattle.protocol.proofs.Tests.{by-test, true-and, each, all-hold, at-below}
 use Rattle.layout.specs.Parts.{fourOk}
 
 module _ (test : ℕ → Bool) where
+  -- What one test takes on by one, four tests take on by four.
+  pub four-steps : (P : ℕ → Type 0) → ((k : ℕ) → P k → test k ≡ true → P (k + 1)) → (k : ℕ) → P k → fourOk test k ≡ true
+      → P (k + 4)
+  four-steps P step k p e =
+      let h = each _ e in
+      let two = step (k + 1) (step k p (h .0)) (h .1 .0) in
+      let three = step (k + 2) (subst P (plus 1) two) (h .1 .1 .0) in
+      subst P (plus 3) (step (k + 3) (subst P (plus 2) three) (h .1 .1 .1 .0))
+    where
+      plus : (j : ℕ) → k + j + 1 ≡ k + (j + 1)
+      plus j = omega arith
+
   pub one-more : (k : ℕ) → allBelow k test && test k ≡ allBelow (k + 1) test
   unfolding allBelow
   one-more k = rw add-one refl
@@ -18,14 +30,7 @@ module _ (test : ℕ → Bool) where
   next k all e = sym (one-more k) ∙ true-and all e
 
   pub next-four : (k : ℕ) → allBelow k test ≡ true → fourOk test k ≡ true → allBelow (k + 4) test ≡ true
-  next-four k all e =
-      let h = each _ e in
-      let two = next (k + 1) (next k all (h .0)) (h .1 .0) in
-      let three = next (k + 2) (rw (← plus 1) two) (h .1 .1 .0) in
-      rw (← plus 3) (next (k + 3) (rw (← plus 2) three) (h .1 .1 .1 .0))
-    where
-      plus : (j : ℕ) → k + j + 1 ≡ k + (j + 1)
-      plus j = omega arith
+  next-four = four-steps (λ k. allBelow k test ≡ true) next
 
   -- The loop has reached the count.
   pub at-end : {i k : ℕ} {b : Bool} → i ≤ k → k ≤ i → b ≡ allBelow i test → b ≡ allBelow k test

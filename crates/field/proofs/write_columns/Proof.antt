@@ -1,4 +1,4 @@
--- The digits left and the columns written are the number's digits, and before these there are blanks.
+-- One digit over blanks; or, digit by digit, the digits left and the columns written are the number's digits, and before these there are blanks.
 use Prim.Native.Nat.{_-_, _≤_}
 use mathlib.Core.Path.{_≡_, sym, _∙_}
 use mathlib.Core.List.{_++_}
@@ -9,7 +9,7 @@ use lib.Seq.{take-all}
 use Rattle.field.specs.Digits.{digits, digitCount}
 use Rattle.field.specs.Field.{columns, blank}
 use Rattle.field.proofs.Counts.{count-fits}
-use Rattle.field.proofs.Writing.{digit-written, blanks-left, starts, all-stand}
+use Rattle.field.proofs.Writing.{digit-written, blanks-left, one-digit, starts, all-stand}
 use Rattle.field.proofs.write_columns.Statement.{statement}
 use Rattle.field.proofs.write_columns.Tie as tie
 
@@ -22,29 +22,34 @@ Inv-loop number bytes₀ first rest₀ at₀ bytes rest at =
 abbrev μ-loop : tie.MeasureT-loop
 μ-loop number bytes₀ first rest₀ at₀ bytes rest at = at
 
+returns : tie.Need-returns Inv-loop μ-loop
+returns c =
+    let start = c .before .before .before .before .before .before in
+    one-digit (start .args .number) (c .if1 .taken) (c .before .before .before .write-blanks .ensures)
+
 cast-first : tie.Need-cast-first Inv-loop μ-loop
 cast-first c =
-    let start = c .before .before in
+    let start = c .before .before .before .before .before .before .before in
     omega (arith, c .digit-count .ensures, count-fits (start .args .number) (start .pre .small))
 
 sub-first : tie.Need-sub-first Inv-loop μ-loop
 sub-first c =
-    let start = c .before .before in
+    let start = c .before .before .before .before .before .before .before in
     omega (arith, c .digit-count .ensures, count-fits (start .args .number) (start .pre .small))
 
 loop-holds : tie.Need-loop-holds Inv-loop μ-loop
 loop-holds c =
-    let start = c .before .before .before .before .before .before in
-    let e = c .before .before .before .before .digit-count .ensures in
+    let blanked = c .before .before .before .before in
+    let start = blanked .before .before .before in
+    let e = c .digit-count .ensures in
     let u = count-fits (start .args .number) (start .pre .small) in
-    let blanks = c .before .before .write-blanks .ensures in
-    let long = c .before .bytes .given ∙ start .pre .eight in (
+    let long = c .before .before .before .bytes .given ∙ start .pre .eight in (
       omega (arith, e, u),
       omega arith,
       long,
       omega (arith, e, u),
-      starts (c .before .before .write-blanks .last .0) _ _ long e (omega (arith, e, u)),
-      take-all columns (c .before .before .write-blanks .last .0) (omega (arith, long)) ∙ blanks,
+      starts (blanked .write-blanks .last .0) _ _ long e (omega (arith, e, u)),
+      take-all columns (blanked .write-blanks .last .0) (omega (arith, long)) ∙ blanked .write-blanks .ensures,
     )
 
 loop-again : tie.Need-loop-again Inv-loop μ-loop
@@ -58,17 +63,19 @@ loop-again c =
       blanks-left (l .bytes) (l .at) _ (omega arith) (l .inv .5),
     )
 
-returns : tie.Need-returns Inv-loop μ-loop
-returns c =
+same-length-2 : tie.Need-same-length-2 Inv-loop μ-loop
+same-length-2 c =
+    let start = c .before .before .before .before .before .before .before .before .before in
+    c .before .loop .inv .2 ∙ sym (start .pre .eight)
+
+returns-2 : tie.Need-returns-2 Inv-loop μ-loop
+returns-2 c =
     let l = c .before .loop in
     all-stand (l .bytes) _ _ (l .at) (l .rest) (omega arith) (l .inv .3) (l .inv .5) (l .inv .4)
-
-same-length : tie.Need-same-length Inv-loop μ-loop
-same-length c = c .before .loop .inv .2 ∙ sym (c .before .before .before .before .before .before .before .before .pre .eight)
 
 pub write-columns-spec : {M : Type 1} → statement M
 write-columns-spec =
     tie.close
-    (tie.spec Inv-loop μ-loop (λ c κs. search needs) cast-first sub-first (λ c κs. search needs) loop-holds
-    (λ c. search needs) (λ c. search needs) (λ c. search needs) (λ c. search needs) (λ c. search needs) loop-again
-    same-length returns)
+    (tie.spec Inv-loop μ-loop (λ c κs. search needs) (λ c. search needs) (λ c. search needs) (λ c. search needs)
+    (λ c. search needs) returns (λ c κs. search needs) cast-first sub-first loop-holds (λ c. search needs)
+    (λ c. search needs) (λ c. search needs) (λ c. search needs) (λ c. search needs) loop-again same-length-2 returns-2)

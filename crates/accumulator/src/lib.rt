@@ -30,9 +30,8 @@ use protocol::WRONG_STATUS;
 
 // The refusals of accumulate, but for the last: a place in the log.
 fn accumulate_refusal(table: &[u32], log: &[u32], blocks: &[u32], replica: u32, list: &[u32]) -> u32
-    ensures { λ r. ⌜ r
-        ≡ firstRefusal (accumulateNeeds (memory (now (table .entry)) (now (log .entry)) (now (blocks .entry))) replica
-        (now (list .entry))) ⌝ }
+    ensures { λ r. ⌜ r ≡ firstRefusal (accumulateNeeds (memory (now (table .entry)) (now (log .entry)) (now (blocks .entry)))
+        replica (now (list .entry))) ⌝ }
 {
     let refusal = checks::list_refusal(table, log, blocks, replica, list);
     if refusal != 0 {
@@ -82,9 +81,8 @@ pub fn accumulate(
 
 // The refusals of decide.
 fn decide_refusal(table: &[u32], log: &[u32], blocks: &[u32], replica: u32, list: &[u32]) -> u32
-    ensures { λ r. ⌜ r
-        ≡ firstRefusal (decideRule (memory (now (table .entry)) (now (log .entry)) (now (blocks .entry))) replica (now (list .entry))
-        .needs) ⌝ }
+    ensures { λ r. ⌜ r ≡ firstRefusal (decideRule (memory (now (table .entry)) (now (log .entry)) (now (blocks .entry)))
+        replica (now (list .entry)) .needs) ⌝ }
 {
     let refusal = checks::list_refusal(table, log, blocks, replica, list);
     if refusal != 0 {

@@ -1,3 +1,4 @@
+-- Refused; or, of the words read from the first NEWVIEW and from the greatest, an ACC is filed: no room, or issued.
 use native.Mathlib.Omega.{arith}
 use mathlib.Core.Path.{refl}
 use borrow.Author.Needs.{needs}

@@ -1,3 +1,4 @@
+-- Refused; or the decided words are set, where the view is above the decided one.
 use native.Mathlib.Omega.{arith}
 use mathlib.Core.Path.{sym, _∙_}
 use borrow.Author.Needs.{needs}

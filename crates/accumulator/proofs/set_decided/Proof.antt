@@ -1,3 +1,4 @@
+-- The decided words are written, or stay.
 use borrow.Author.Needs.{needs}
 use Rattle.protocol.proofs.Tests.{tests}
 use lib.Dec.{ltb}

@@ -1,3 +1,4 @@
+-- The refusals in their order: the justification's numbers, the block, the status, the justification, the proposal. Then a PROP.
 use mathlib.Core.Path.{sym, _∙_}
 use native.Mathlib.Omega.{arith}
 use borrow.Author.Needs.{needs}

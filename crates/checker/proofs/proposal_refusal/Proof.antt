@@ -1,3 +1,4 @@
+-- One test after the other, each the rule's next need.
 use mathlib.Core.Path.{sym, ap, _∙_}
 use mathlib.Core.Bool.{not}
 use borrow.Author.Needs.{needs}

@@ -1,3 +1,4 @@
+-- Filed, or refused for want of room; then the flag of the replica.
 use borrow.Author.Needs.{needs}
 use Rattle.certificates.proofs.Issuing.{full, issued}
 use Rattle.checker.proofs.propose.Statement.{statement}

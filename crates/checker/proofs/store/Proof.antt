@@ -1,3 +1,4 @@
+-- Refused by the shared tests or by its own; else a COMMIT is issued, of the proposal's view and block.
 use native.Mathlib.Omega.{arith}
 use borrow.Author.Needs.{needs}
 use Rattle.checks.proofs.Ends.{number-by, row-within, number-there}

@@ -1,3 +1,4 @@
+-- One test after the other, each the rule's next need.
 use mathlib.Core.Path.{sym, _∙_}
 use borrow.Author.Needs.{needs}
 use borrow.Author.Tests.{not-true, not-false}

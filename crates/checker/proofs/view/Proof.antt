@@ -1,3 +1,4 @@
+-- Refused by the shared tests or by its own; else a NEWVIEW is issued, with the stored view and block.
 use borrow.Author.Needs.{needs}
 use Rattle.checks.proofs.Ends.{ready-by, row-within}
 use Rattle.checks.proofs.Issues.{stops-first, stops-further, goes-through}

@@ -1,3 +1,4 @@
+-- One test after the other, each the rule's next need.
 use Rattle.protocol.proofs.Tests.{tests}
 use Rattle.checks.proofs.Ready.{last}
 use Rattle.checks.proofs.Ends.{stops, passes}

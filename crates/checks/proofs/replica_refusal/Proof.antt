@@ -1,3 +1,4 @@
+-- One test after the other, each the next need that calls share.
 use mathlib.Core.Path.{sym, _∙_}
 use native.Mathlib.Omega.{arith}
 use borrow.Author.Needs.{needs}

@@ -1,3 +1,4 @@
+-- The word of the list's first certificate; 0 where there is no list, or the certificate is not issued.
 use native.Mathlib.Omega.{arith}
 use borrow.Author.Needs.{needs}
 use Rattle.protocol.proofs.Tests.{tests}

@@ -1,3 +1,4 @@
+-- One case for each code. A prepare on commits claims the view and the block of its list's first certificate.
 use mathlib.Core.Path.{refl}
 use native.Mathlib.Omega.{arith}
 use borrow.Author.Needs.{needs}

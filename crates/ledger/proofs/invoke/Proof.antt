@@ -1,3 +1,4 @@
+-- Each call by its own contract.
 use borrow.Author.Needs.{needs}
 use Rattle.protocol.specs.Runs.{ruleOf, step}
 use Rattle.ledger.proofs.invoke.Statement.{statement}

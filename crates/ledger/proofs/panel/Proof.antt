@@ -1,3 +1,4 @@
+-- A replica that is there has a decided block that is there too, so its height can be walked.
 use mathlib.Core.Path.{sym, _∙_}
 use native.Mathlib.Omega.{arith}
 use borrow.Author.Needs.{needs}

@@ -1,3 +1,4 @@
+-- Refused; or the parent is written at the next place, and counted.
 use mathlib.Core.Path.{sym, _∙_}
 use native.Mathlib.Omega.{arith}
 use borrow.Author.Needs.{needs}

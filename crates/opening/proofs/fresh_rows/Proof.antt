@@ -1,3 +1,4 @@
+-- All rows written so far are as opening leaves them.
 use Prim.Native.Nat.{_≤_, _-_}
 use mathlib.Core.Path.{_≡_, refl, ap, _∙_}
 use native.Mathlib.Omega.{arith}

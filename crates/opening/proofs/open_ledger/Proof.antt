@@ -1,3 +1,4 @@
+-- f and the lengths are tested; then the header, the rows and block 0 are written, and nothing else.
 use mathlib.Core.Path.{sym, _∙_}
 use native.Mathlib.Omega.{arith}
 use borrow.Author.Needs.{needs}

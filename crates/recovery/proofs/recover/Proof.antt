@@ -1,3 +1,4 @@
+-- The refusals in their order: the shared ones, the status, the quorum, the limit. Then the replica is live again.
 use mathlib.Core.Path.{_∙_}
 use borrow.Author.Needs.{needs}
 use borrow.Author.Tests.{not-true, not-false}

@@ -1,3 +1,4 @@
+-- Refused by the shared tests or by its own; else a REPLY is issued, to the REQ's signer, boot and view.
 use borrow.Author.Needs.{needs}
 use Rattle.certificates.proofs.Fits.{log-fits}
 use Rattle.checks.proofs.Ends.{number-by, row-within, number-there}

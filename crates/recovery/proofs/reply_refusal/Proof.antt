@@ -1,3 +1,4 @@
+-- One test after the other, each the rule's next need.
 use mathlib.Core.Path.{ap}
 use mathlib.Core.Bool.{not}
 use borrow.Author.Tests.{eq-eqb, ne-eqb}

@@ -1,3 +1,4 @@
+-- Refused; or a REQ is issued, of the replica's own lowest view and boot.
 use native.Mathlib.Omega.{arith}
 use borrow.Author.Needs.{needs}
 use Rattle.protocol.proofs.Tests.{tests}

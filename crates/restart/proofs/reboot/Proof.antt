@@ -1,3 +1,4 @@
+-- Refused, retired, or started again; what was read of the replica is what the rule speaks of.
 use native.Mathlib.Omega.{arith}
 use borrow.Author.Needs.{needs}
 use Rattle.protocol.specs.Calls.{reboot as rebootRule}

@@ -1,3 +1,4 @@
+-- Refused, or the limit is written; what was read of the replica is what the rule speaks of.
 use native.Mathlib.Omega.{arith}
 use borrow.Author.Needs.{needs}
 use Rattle.protocol.specs.Calls.{reserve as reserveRule}

@@ -1,3 +1,4 @@
+-- An ACC of another kind or signer, or a list that is no quorum, gives nothing; else a view and a block.
 use mathlib.Core.Path.{sym, _∙_}
 use native.Mathlib.Omega.{arith}
 use borrow.Author.Needs.{needs}

@@ -1,3 +1,4 @@
+-- All certificates passed so far have their form; a group with one that has not ends the test.
 use Prim.Native.Nat.{_-_, _≤_}
 use mathlib.Core.Path.{_≡_, sym}
 use mathlib.Core.Bool.{true}

@@ -1,3 +1,4 @@
+-- f, the lengths and the counts come first: without them no word may be read.
 use mathlib.Core.Path.{_∙_}
 use Rattle.layout.proofs.Joined.{denied, granted}
 use Rattle.layout.proofs.Whole.{bounded, too-short, no-bound, no-sizes, enough, by-words}

@@ -1,3 +1,4 @@
+-- All parents passed so far are below their blocks.
 use Prim.Native.Nat.{ℕ, _+_, _-_, _≤_}
 use mathlib.Core.Path.{_≡_}
 use mathlib.Core.Bool.{false, _&&_}

@@ -1,3 +1,4 @@
+-- All replicas passed so far have their form.
 use Prim.Native.Nat.{_-_, _≤_}
 use mathlib.Core.Path.{_≡_}
 use borrow.Author.Needs.{needs}

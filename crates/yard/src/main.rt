@@ -4,8 +4,8 @@ ghost use mathlib.Core.List.{[]};
 ghost use lib.ListN.{length, take};
 ghost use Rattle.io.specs.Counts.{clamped};
 ghost use Rattle.stream.specs.Stream.{newStream};
-ghost use Rattle.stream.specs.Progress.{streamOf};
-ghost use Rattle.yard.specs.Turns.{chunkBytes, textBytes, Flushed, Goes};
+ghost use Rattle.stream.specs.Progress.{streamOf, Within};
+ghost use Rattle.yard.specs.Turns.{chunkBytes, textBytes, Flushed, taken};
 use libc::STDIN_FILENO;
 use libc::STDOUT_FILENO;
 use stream::MAX_LINES;
@@ -30,12 +30,6 @@ const BLOCKS: usize = 1024;
 const TABLE_WORDS: usize = layout::ROW_START + REPLICAS * layout::REPLICA_WORDS;
 
 const LOG_WORDS: usize = CERTIFICATES * layout::CERTIFICATE_WORDS;
-
-// Where a read leaves the program.
-enum Turn {
-    More(Progress),
-    End,
-}
 
 // Reads once, and again where that fails. Gives how many bytes came, 0 at the end of the input, or -1.
 fn read_chunk(chunk: &mut [u8]) -> isize {
@@ -69,7 +63,7 @@ fn write_text(text: &[u8]) -> bool {
     false
 }
 
-// Takes what a read gave, all bytes that came or the end of the input, and writes the answers. A read that failed ends the program.
+// Takes what a read gave: all bytes that came, or the end of the input. The text of the answers is then to be written.
 fn take_read(
     table: &mut [u32; TABLE_WORDS],
     log: &mut [u32; LOG_WORDS],
@@ -79,37 +73,19 @@ fn take_read(
     chunk: &[u8],
     got: isize,
     p: Progress,
-) -> Turn
+) -> Progress
     requires { ⌜ (length (now text) ≡ textBytes) × (length (now chunk) ≡ chunkBytes) ⌝ }
     requires { ⌜ Flushed p ⌝ }
-    ensures { λ r. ⌜ Goes (streamOf p (now (table .entry)) (now (log .entry)) (now (blocks .entry)) (now (line .entry))
-        (now (text .entry))) (now (table .exit)) (now (log .exit)) (now (blocks .exit)) (now (line .exit)) (now (text .exit))
-        (take (clamped got (length (now (chunk .entry)))) (now (chunk .entry))) r ⌝ }
+    ensures { λ r. ⌜ streamOf r (now (table .exit)) (now (log .exit)) (now (blocks .exit)) (now (line .exit)) (now (text .exit))
+        ≡ taken (streamOf p (now (table .entry)) (now (log .entry)) (now (blocks .entry)) (now (line .entry)) (now (text .entry)))
+        (take (clamped got (length (now (chunk .entry)))) (now (chunk .entry))) ⌝ }
+    ensures { λ r. ⌜ Within r (now (text .entry)) ⌝ }
 {
-    if got < 0 {
-        return Turn::End;
-    }
     let n = io::count(got, chunk);
     if n == 0 {
-        let last = stream::finish(table, log, blocks, line, text, p);
-        let pending = last.pending;
-        write_text(&text[..pending]);
-        return Turn::End;
+        return stream::finish(table, log, blocks, line, text, p);
     }
-    let next = stream::feed(table, log, blocks, line, text, p, &chunk[..n]);
-    let pending = next.pending;
-    if !write_text(&text[..pending]) {
-        return Turn::End;
-    }
-    if next.lines == MAX_LINES {
-        return Turn::End;
-    }
-    Turn::More(Progress {
-        fault_bound: next.fault_bound,
-        lines: next.lines,
-        held: next.held,
-        pending: 0,
-    })
+    stream::feed(table, log, blocks, line, text, p, &chunk[..n])
 }
 
 // Does nothing: its `requires` says what the program starts with.
@@ -123,7 +99,8 @@ fn starts(
     requires { ⌜ streamOf p (now table) (now log) (now blocks) (now line) [] ≡ newStream ⌝ }
 {}
 
-// A proved loop ends: it counts its turns, from a number that no run uses up.
+// Reads, answers and writes, until the input ends, line 99,999,999 is answered, or a read or a write fails. A proved loop ends: it counts its
+// turns, from a number that no run uses up.
 fn main() {
     let mut table = [0u32; TABLE_WORDS];
     let mut log = [0u32; LOG_WORDS];
@@ -142,7 +119,10 @@ fn main() {
     while 0 < turns {
         turns -= 1;
         let got = read_chunk(&mut chunk);
-        let Turn::More(next) = take_read(
+        if got < 0 {
+            return;
+        }
+        let next = take_read(
             &mut table,
             &mut log,
             &mut blocks,
@@ -151,9 +131,22 @@ fn main() {
             &chunk,
             got,
             p,
-        ) else {
+        );
+        let pending = next.pending;
+        if !write_text(&text[..pending]) {
             return;
+        }
+        if got == 0 {
+            return;
+        }
+        if next.lines == MAX_LINES {
+            return;
+        }
+        p = Progress {
+            fault_bound: next.fault_bound,
+            lines: next.lines,
+            held: next.held,
+            pending: 0,
         };
-        p = next;
     }
 }

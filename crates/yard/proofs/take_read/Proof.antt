@@ -1,47 +1,51 @@
--- The text that is written lies within its places; what was fed is what was read.
-use Prim.Native.Nat.{ℕ}
-use mathlib.Core.Path.{_≡_, refl, sym}
-use mathlib.Core.List.{List}
-use lib.IntN.{ℤ}
+-- What is fed is what came; where nothing came, the input has ended.
+use Prim.Native.Nat.{ℕ, zero, suc, _≤_}
+use mathlib.Core.Path.{_≡_, refl}
+use mathlib.Core.List.{List, [], _∷_}
 use native.Mathlib.Omega.{arith}
+use lib.IntN.{ℤ}
 use lib.ListN.{length, take}
-use lib.Seq.{length-take-le}
-use Rattle.stream.specs.Stream.{Stream, fed, emptied}
 use mir.Syntax.{w64}
 use mir.ValLaws.{toZ-ofZ}
 use Rattle.io.specs.Counts.{clamped}
+use Rattle.stream.specs.Stream.{Stream, fed, finished}
+use Rattle.yard.specs.Turns.{taken}
 use borrow.Author.Needs.{needs}
 use Rattle.yard.proofs.take_read.Statement.{statement}
 use Rattle.yard.proofs.take_read.Tie as tie
 
-all-fed : (s : Stream) (chunk : List ℕ) {o : Stream} {n : ℕ} {z got : ℤ} → o ≡ fed s (take n chunk)
-    → n ≡ clamped z (length chunk) → z ≡ got → emptied o ≡ emptied (fed s (take (clamped got (length chunk)) chunk))
-all-fed s chunk e k g = cc
+some : (s : Stream) (n : ℕ) (chunk : List ℕ) → (n ≡ 0 → ⊥) → n ≤ length chunk → fed s (take n chunk) ≡ taken s (take n chunk)
+some s zero chunk h l = absurd (h refl)
+some s (suc n) [] h l = absurd (omega arith)
+some s (suc n) (byte ∷ bytes) h l = refl
 
-slice-aggregate-write-text : tie.Need-slice-aggregate-write-text
-slice-aggregate-write-text c =
-    let o = c .before .before .before .finish in
-    sym (length-take-le _ (o .last .1 .1 .1 .1 .0) (omega (arith, o .ensures .1 .pending, c .before .before .text .given)))
+-- The count of bytes is got, as the machine holds it.
+module _ (s : Stream) (chunk : List ℕ) {o : Stream} {n : ℕ} {z got : ℤ} (k : n ≡ clamped z (length chunk)) (g : z ≡ got) where
+  ended : n ≡ 0 → o ≡ finished s → o ≡ taken s (take (clamped got (length chunk)) chunk)
+  ended e u = rw (← g, ← k, e) u
 
-slice-aggregate-write-text-2 : tie.Need-slice-aggregate-write-text-2
-slice-aggregate-write-text-2 c =
-    let o = c .before .before .before .feed in
-    sym (length-take-le _ (o .last .1 .1 .1 .1 .0) (omega (arith, o .ensures .1 .pending, c .before .before .text2 .given)))
+  all-fed : (n ≡ 0 → ⊥) → n ≤ length chunk → o ≡ fed s (take n chunk) → o ≡ taken s (take (clamped got (length chunk)) chunk)
+  all-fed h l u = let t = some s n chunk h l in rw (← g, ← k, ← t) u
 
-returns-5 : tie.Need-returns-5
-returns-5 c =
-    let at-feed = c .before .before .before .before .before .before .before in
-    let at-count = at-feed .before .before .before .before .before .before .before .before in
-    let start = at-count .before .before .before .before in
-    let fed = at-feed .feed .ensures in (
-      record { held = fed .1 .held; pending = refl },
-      all-fed _ _ (fed .0) (at-count .count .ensures .1) (toZ-ofZ w64 (start .args .got) (start .fits .got)),
+returns : tie.Need-returns
+returns c =
+    let start = c .before .before .before .before .before .before .before .before .before .before .before .before in
+    let count = c .before .before .before .before .before .before .before .before .before .count .ensures in
+    let o = c .before .before .finish .ensures in
+    (ended _ (start .args .chunk .now) (count .1) (toZ-ofZ w64 (start .args .got) (start .fits .got)) (c .before .before .before .before .before .before .before .before .if1 .taken) (o .0), o .1)
+
+returns-2 : tie.Need-returns-2
+returns-2 c =
+    let start = c .before .before .before .before .before .before .before .before .before .before .before .before .before in
+    let count = c .before .before .before .before .before .before .before .before .before .before .count .ensures in
+    let o = c .before .before .feed .ensures in (
+      all-fed _ (start .args .chunk .now) (count .1) (toZ-ofZ w64 (start .args .got) (start .fits .got)) (c .before .before .before .before .before .before .before .before .before .if1 .left) (count .0 .0)
+          (o .0),
+      o .1,
     )
 
 pub take-read-spec : {M : Type 1} → statement M
 take-read-spec =
     tie.close
-    (tie.spec (λ c. search needs) (λ c κs. search needs) (λ c κs. search needs) (λ c. search needs)
-    slice-aggregate-write-text (λ c κs. search needs) (λ c. search needs) (λ c. search needs) (λ c. search needs)
-    (λ c κs. search needs) (λ c. search needs) slice-aggregate-write-text-2 (λ c κs. search needs)
-    (λ c. search needs) (λ c. search needs) (λ c. search needs) (λ c. search needs) (λ c. search needs) returns-5)
+    (tie.spec (λ c κs. search needs) (λ c κs. search needs) (λ c. search needs) returns (λ c. search needs)
+    (λ c κs. search needs) (λ c. search needs) returns-2)

@@ -80,7 +80,7 @@ fn is_of_other_view(log: &[u32], number: usize, view: u32) -> bool
     log[CERTIFICATE_WORDS * number + VIEW_AT] != view
 }
 
-// Four certificates, one after the other, all of other views. It has one caller, and tests joined by `&` alone, so the compiler inlines it.
+// Whether four certificates, one after the other, are all of other views. It has one caller, so the compiler inlines it.
 fn four_of_other_views(log: &[u32], number: usize, view: u32) -> bool
     requires { ⌜ certificateAt (number + 4) ≤ length (now log) ⌝ }
     ensures { λ r. ⌜ r ≡ fourOk (isOfOtherView (now (log .entry)) view) number ⌝ }
@@ -91,7 +91,8 @@ fn four_of_other_views(log: &[u32], number: usize, view: u32) -> bool
         & is_of_other_view(log, number + 3, view)
 }
 
-// The first of so many certificates that equals this one, or their count. Four of other views are passed at a time.
+// The first of so many certificates that equals this one, or their count. Four of other views are passed at a time, up to
+// the first four with one of its view.
 fn find(log: &[u32], count: u32, c: Certificate) -> u32
     requires { ⌜ certificateAt count ≤ length (now log) ⌝ }
     ensures { λ r. ⌜ r ≡ firstBelow count (isEqual (now (log .entry)) (words (certificateOf c))) ⌝ }
@@ -130,7 +131,7 @@ fn place_for(table: &[u32], log: &[u32], c: Certificate) -> Filed
     Filed::Refused(NO_ROOM)
 }
 
-// Writes a certificate at the log's next place, and counts it.
+// Writes a certificate at the log's next slot, and counts it.
 fn append(table: &mut [u32], log: &mut [u32], c: Certificate)
     requires { ⌜ LogHasRoom (now table) (now log) ⌝ }
     ensures { λ _. ⌜ ((b : List ℕ) → memory (now (table .exit)) (now (log .exit)) b

@@ -202,7 +202,7 @@ struct Stored {
     flag: u32,
 }
 
-// Issues a COMMIT; the block is stored, and the replica signs in no view up to this one again.
+// Issues a COMMIT; the block is stored, and the replica proposes, stores and enters in no view up to this one again.
 fn commit(
     table: &mut [u32],
     log: &mut [u32],
@@ -288,7 +288,7 @@ fn flag_in(r: Replica, view: u32) -> u32
     if r.min_view < view { LOWERED } else { r.flag }
 }
 
-// Issues a NEWVIEW; the replica signs in no earlier view again.
+// Issues a NEWVIEW; the replica proposes, stores and enters in no earlier view again.
 fn enter(
     table: &mut [u32],
     log: &mut [u32],

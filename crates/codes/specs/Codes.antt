@@ -34,8 +34,8 @@ claimedWord m (number ∷ rest) k = cond (isIssued m number) (certificateWord m 
 unfoldable pub when : Bool → Call → Coded
 when t call = cond t (Of call) Unreadable
 
--- "Codes: 0 open (f as box), 1 block, 2 prepare on ACC (block as number, ACC as the one list field), 3 prepare on commits, 4 store, 5 view, 6
--- accumulate, 7 decide, 8 reboot, 9 reserve, 10 request, 11 reply, 12 recover."
+-- "Codes: 0 open (f as box), 1 block, 2 prepare on ACC (block as number, ACC as the one list field), 3 prepare on commits, 4 store, 5 view,
+-- 6 accumulate, 7 decide, 8 reboot, 9 reserve, 10 request, 11 reply, 12 recover."
 unfoldable pub codeTable : Memory → ℕ → ℕ → List ℕ → List Coded
 codeTable m replica number list =
     when (isPlain number list) (Open replica)  -- 0

@@ -54,11 +54,11 @@ fn claimed_word(table: &[u32], log: &[u32], list: &[u32], at: usize) -> u32
     if table[layout::CERTIFICATE_COUNT_AT] <= number {
         return 0;
     }
-    let place = layout::certificate_at(number) + at;
-    if log.len() <= place {
+    let index = layout::certificate_at(number) + at;
+    if log.len() <= index {
         return 0;
     }
-    log[place]
+    log[index]
 }
 
 // The call of a code.

@@ -65,10 +65,10 @@ fn write_blanks(bytes: &mut [u8])
     bytes[7] = BLANK;
 }
 
-// The field of a number that has one: blanks, then the digits over them from the last column on. Most numbers have one digit.
+// The field of a number that has one: blanks, then the digits over them from the last column on. Most numbers of an answer have one digit.
 pub fn write_columns(number: u32, bytes: &mut [u8])
     requires { ⌜ Writable number (now bytes) ⌝ }
-    ensures { λ r. ⌜ now (bytes .exit) ≡ fieldOf number ⌝ }
+    ensures { λ _. ⌜ now (bytes .exit) ≡ fieldOf number ⌝ }
 {
     write_blanks(bytes);
     if number < 10 {

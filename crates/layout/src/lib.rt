@@ -120,7 +120,7 @@ pub fn block_at(block: u32) -> usize
     block as usize
 }
 
-// A word of a replica, by its place in the row.
+// A word of a replica, by its index in the row.
 pub fn replica_word(table: &[u32], replica: u32, at: usize) -> u32
     requires { ⌜ rowAt replica + at < length (now table) ⌝ }
     ensures { λ r. ⌜ r ≡ getD (now (table .entry)) (rowAt replica + at) 0 ⌝ }
@@ -135,7 +135,7 @@ pub fn set_replica_word(table: &mut [u32], replica: u32, at: usize, value: u32)
     table[row_at(replica) + at] = value;
 }
 
-// A word of a certificate, by its place in it.
+// A word of a certificate, by its index in it.
 pub fn certificate_word(log: &[u32], number: u32, at: usize) -> u32
     requires { ⌜ certificateAt number + at < length (now log) ⌝ }
     ensures { λ r. ⌜ r ≡ getD (now (log .entry)) (certificateAt number + at) 0 ⌝ }

@@ -15,7 +15,7 @@ PanelShowsHistory =
     (m : Memory) (f : ℕ) (list : List ℕ) (calls : List Invocation) → Life m f list calls → (i : ℕ) → i < replicaCount f
     → panelAnswer (endOf m f list calls) i ≡ record { number = 0; first = panel (eventsOf m f list calls) i; second = 0 }
 
--- "no panel's height falls": more calls, up to the next accepted opening, leave every panel as high as it was or higher. Of a number
+-- No panel's height falls: more calls, up to the next accepted opening, leave every panel as high as it was or higher. Of a number
 -- that is no replica's the panel is refused, with 0 for a height, all along.
 unfoldable pub PanelNeverFalls : Type 0
 PanelNeverFalls =

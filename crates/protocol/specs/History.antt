@@ -1,5 +1,5 @@
 -- What the calls of a list and their answers tell (document 01, "Whole lists of calls"): the parents given, the decisions named, the
--- panels. Nothing here reads a word of the memory.
+-- panels. Events are told from calls and answers, never from a word of the memory.
 use Prim.Native.Nat.{ℕ}
 use mathlib.Core.Bool.{cond}
 use mathlib.Core.List.{List, [], _∷_}
@@ -13,7 +13,7 @@ use Rattle.protocol.specs.Ancestry.{heightBy}
 use Rattle.protocol.specs.Runs.{Invocation, step}
 
 -- What a call is to the history: an accepted Open, an accepted Block with the number it returned and the parent it was given, an accepted
--- Decide with the block and the view it returned, or anything else, every refused call included.
+-- Decide with its replica and the block and the view it returned, or anything else, every refused call included.
 pub data Event : Type 0 where
   reopened : Event
   added : ℕ → ℕ → Event

@@ -31,8 +31,8 @@ pub record Refused (m : Memory) (rule : Rule) (o : Outcome) : Type 0 where
 
 unfoldable pub RefusedChangesNothing : Type 0
 RefusedChangesNothing =
-    (m : Memory) (call : Call) (list : List ℕ) → (Accepted (step m call list)
-    → ⊥) → Refused m (ruleOf m call list) (step m call list)
+    (m : Memory) (call : Call) (list : List ℕ) → (Accepted (step m call list) → ⊥)
+    → Refused m (ruleOf m call list) (step m call list)
 
 -- ---- An accepted call leaves well-formed memory, opening from any earlier contents too.
 

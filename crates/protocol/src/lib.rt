@@ -7,7 +7,7 @@ pub struct Answer {
     pub second: u32,
 }
 
-// The numbers that are not 0, as document 01's table "Calls" has them. They have the names of specs/Outcome.antt, in upper case.
+// The numbers that are not 0, as the table under "Calls" in document 01 has them. They have the names of specs/Outcome.antt, in upper case.
 pub const WRONG_FORM: u32 = 1;
 
 pub const OUT_OF_RANGE: u32 = 2;
@@ -44,7 +44,7 @@ pub enum Call {
     Open(u32),
     // the parent
     Block(u32),
-    // replica, block
+    // replica, block, what lets it propose
     Prepare(u32, u32, Justification),
     // replica, the number of a PROP
     Store(u32, u32),

@@ -3,7 +3,16 @@ ghost use mathlib.Core.Path.{_≡_};
 ghost use mathlib.Core.List.{[]};
 ghost use Prim.Native.Nat.{_+_, _≤_};
 ghost use lib.ListN.{length};
-ghost use Rattle.protocol.specs.Memory.{memory, rowAt, replicaWords, replica as replicaAt, certificateAt, certificateWords, certificate, assign};
+ghost use Rattle.protocol.specs.Memory.{
+  memory,
+  rowAt,
+  replicaWords,
+  replica as replicaAt,
+  certificateAt,
+  certificateWords,
+  certificate,
+  assign,
+};
 ghost use Rattle.certificates.specs.Filing.{certificateOf};
 ghost use Rattle.records.specs.Replicas.{replicaOf, started};
 use certificates::Certificate;

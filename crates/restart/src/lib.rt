@@ -24,7 +24,7 @@ fn retires(r: Replica, boot: u32, limit: u32) -> bool
     (r.status == RETIRED) | (CEILING < boot) | (CEILING < limit)
 }
 
-// A power cut: the replica starts again above every view in which it can have signed, or is retired.
+// A power cut: the replica starts again above every view in which it can have proposed, stored or entered, or is retired.
 pub fn reboot(table: &mut [u32], log: &mut [u32], blocks: &mut [u32], replica: u32) -> Answer
     ensures { λ r. ⌜ left r (now (table .exit)) (now (log .exit)) (now (blocks .exit))
         ≡ outcomeBy (λ m. rebootRule m replica) (now (table .entry)) (now (log .entry)) (now (blocks .entry)) ⌝ }

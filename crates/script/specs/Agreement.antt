@@ -13,7 +13,7 @@ use Rattle.protocol.specs.Agreement.{Agreed, Life, eventsOf, endOf}
 use Rattle.script.specs.Lines.{fieldCount, numbers}
 use Rattle.script.specs.Session.{Session, lent, codeIn, replicaIn, numberIn, listIn, openCode, answerLine}
 
--- ---- What lines and their answers tell. Nothing here reads a word of the memory.
+-- ---- What lines and their answers tell. Events are told from lines and answers, never from a word of the memory.
 
 -- The numbers of a line.
 abbrev pub numbersIn : List ℕ → List ℕ
@@ -61,7 +61,7 @@ toldAfter s opening lines = lineHistory [] (answerLine s opening .session) lines
 
 -- "The list starts from the memory that an accepted Open leaves, for each f, all fitting lengths and any earlier contents. Each call in
 -- it is one of the other eleven or a refused Open": an opening answered with 0, on any session, and lines after it, unreadable ones too,
--- of which none is an opening answered with 0.
+-- of which none is an opening answered with 0. (A line without numbers has code 0 here too, but is answered with 10.)
 pub record OpenedOnce (s : Session) (opening : List ℕ) (lines : List (List ℕ)) : Type 0 where
   pub opens : codeIn (numbersIn opening) ≡ openCode
   pub accepted : answerLine s opening .answer .number ≡ 0
@@ -78,8 +78,8 @@ ScriptsAgree = (s : Session) (opening : List ℕ) (lines : List (List ℕ)) → 
 abbrev pub ledgerOf : Session → Memory
 ledgerOf s = lent (s .faultBound) (s .memory)
 
--- Calls after the same opening, of this f and with this list beside it, that tell what the lines tell and leave what they leave. There is
--- one for each line: its own call; or an opening of f = 0, which is refused, for a line that makes none or is a refused opening.
+-- Calls after the same opening, of this f and with this list beside it, that tell what the lines tell and leave what they leave. (The proof
+-- takes for each line its own call, or an opening of f = 0, which is refused, where the line makes none or is a refused opening.)
 pub record LifeOf (s : Session) (opening : List ℕ) (lines : List (List ℕ)) (f : ℕ) (list : List ℕ) : Type 0 where
   pub calls : List Invocation
   pub life : Life (lent f (s .memory)) f list calls

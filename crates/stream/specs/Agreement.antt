@@ -29,7 +29,8 @@ shownHistory past (line ∷ lines) (text ∷ texts) = shownHistory (lineEvent li
 abbrev pub toldWithin : List ℕ → ℕ → ℕ → List Event
 toldWithin bytes i n = shownHistory [] (take n (drop (suc i) (linesRead bytes))) (take n (drop (suc i) (linesOf (output bytes))))
 
--- The line at index i is an opening, the output shows 0 for it, and shows 0 for no opening among the n lines after it.
+-- The line at index i is an opening, the output shows 0 for it, and shows 0 for no opening among the n lines after it. (A line without
+-- numbers has code 0 here too, but the output shows 10 for it; past the last line it shows nothing.)
 pub record OpenedAt (bytes : List ℕ) (i n : ℕ) : Type 0 where
   pub opens : codeIn (numbersIn (getD (linesRead bytes) i [])) ≡ openCode
   pub accepted : answerShown (getD (linesOf (output bytes)) i []) .number ≡ 0

@@ -53,6 +53,7 @@ unfoldable pub WorkedScript : Type 0
 WorkedScript = output (textOf workedInput) ≡ textOf workedOutput
 
 -- What the ten lines after its opening tell, the newest first: block 1 came on block 0, and replica 0 decided block 1 in view 1.
+-- So `ProgramAgrees` speaks of this decision, at index 0 with 10 lines.
 unfoldable pub WorkedScriptTells : Type 0
 WorkedScriptTells =
     toldWithin (textOf workedInput) 0 10

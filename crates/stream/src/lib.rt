@@ -51,7 +51,7 @@ fn has_feed(chunk: &[u8], at: usize) -> bool
         | (chunk[at + 15] == LINE_FEED)
 }
 
-// The place of the first line feed from a place on, or the chunk's length.
+// The index of the first line feed from an index on, or the chunk's length.
 fn line_end(chunk: &[u8], from: usize) -> usize
     requires { ⌜ from ≤ length (now chunk) ⌝ }
     ensures { λ r. ⌜ r ≡ from + feedFrom (drop from (now (chunk .entry))) ⌝ }
@@ -120,7 +120,7 @@ fn answer(
     }
 }
 
-// Answers the line that ends at a place of a chunk: straight from the chunk, where nothing of it is held.
+// Answers the line that ends at an index of a chunk: straight from the chunk, where nothing of it is held.
 fn answer_from(
     table: &mut [u32],
     log: &mut [u32],

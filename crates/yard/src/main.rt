@@ -99,8 +99,8 @@ fn starts(
     requires { ⌜ streamOf p (now table) (now log) (now blocks) (now line) [] ≡ newStream ⌝ }
 {}
 
-// Reads, answers and writes, until the input ends, line 99,999,999 is answered, or a read or a write fails. A proved loop ends: it counts its
-// turns, from a number that no run uses up.
+// Reads, answers and writes, until the input ends, line 99,999,999 is answered, or a read or a write fails. A proved loop ends: it counts
+// its turns, from a number that no run uses up.
 fn main() {
     let mut table = [0u32; TABLE_WORDS];
     let mut log = [0u32; LOG_WORDS];

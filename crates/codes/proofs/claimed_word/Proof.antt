@@ -15,8 +15,8 @@ returns-2 c = no-count _ _ _ (c .if2 .taken)
 returns-3 : tie.Need-returns-3
 returns-3 c = not-issued _ _ _ (omega (tests, c .if3 .taken))
 
-add-place : tie.Need-add-place
-add-place c =
+add-index : tie.Need-add-index
+add-index c =
     let at-shared-slice-known4 = c .before .before .before in
     let start = at-shared-slice-known4 .before .before .before .before .before .before in
     omega (arith, c .certificate-at .ensures, at-shared-slice-known4 .shared-slice-known4 .given 0, start .pre)
@@ -36,5 +36,5 @@ returns-5 c =
 pub claimed-word-spec : {M : Type 1} → statement M
 claimed-word-spec =
     tie.close
-    (tie.spec returns returns-2 (λ c. search needs) (λ c. search needs) returns-3 (λ c κs. search needs) add-place returns-4
+    (tie.spec returns returns-2 (λ c. search needs) (λ c. search needs) returns-3 (λ c κs. search needs) add-index returns-4
     (λ c. search needs) (λ c. search needs) returns-5)

@@ -1,4 +1,4 @@
--- One digit over blanks; or, digit by digit, the digits left and the columns written are the number's digits, and before these there are blanks.
+-- One digit over blanks; or the digits left and the columns written are the number's digits, and before these there are blanks.
 use Prim.Native.Nat.{_-_, _≤_}
 use mathlib.Core.Path.{_≡_, sym, _∙_}
 use mathlib.Core.List.{_++_}

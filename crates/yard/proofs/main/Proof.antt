@@ -28,29 +28,42 @@ slice-aggregate-read-chunk : tie.Need-slice-aggregate-read-chunk Inv-loop μ-loo
 slice-aggregate-read-chunk c = sym (c .before .before .loop .inv .1)
 
 slice-aggregate-take-read : tie.Need-slice-aggregate-take-read Inv-loop μ-loop
-slice-aggregate-take-read c = sym (c .before .before .before .before .before .before .before .before .before .before .loop .inv .0)
+slice-aggregate-take-read c =
+    let looped = c .before .before .before .before .before .before .before .before .before .before in
+    sym (looped .loop .inv .0)
 
 slice-aggregate-take-read-2 : tie.Need-slice-aggregate-take-read-2 Inv-loop μ-loop
-slice-aggregate-take-read-2 c = sym (c .before .before .before .before .before .before .before .chunk2 .given)
+slice-aggregate-take-read-2 c =
+    let at-chunk2 = c .before .before .before .before .before .before .before in
+    sym (at-chunk2 .chunk2 .given)
 
 take-read-requires : tie.Need-take-read-requires Inv-loop μ-loop
-take-read-requires c κs = let l = c .before .before .before .before .before .before .before .before .before .before .before .loop in ((l .inv .0, c .before .before .before .before .before .before .before .chunk2 .given), l .inv .2)
+take-read-requires c κs =
+    let at-chunk2 = c .before .before .before .before .before .before .before in
+    let looped = at-chunk2 .before .before .before .before in
+    let l = looped .loop in ((l .inv .0, at-chunk2 .chunk2 .given), l .inv .2)
 
 array-share-prefix-text : tie.Need-array-share-prefix-text Inv-loop μ-loop
-array-share-prefix-text c = omega (arith, c .before .take-read .ensures .1 .pending, c .text2 .given, c .before .before .before .before .before .before .before .before .before .before .before .before .before .loop .inv .0)
+array-share-prefix-text c =
+    let looped = c .before .before .before .before .before .before .before .before .before .before .before .before .before in
+    omega (arith, c .before .take-read .ensures .1 .pending, c .text2 .given, looped .loop .inv .0)
 
 slice-aggregate-write-text : tie.Need-slice-aggregate-write-text Inv-loop μ-loop
 slice-aggregate-write-text c =
+    let looped = c .before .before .before .before .before .before .before .before .before .before .before .before .before .before in
     let o = c .before .before .take-read in
-    sym (length-take-le _ (o .last .1 .1 .1 .1 .0) (omega (arith, o .ensures .1 .pending, c .before .text2 .given, c .before .before .before .before .before .before .before .before .before .before .before .before .before .before .loop .inv .0)))
+    sym (length-take-le _ (o .last .1 .1 .1 .1 .0) (omega (arith, o .ensures .1 .pending, c .before .text2 .given, looped .loop .inv .0)))
 
 loop-less : tie.Need-loop-less Inv-loop μ-loop
 loop-less c = omega arith
 
 loop-again : tie.Need-loop-again Inv-loop μ-loop
 loop-again c =
-    let o = c .before .before .before .before .before .before .before .take-read .ensures in
-    (c .before .before .before .before .before .before .text2 .given, c .before .before .before .before .before .before .before .before .before .before .before .before .before .before .before .chunk2 .given, record { held = o .1 .held; pending = refl })
+    let at-text2 = c .before .before .before .before .before .before in
+    let at-take-read = at-text2 .before in
+    let at-chunk2 = at-take-read .before .before .before .before .before .before .before .before in
+    let o = at-take-read .take-read .ensures in
+    (at-text2 .text2 .given, at-chunk2 .chunk2 .given, record { held = o .1 .held; pending = refl })
 
 pub main-spec : {M : Type 1} → statement M
 main-spec =

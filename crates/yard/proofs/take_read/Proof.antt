@@ -29,17 +29,21 @@ module _ (s : Stream) (chunk : List ℕ) {o : Stream} {n : ℕ} {z got : ℤ} (k
 
 returns : tie.Need-returns
 returns c =
-    let start = c .before .before .before .before .before .before .before .before .before .before .before .before in
-    let count = c .before .before .before .before .before .before .before .before .before .count .ensures in
+    let at-if1 = c .before .before .before .before .before .before .before .before in
+    let at-count = at-if1 .before in
+    let start = at-count .before .before .before in
+    let count = at-count .count .ensures in
     let o = c .before .before .finish .ensures in
-    (ended _ (start .args .chunk .now) (count .1) (toZ-ofZ w64 (start .args .got) (start .fits .got)) (c .before .before .before .before .before .before .before .before .if1 .taken) (o .0), o .1)
+    (ended _ (start .args .chunk .now) (count .1) (toZ-ofZ w64 (start .args .got) (start .fits .got)) (at-if1 .if1 .taken) (o .0), o .1)
 
 returns-2 : tie.Need-returns-2
 returns-2 c =
-    let start = c .before .before .before .before .before .before .before .before .before .before .before .before .before in
-    let count = c .before .before .before .before .before .before .before .before .before .before .count .ensures in
+    let at-if1 = c .before .before .before .before .before .before .before .before .before in
+    let at-count = at-if1 .before in
+    let start = at-count .before .before .before in
+    let count = at-count .count .ensures in
     let o = c .before .before .feed .ensures in (
-      all-fed _ (start .args .chunk .now) (count .1) (toZ-ofZ w64 (start .args .got) (start .fits .got)) (c .before .before .before .before .before .before .before .before .before .if1 .left) (count .0 .0)
+      all-fed _ (start .args .chunk .now) (count .1) (toZ-ofZ w64 (start .args .got) (start .fits .got)) (at-if1 .if1 .left) (count .0 .0)
           (o .0),
       o .1,
     )

@@ -1,4 +1,4 @@
--- The needs of accumulate but for the last, a place in the log.
+-- The needs of accumulate but for the last, a slot in the log.
 use Prim.Native.Nat.{ℕ}
 use mathlib.Core.List.{List, [], _∷_, _++_}
 use Rattle.protocol.specs.Memory.{Memory, live}

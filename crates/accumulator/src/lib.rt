@@ -28,7 +28,7 @@ use protocol::Answer;
 use protocol::WRONG_CERTIFICATE;
 use protocol::WRONG_STATUS;
 
-// The refusals of accumulate, but for the last: a place in the log.
+// The refusals of accumulate, but for the last: a slot in the log.
 fn accumulate_refusal(table: &[u32], log: &[u32], blocks: &[u32], replica: u32, list: &[u32]) -> u32
     ensures { λ r. ⌜ r ≡ firstRefusal (accumulateNeeds (memory (now (table .entry)) (now (log .entry)) (now (blocks .entry)))
         replica (now (list .entry))) ⌝ }

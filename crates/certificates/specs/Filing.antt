@@ -18,7 +18,7 @@ use Rattle.certificates.specs.declared.Filed.the-variants.{At, Refused}
 abbrev pub countIn : List ℕ → ℕ
 countIn table = getD table certificateCountAt 0
 
--- The facts of the form that filing rests on: the table has the count; the log has whole places, at most 4,096, and no fewer than
+-- The facts of the form that filing rests on: the table has the count; the log has whole slots, at most 4,096, and no fewer than
 -- the count.
 pub record LogFits (table log : List ℕ) : Type 0 where
   pub counted : certificateCountAt < length table
@@ -26,7 +26,7 @@ pub record LogFits (table log : List ℕ) : Type 0 where
   pub small : length log ≤ certificateAt maxCertificates
   pub issued : certificateAt (countIn table) ≤ length log
 
--- The same, with a place free.
+-- The same, with a slot free.
 pub record LogHasRoom (table log : List ℕ) : Type 0 where
   pub fits : LogFits table log
   pub room : certificateAt (countIn table) < length log
@@ -55,9 +55,9 @@ abbrev pub isOfOtherView : List ℕ → ℕ → ℕ → Bool
 isOfOtherView log view number = not (eqb (getD log (certificateAt number + viewAt) 0) view)
 
 -- "A certificate equal in all seven words to an issued one isn't added again: the first such number is returned."
--- The number that a certificate of these words has or gets; the refusal, where none is equal and no place is free.
-unfoldable pub placeFor : Memory → List ℕ → Filed
-placeFor m ws = cond (canFile m ws) (At (numberFor m ws)) (Refused noRoom)
+-- The number that a certificate of these words has or gets; the refusal, where none is equal and no slot is free.
+unfoldable pub slotFor : Memory → List ℕ → Filed
+slotFor m ws = cond (canFile m ws) (At (numberFor m ws)) (Refused noRoom)
 
 -- What filing gives: that, and the memory with the certificate filed, or as before.
 pub record Result : Type 0 where
@@ -68,7 +68,7 @@ abbrev pub leaves : Filed → List ℕ → List ℕ → List ℕ → Result
 leaves r t l b = record { outcome = r; memory = memory t l b }
 
 unfoldable pub filing : Memory → List ℕ → Result
-filing m ws = record { outcome = placeFor m ws; memory = cond (canFile m ws) (file m ws) m }
+filing m ws = record { outcome = slotFor m ws; memory = cond (canFile m ws) (file m ws) m }
 
 -- The number that a refusal holds.
 abbrev pub refusalOf : Filed → ℕ

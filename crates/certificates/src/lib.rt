@@ -13,7 +13,7 @@ ghost use Rattle.certificates.specs.Filing.{
   equalFrom,
   isEqual,
   isOfOtherView,
-  placeFor,
+  slotFor,
   leaves,
   filing,
   refusalOf,
@@ -116,9 +116,9 @@ fn find(log: &[u32], count: u32, c: Certificate) -> u32
 }
 
 // The number that a certificate has in the log or would get, or the refusal.
-fn place_for(table: &[u32], log: &[u32], c: Certificate) -> Filed
+fn slot_for(table: &[u32], log: &[u32], c: Certificate) -> Filed
     requires { ⌜ LogFits (now table) (now log) ⌝ }
-    ensures { λ r. ⌜ ((b : List ℕ) → r ≡ placeFor (memory (now (table .entry)) (now (log .entry)) b) (words (certificateOf c))) ⌝ }
+    ensures { λ r. ⌜ ((b : List ℕ) → r ≡ slotFor (memory (now (table .entry)) (now (log .entry)) b) (words (certificateOf c))) ⌝ }
 {
     let count = table[CERTIFICATE_COUNT_AT];
     let number = find(log, count, c);
@@ -155,13 +155,13 @@ pub fn file(table: &mut [u32], log: &mut [u32], c: Certificate) -> Filed
     ensures { λ r. ⌜ ((b : List ℕ) → leaves r (now (table .exit)) (now (log .exit)) b
         ≡ filing (memory (now (table .entry)) (now (log .entry)) b) (words (certificateOf c))) ⌝ }
 {
-    let place = place_for(table, log, c);
-    let Filed::At(number) = place else {
-        return place;
+    let slot = slot_for(table, log, c);
+    let Filed::At(number) = slot else {
+        return slot;
     };
     if number < table[CERTIFICATE_COUNT_AT] {
-        return place;
+        return slot;
     }
     append(table, log, c);
-    place
+    slot
 }

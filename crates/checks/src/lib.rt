@@ -47,8 +47,8 @@ pub fn replica_refusal(table: &[u32], log: &[u32], blocks: &[u32], replica: u32)
 
 // The form (1), the replica (2), then a certificate's number (3).
 pub fn number_refusal(table: &[u32], log: &[u32], blocks: &[u32], replica: u32, number: u32) -> u32
-    ensures { λ r. ⌜ r
-        ≡ firstRefusal (numberNeeds (memory (now (table .entry)) (now (log .entry)) (now (blocks .entry))) replica number) ⌝ }
+    ensures { λ r. ⌜ r ≡ firstRefusal (numberNeeds (memory (now (table .entry)) (now (log .entry)) (now (blocks .entry)))
+        replica number) ⌝ }
 {
     let refusal = replica_refusal(table, log, blocks, replica);
     if refusal != 0 {
@@ -63,8 +63,8 @@ pub fn number_refusal(table: &[u32], log: &[u32], blocks: &[u32], replica: u32, 
 
 // The form (1), the replica and the length of a list (2), then its numbers (3).
 pub fn list_refusal(table: &[u32], log: &[u32], blocks: &[u32], replica: u32, list: &[u32]) -> u32
-    ensures { λ r. ⌜ r
-        ≡ firstRefusal (listNeeds (memory (now (table .entry)) (now (log .entry)) (now (blocks .entry))) replica (now (list .entry))) ⌝ }
+    ensures { λ r. ⌜ r ≡ firstRefusal (listNeeds (memory (now (table .entry)) (now (log .entry)) (now (blocks .entry)))
+        replica (now (list .entry))) ⌝ }
 {
     let refusal = replica_refusal(table, log, blocks, replica);
     if refusal != 0 {

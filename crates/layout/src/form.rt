@@ -37,7 +37,7 @@ pub fn lengths_fit(table: &[u32], log: &[u32], blocks: &[u32], f: u32) -> bool
         & (blocks.len() <= block_at(MAX_BLOCKS))
 }
 
-// The counts are within the places, and there is a block.
+// The counts are within the slots, and there is a block.
 fn counts_fit(table: &[u32], log: &[u32], blocks: &[u32]) -> bool
     requires { ⌜ rowStart ≤ length (now table) ⌝ }
     ensures { λ r. ⌜ r ≡ countsFit (memory (now (table .entry)) (now (log .entry)) (now (blocks .entry))) ⌝ }

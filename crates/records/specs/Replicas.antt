@@ -20,7 +20,7 @@ replicaOf r =
       decidedBlock = r .«decided_block»;
     }
 
--- By its status, boot, min view and view limit: the flag is lowered, and nothing is stored.
+-- By its status, boot, lowest view and view limit: the flag is lowered, and nothing is stored.
 abbrev pub started : ℕ → ℕ → ℕ → ℕ → List Assignment
 started status boot minView limit =
     statusAt becomes status

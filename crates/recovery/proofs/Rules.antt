@@ -16,7 +16,7 @@ no-rise : (view : ℕ) → raising view view ≡ []
 no-rise view = rw (le-ltb view view (omega arith)) refl
 
 module _ (m : Memory) (i : ℕ) where
-  -- The view that a REQ asks for is the replica's min view.
+  -- The view that a REQ asks for is the replica's lowest view.
   pub requesting : let r = replica m i in
       Issues m (request m i) (replicaNeeds m i) (hasStatus m i recovering else wrongStatus ∷ []) i
       (raising (r .minView) (r .minView)) (reqOf i (r .minView) (r .boot))

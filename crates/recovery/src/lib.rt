@@ -123,7 +123,7 @@ fn reply_to(replica: u32, r: Replica, q: Certificate) -> Certificate
     }
 }
 
-// Another replica tells what it has stored, and signs no more below the view that was asked for.
+// Another replica tells what it has stored, and proposes, stores and enters no more below the view that was asked for.
 pub fn reply(
     table: &mut [u32],
     log: &mut [u32],

@@ -50,9 +50,8 @@ pub const ANSWER_BYTES: usize = 4 * COLUMNS + 1;
 fn read_numbers(line: &[u8], given: &mut [u32]) -> Read
     requires { ⌜ length (now given) ≡ maxFields ⌝ }
     ensures { λ r. ⌜ r ≡ countOf (now (line .entry)) ⌝ }
-    ensures { λ r. ⌜ (hasNumbers (now (line .entry))
-        ≡ true → take (fieldCount (now (line .entry))) (now (given .exit)) ≡ numbers (now (line .entry))
-        (fieldCount (now (line .entry)))) ⌝ }
+    ensures { λ r. ⌜ (hasNumbers (now (line .entry)) ≡ true
+        → take (fieldCount (now (line .entry))) (now (given .exit)) ≡ numbers (now (line .entry)) (fieldCount (now (line .entry)))) ⌝ }
 {
     let count = line.len() / COLUMNS;
     if COLUMNS * count != line.len() {

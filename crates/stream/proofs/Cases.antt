@@ -1,5 +1,12 @@
 -- The worked script, by computation.
-use mathlib.Core.Path.{refl}
+use Prim.Native.Nat.{ℕ}
+use mathlib.Core.Path.{_≡_, refl}
+use mathlib.Core.Bool.{Bool, true, false}
+use mathlib.Core.Logic.{⊎-elim}
+use native.Mathlib.Omega.{arith}
+use mathlib.Core.List.{List, [], _∷_, List·Memᴰ, List·Memᴰ·cases-cons, List·Memᴰ·not-nil}
+use Rattle.protocol.specs.History.{Event, reopened, added, decided, other}
+use Rattle.protocol.proofs.Tests.{and-true}
 use Rattle.protocol.specs.Memory.{update, appendCertificate, appendBlock}
 use Rattle.protocol.specs.Form.{allHold, allBelow, blockFormed, replicaFormed, certificateFormed, lengthsFit, countsFit}
 use Rattle.protocol.specs.Form.{wellFormed}
@@ -21,6 +28,7 @@ use Rattle.script.specs.Agreement.{eventTable, lineEvent}
 use Rattle.stream.specs.Output.{linesFrom, answersTo, output}
 use Rattle.stream.specs.Agreement.{shownHistory}
 use Rattle.stream.specs.Cases.{lineOf, textOf, workedInput, workedOutput, WorkedScript, WorkedScriptTells}
+use Rattle.stream.specs.Cases.{WorkedScriptOpens}
 
 pub worked-script : WorkedScript
 unfolding update appendCertificate appendBlock allHold allBelow blockFormed replicaFormed certificateFormed lengthsFit
@@ -36,3 +44,26 @@ pub worked-script-tells : WorkedScriptTells
 unfolding leastFrom digitCount digits fieldOf continued unpadded justified readField numbers linesFrom lineOf textOf workedInput
     workedOutput WorkedScript eventTable lineEvent shownHistory WorkedScriptTells
 worked-script-tells = rw worked-script refl
+
+abbrev goesOn : Event → Bool
+goesOn reopened = false
+goesOn (added number parent) = true
+goesOn (decided i b v) = true
+goesOn other = true
+
+not-reopened : (events : List Event) → every goesOn events ≡ true → List·Memᴰ reopened events → ⊥
+unfolding every
+not-reopened [] e w = List·Memᴰ·not-nil w
+not-reopened (x ∷ events) e w =
+    let both = and-true (goesOn x) (every goesOn events) e in
+    ⊎-elim (λ q. let f = rw (← q) at (both .0) in let z : _≡_ {A = ℕ} 0 1 = cc in omega arith) (not-reopened events (both .1)) (List·Memᴰ·cases-cons w)
+
+pub worked-script-opens : WorkedScriptOpens
+unfolding leastFrom digitCount digits fieldOf continued unpadded justified readField numbers linesFrom lineOf textOf workedInput
+    workedOutput WorkedScript every WorkedScriptTells WorkedScriptOpens
+worked-script-opens =
+    record {
+      opens = refl;
+      accepted = rw worked-script refl;
+      once = λ w. not-reopened _ refl (rw worked-script-tells at w);
+    }

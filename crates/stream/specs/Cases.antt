@@ -6,7 +6,7 @@ use Rattle.protocol.specs.History.{added, decided, other}
 use Rattle.field.specs.Field.{fieldOf}
 use Rattle.script.specs.Text.{lineFeed}
 use Rattle.stream.specs.Output.{output}
-use Rattle.stream.specs.Agreement.{toldWithin}
+use Rattle.stream.specs.Agreement.{toldWithin, OpenedAt}
 
 -- The fields of a line, and its line feed.
 unfoldable pub lineOf : List ℕ → List ℕ
@@ -53,8 +53,11 @@ unfoldable pub WorkedScript : Type 0
 WorkedScript = output (textOf workedInput) ≡ textOf workedOutput
 
 -- What the ten lines after its opening tell, the newest first: block 1 came on block 0, and replica 0 decided block 1 in view 1.
--- So `ProgramAgrees` speaks of this decision, at index 0 with 10 lines.
 unfoldable pub WorkedScriptTells : Type 0
 WorkedScriptTells =
     toldWithin (textOf workedInput) 0 10
     ≡ decided 0 1 1 ∷ other ∷ other ∷ other ∷ other ∷ other ∷ added 1 0 ∷ other ∷ other ∷ other ∷ []
+
+-- Its first line is the opening, and none of the ten is another: so `ProgramAgrees` speaks of this decision.
+unfoldable pub WorkedScriptOpens : Type 0
+WorkedScriptOpens = OpenedAt (textOf workedInput) 0 10

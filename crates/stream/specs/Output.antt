@@ -30,15 +30,15 @@ abbrev pub maxLines : ℕ
 maxLines = 99999999
 
 -- "with 2,048 certificate and 1,024 block places"
-abbrev pub certificatePlaces : ℕ
-certificatePlaces = 2048
+abbrev pub certificateSlots : ℕ
+certificateSlots = 2048
 
-abbrev pub blockPlaces : ℕ
-blockPlaces = 1024
+abbrev pub blockSlots : ℕ
+blockSlots = 1024
 
 -- Nothing is opened yet.
 abbrev pub newSession : Session
-newSession = session 0 (replicate maxTable 0) (replicate (certificateAt certificatePlaces) 0) (replicate (blockAt blockPlaces) 0)
+newSession = session 0 (replicate maxTable 0) (replicate (certificateAt certificateSlots) 0) (replicate (blockAt blockSlots) 0)
 
 -- "yard" reads these bytes and writes this text.
 unfoldable pub output : List ℕ → List ℕ

@@ -19,7 +19,7 @@ const CHUNK_BYTES: usize = 8192;
 
 const TEXT_BYTES: usize = script::ANSWER_BYTES * CHUNK_BYTES;
 
-// The replicas of the largest f, and the places for certificates and blocks.
+// The replicas of the largest f, and the slots for certificates and blocks.
 const REPLICAS: usize = 61;
 
 const CERTIFICATES: usize = 2048;

@@ -2,17 +2,17 @@
 use mathlib.Core.Path.{sym, _∙_}
 use mathlib.Core.List.{[]}
 use borrow.Author.Needs.{needs}
-use Rattle.certificates.proofs.Places.{found-there, appended, room-for, no-place}
+use Rattle.certificates.proofs.Slots.{found-there, appended, room-for, no-slot}
 use Rattle.certificates.proofs.file.Statement.{statement}
 use Rattle.certificates.proofs.file.Tie as tie
 
 returns : tie.Need-returns
-returns c b = no-place _ _ _ _ (c .before .before .place-for .ensures b) (c .enum-told .given .1)
+returns c b = no-slot _ _ _ _ (c .before .before .slot-for .ensures b) (c .enum-told .given .1)
 
 returns-2 : tie.Need-returns-2
 returns-2 c b =
     let matched = c .before .before .before in
-    found-there _ _ _ (sym (matched .place .given .1) ∙ matched .before .before .place-for .ensures b) (c .if1 .taken)
+    found-there _ _ _ (sym (matched .slot .given .1) ∙ matched .before .before .slot-for .ensures b) (c .if1 .taken)
 
 append-requires : tie.Need-append-requires
 append-requires c κs =
@@ -21,7 +21,7 @@ append-requires c κs =
     let start = matched .before .before .before .before .before .before .before in
     record {
       fits = start .pre;
-      room = room-for _ _ _ (sym (matched .place .given .1) ∙ matched .before .before .place-for .ensures []) (tested .if1 .left);
+      room = room-for _ _ _ (sym (matched .slot .given .1) ∙ matched .before .before .slot-for .ensures []) (tested .if1 .left);
     }
 
 returns-3 : tie.Need-returns-3
@@ -29,7 +29,7 @@ returns-3 c b =
     let added = c .before .before .before .before in
     let tested = added .before .before .before in
     let matched = tested .before .before .before in
-    appended _ _ _ (sym (matched .place .given .1) ∙ matched .before .before .place-for .ensures b) (tested .if1 .left)
+    appended _ _ _ (sym (matched .slot .given .1) ∙ matched .before .before .slot-for .ensures b) (tested .if1 .left)
     (added .append .ensures b)
 
 pub file-spec : {M : Type 1} → statement M

@@ -1,4 +1,4 @@
--- Where a certificate is placed, and what filing it leaves.
+-- The slot of a certificate, and what filing it leaves.
 use Prim.Native.Nat.{ℕ, suc, _+_, _≤_, _<_}
 use mathlib.Core.Path.{_≡_, refl, sym, _∙_}
 use mathlib.Core.Bool.{true, false}
@@ -13,7 +13,7 @@ use Rattle.protocol.specs.Outcome.{noRoom}
 use Rattle.protocol.proofs.Tests.{tests, by-test}
 use Rattle.certificates.specs.declared.Filed.{Filed}
 use Rattle.certificates.specs.declared.Filed.the-variants.{At, Refused}
-use Rattle.certificates.specs.Filing.{countIn, equalFrom, isEqual, placeFor, filing}
+use Rattle.certificates.specs.Filing.{countIn, equalFrom, isEqual, slotFor, filing}
 
 -- ---- the place, from the number that the search gives
 
@@ -22,22 +22,22 @@ module _ (t l ws : List ℕ) (n : ℕ) (e : n ≡ firstBelow (countIn t) (isEqua
   unfolding numberFor hasWords equalFrom
   searched = sym e
 
-  pub place-old : n < countIn t → At n ≡ placeFor (memory t l b) ws
-  unfolding placeFor canFile isFiled
-  place-old h = let q : ltb n (countIn t) ≡ true = omega tests in rw (searched, q)
+  pub slot-old : n < countIn t → At n ≡ slotFor (memory t l b) ws
+  unfolding slotFor canFile isFiled
+  slot-old h = let q : ltb n (countIn t) ≡ true = omega tests in rw (searched, q)
 
-  pub place-new : countIn t ≤ n → certificateAt (countIn t) < length l
-      → At n ≡ placeFor (memory t l b) ws
-  unfolding placeFor canFile isFiled
-  place-new h r =
+  pub slot-new : countIn t ≤ n → certificateAt (countIn t) < length l
+      → At n ≡ slotFor (memory t l b) ws
+  unfolding slotFor canFile isFiled
+  slot-new h r =
       let q : ltb n (countIn t) ≡ false = omega tests in
       let room : logHasRoom (memory t l b) ≡ true = omega tests in
       rw (searched, q, room)
 
-  pub place-none : countIn t ≤ n → length l ≤ certificateAt (countIn t)
-      → Refused noRoom ≡ placeFor (memory t l b) ws
-  unfolding placeFor canFile isFiled
-  place-none h r =
+  pub slot-none : countIn t ≤ n → length l ≤ certificateAt (countIn t)
+      → Refused noRoom ≡ slotFor (memory t l b) ws
+  unfolding slotFor canFile isFiled
+  slot-none h r =
       let q : ltb n (countIn t) ≡ false = omega tests in
       let full : logHasRoom (memory t l b) ≡ false = omega tests in
       rw (searched, q, full)
@@ -45,8 +45,8 @@ module _ (t l ws : List ℕ) (n : ℕ) (e : n ≡ firstBelow (countIn t) (isEqua
 -- ---- what filing leaves, from the place
 
 module _ (m : Memory) (ws : List ℕ) where
-  pub placed : (number : ℕ) → At number ≡ placeFor m ws → (canFile m ws ≡ true) × (numberFor m ws ≡ number)
-  unfolding placeFor
+  pub placed : (number : ℕ) → At number ≡ slotFor m ws → (canFile m ws ≡ true) × (numberFor m ws ≡ number)
+  unfolding slotFor
   placed number e =
       by-test (canFile m ws) (λ can. (can, let q : At number ≡ At (numberFor m ws) = (rw can at e) in cc))
       (λ can.
@@ -54,8 +54,8 @@ module _ (m : Memory) (ws : List ℕ) where
       let z : _≡_ {A = ℕ} 0 1 = cc in
       absurd (omega arith))
 
-  pub not-placed : (n : ℕ) → Refused n ≡ placeFor m ws → (canFile m ws ≡ false) × (n ≡ noRoom)
-  unfolding placeFor
+  pub not-placed : (n : ℕ) → Refused n ≡ slotFor m ws → (canFile m ws ≡ false) × (n ≡ noRoom)
+  unfolding slotFor
   not-placed n e =
       by-test (canFile m ws)
       (λ can.
@@ -64,7 +64,7 @@ module _ (m : Memory) (ws : List ℕ) where
       absurd (omega arith))
       (λ can. (can, let q : Refused n ≡ Refused noRoom = (rw can at e) in cc))
 
-  pub found-there : (number : ℕ) → At number ≡ placeFor m ws → number < certificateCount m
+  pub found-there : (number : ℕ) → At number ≡ slotFor m ws → number < certificateCount m
       → record { outcome = At number; memory = m } ≡ filing m ws
   unfolding filing file isFiled
   found-there number e h =
@@ -72,7 +72,7 @@ module _ (m : Memory) (ws : List ℕ) where
       let q : ltb number (certificateCount m) ≡ true = omega tests in
       rw (← e, p .0, p .1, q)
 
-  pub appended : (number : ℕ) {m′ : Memory} → At number ≡ placeFor m ws → certificateCount m ≤ number
+  pub appended : (number : ℕ) {m′ : Memory} → At number ≡ slotFor m ws → certificateCount m ≤ number
       → m′ ≡ appendCertificate m ws → record { outcome = At number; memory = m′ } ≡ filing m ws
   unfolding filing file isFiled
   appended number e h after =
@@ -80,7 +80,7 @@ module _ (m : Memory) (ws : List ℕ) where
       let q : ltb number (certificateCount m) ≡ false = omega tests in
       rw (after, ← e, p .0, p .1, q)
 
-  pub room-for : (number : ℕ) → At number ≡ placeFor m ws → certificateCount m ≤ number
+  pub room-for : (number : ℕ) → At number ≡ slotFor m ws → certificateCount m ≤ number
       → certificateAt (certificateCount m) < length (m .log)
   unfolding canFile isFiled
   room-for number e h =
@@ -89,9 +89,9 @@ module _ (m : Memory) (ws : List ℕ) where
       let can = rw (p .1, q) at (p .0) in
       omega tests
 
-  pub no-place : (r : Filed) (n : ℕ) → r ≡ placeFor m ws → r ≡ Refused n → record { outcome = r; memory = m } ≡ filing m ws
+  pub no-slot : (r : Filed) (n : ℕ) → r ≡ slotFor m ws → r ≡ Refused n → record { outcome = r; memory = m } ≡ filing m ws
   unfolding filing
-  no-place r n e f = let p = not-placed n (sym f ∙ e) in rw (← e, p .0)
+  no-slot r n e f = let p = not-placed n (sym f ∙ e) in rw (← e, p .0)
 
 -- ---- seven words, written one after the other
 

@@ -56,7 +56,8 @@ unfolding every
 not-reopened [] e w = List·Memᴰ·not-nil w
 not-reopened (x ∷ events) e w =
     let both = and-true (goesOn x) (every goesOn events) e in
-    ⊎-elim (λ q. let f = rw (← q) at (both .0) in let z : _≡_ {A = ℕ} 0 1 = cc in omega arith) (not-reopened events (both .1)) (List·Memᴰ·cases-cons w)
+    ⊎-elim (λ q. let f = rw (← q) at (both .0) in let z : _≡_ {A = ℕ} 0 1 = cc in omega arith)
+    (not-reopened events (both .1)) (List·Memᴰ·cases-cons w)
 
 pub worked-script-opens : WorkedScriptOpens
 unfolding leastFrom digitCount digits fieldOf continued unpadded justified readField numbers linesFrom lineOf textOf workedInput

@@ -6,7 +6,7 @@ ghost use Prim.Native.Nat.{_+_, _≤_};
 ghost use lib.ListN.{length, getD};
 ghost use lib.Dec.{ltb};
 ghost use Rattle.protocol.specs.Memory.{memory, _becomes_, rowAt, replicaWords, decidedViewAt, decidedBlockAt, assign};
-ghost use Rattle.protocol.specs.Outcome.{firstRefusal, left, outcomeBy};
+ghost use Rattle.protocol.specs.Outcome.{firstRefusal, outcome, outcomeBy};
 ghost use Rattle.accumulator.specs.Needs.{accumulateNeeds};
 ghost use Rattle.protocol.specs.Calls.{accumulate as accumulateRule, decide as decideRule};
 use certificates::Certificate;
@@ -55,7 +55,7 @@ pub fn accumulate(
     replica: u32,
     list: &[u32],
 ) -> Answer
-    ensures { λ r. ⌜ left r (now (table .exit)) (now (log .exit)) (now (blocks .exit))
+    ensures { λ r. ⌜ outcome r (now (table .exit)) (now (log .exit)) (now (blocks .exit))
         ≡ outcomeBy (λ m. accumulateRule m replica (now (list .entry))) (now (table .entry)) (now (log .entry)) (now (blocks .entry)) ⌝ }
 {
     let refusal = accumulate_refusal(table, log, blocks, replica, list);
@@ -119,7 +119,7 @@ pub fn decide(
     replica: u32,
     list: &[u32],
 ) -> Answer
-    ensures { λ r. ⌜ left r (now (table .exit)) (now (log .exit)) (now (blocks .exit))
+    ensures { λ r. ⌜ outcome r (now (table .exit)) (now (log .exit)) (now (blocks .exit))
         ≡ outcomeBy (λ m. decideRule m replica (now (list .entry))) (now (table .entry)) (now (log .entry)) (now (blocks .entry)) ⌝ }
 {
     let refusal = decide_refusal(table, log, blocks, replica, list);

@@ -4,26 +4,26 @@ use mathlib.Core.Path.{_≡_, refl, sym}
 use mathlib.Core.Bool.{false, or-false}
 use native.Mathlib.Omega.{arith}
 use lib.Dec.{eqb}
-use Rattle.protocol.specs.Ancestry.{inLine, Falls, isAncestorBy, stepsToRoot, heightBy}
-use Rattle.protocol.proofs.Tests.{tests, by-test, by-cond}
+use Rattle.protocol.specs.Ancestry.{ancestorWithin, Falls, isAncestorBy, stepsToRoot, heightBy}
+use Rattle.protocol.proofs.Booleans.{tests, by-test, by-cond}
 
 module _ (p : ℕ → ℕ) (count : ℕ) (falls : Falls p count) (a : ℕ) where
   -- A block that is not above a has a in its line only if it is a.
-  pub line-ends : (steps b : ℕ) → b < count → b ≤ a → inLine p steps a b ≡ eqb a b
-  unfolding inLine
-  line-ends zero b l h = refl
-  line-ends (suc steps) b l h =
+  pub walk-ends : (steps b : ℕ) → b < count → b ≤ a → ancestorWithin p steps a b ≡ eqb a b
+  unfolding ancestorWithin
+  walk-ends zero b l h = refl
+  walk-ends (suc steps) b l h =
       by-test (eqb b 0) (λ e. rw e (or-false (eqb a b)))
       (λ e.
       let lower = falls b l (omega tests) in
       let other : eqb a (p b) ≡ false = omega tests in
-      rw (e, line-ends steps (p b) (omega arith) (omega arith), other) (or-false (eqb a b)))
+      rw (e, walk-ends steps (p b) (omega arith) (omega arith), other) (or-false (eqb a b)))
 
   -- Steps that reach block 0 are enough: more change nothing.
-  more-steps : (s t b : ℕ) → b < count → b ≤ s → b ≤ t → inLine p s a b ≡ inLine p t a b
-  unfolding inLine
-  more-steps zero t b l x y = sym (line-ends t b l (omega arith))
-  more-steps (suc s) zero b l x y = line-ends (suc s) b l (omega arith)
+  more-steps : (s t b : ℕ) → b < count → b ≤ s → b ≤ t → ancestorWithin p s a b ≡ ancestorWithin p t a b
+  unfolding ancestorWithin
+  more-steps zero t b l x y = sym (walk-ends t b l (omega arith))
+  more-steps (suc s) zero b l x y = walk-ends (suc s) b l (omega arith)
   more-steps (suc s) (suc t) b l x y =
       by-test (eqb b 0) (λ e. rw e refl)
       (λ e.
@@ -31,10 +31,10 @@ module _ (p : ℕ → ℕ) (count : ℕ) (falls : Falls p count) (a : ℕ) where
       rw (e, more-steps s t (p b) (omega arith) (omega arith) (omega arith)) refl)
 
   -- A block above a has a in its line if its parent has.
-  pub line-goes-on : (b : ℕ) → b < count → a < b → isAncestorBy p a b ≡ isAncestorBy p a (p b)
-  unfolding inLine
-  line-goes-on zero l h = absurd (omega arith)
-  line-goes-on (suc n) l h =
+  pub walk-goes-on : (b : ℕ) → b < count → a < b → isAncestorBy p a b ≡ isAncestorBy p a (p b)
+  unfolding ancestorWithin
+  walk-goes-on zero l h = absurd (omega arith)
+  walk-goes-on (suc n) l h =
       let lower = falls (suc n) l (omega arith) in
       let other : eqb a (suc n) ≡ false = omega tests in
       let above : eqb (suc n) 0 ≡ false = omega tests in

@@ -9,7 +9,7 @@ use lib.Dec.{eqb}
 use borrow.Author.Tests.{not-true}
 use Rattle.protocol.specs.Memory.{words, kindAt, signerAt, viewAt, proposedBlockAt, ofViewAt, subjectAt, subjectBootAt, certificateAt}
 use Rattle.protocol.specs.Form.{allBelow}
-use Rattle.protocol.proofs.Tests.{tests, by-test, at-below}
+use Rattle.protocol.proofs.Booleans.{tests, by-test, at-below}
 use Rattle.certificates.specs.declared.Certificate.{Certificate}
 use Rattle.certificates.specs.Filing.{certificateOf, equalFrom, isEqual, isOfOtherView}
 

@@ -2,7 +2,7 @@
 use native.Mathlib.Omega.{arith}
 use Rattle.protocol.specs.Memory.{Memory}
 use Rattle.protocol.specs.Form.{lengthsFit}
-use Rattle.protocol.proofs.Tests.{tests, each}
+use Rattle.protocol.proofs.Booleans.{tests, each}
 use Rattle.protocol.proofs.Formed.{Formed, sizes}
 use Rattle.certificates.specs.Filing.{LogFits}
 

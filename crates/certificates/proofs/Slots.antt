@@ -10,7 +10,7 @@ use lib.Dec.{ltb}
 use Rattle.protocol.specs.Memory.{Memory, memory, certificateCountAt, certificateCount, certificateAt, appendCertificate}
 use Rattle.protocol.specs.Certificates.{firstBelow, hasWords, numberFor, isFiled, logHasRoom, canFile, file}
 use Rattle.protocol.specs.Outcome.{noRoom}
-use Rattle.protocol.proofs.Tests.{tests, by-test}
+use Rattle.protocol.proofs.Booleans.{tests, by-test}
 use Rattle.certificates.specs.declared.Filed.{Filed}
 use Rattle.certificates.specs.declared.Filed.the-variants.{At, Refused}
 use Rattle.certificates.specs.Filing.{countIn, equalFrom, isEqual, slotFor, filing}

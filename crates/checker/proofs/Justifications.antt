@@ -13,7 +13,7 @@ use Rattle.protocol.specs.Certificates.{ACC}
 use Rattle.protocol.specs.Quorum.{every, isIssued, allIssued, certificatesOf, isCommitQuorum}
 use Rattle.protocol.specs.Outcome.{Need, _else_, firstRefusal, unknownNumber, wrongStatus, wrongCertificate}
 use Rattle.protocol.specs.Calls.{isBlock, numbersOf, isSized, isJustified}
-use Rattle.protocol.proofs.Tests.{tests, by-test, and-true, all-hold}
+use Rattle.protocol.proofs.Booleans.{tests, by-test, and-true, all-hold}
 use Rattle.protocol.proofs.Needs.{all-needs}
 use Rattle.protocol.proofs.Formed.{Formed, formed, sizes}
 use Rattle.layout.proofs.Within.{certificate-bounds}

@@ -11,7 +11,7 @@ use Rattle.protocol.specs.Form.{wellFormed}
 use Rattle.protocol.specs.Quorum.{allIssued, certificatesOf}
 use Rattle.protocol.specs.Outcome.{_else_, wrongForm, outOfRange, unknownNumber}
 use Rattle.protocol.specs.Calls.{isReplica, isBlock, numbersOf, isSized, proposalView, isAhead, prepare, store, view}
-use Rattle.protocol.proofs.Tests.{tests}
+use Rattle.protocol.proofs.Booleans.{tests}
 use Rattle.layout.proofs.Within.{certificate-bounds}
 use Rattle.certificates.proofs.Fits.{log-fits}
 use Rattle.checks.specs.Needs.{replicaNeeds, numberNeeds}

@@ -13,7 +13,7 @@ ghost use Rattle.protocol.specs.Memory.{
   raised,
 };
 ghost use Rattle.protocol.specs.Certificates.{propOf};
-ghost use Rattle.protocol.specs.Outcome.{left, firstRefusal, outcomeBy};
+ghost use Rattle.protocol.specs.Outcome.{outcome, firstRefusal, outcomeBy};
 ghost use Rattle.protocol.specs.Calls.{issuing, prepare as prepareRule, store as storeRule, view as viewRule};
 ghost use Rattle.certificates.specs.Filing.{certificateOf};
 ghost use Rattle.records.specs.Replicas.{replicaOf};
@@ -112,7 +112,7 @@ fn proposal_refusal(
 // Issues a PROP; the replica proposes no other block in this view.
 fn propose(table: &mut [u32], log: &mut [u32], replica: u32, view: u32, block: u32) -> Answer
     requires { ⌜ Issuable (now table) (now log) replica ⌝ }
-    ensures { λ r. ⌜ ((b : List ℕ) → left r (now (table .exit)) (now (log .exit)) b
+    ensures { λ r. ⌜ ((b : List ℕ) → outcome r (now (table .exit)) (now (log .exit)) b
         ≡ outcomeBy (λ m. issuing m [] replica (flagAt becomes raised ∷ []) (propOf replica view block))
         (now (table .entry)) (now (log .entry)) b) ⌝ }
 {
@@ -134,7 +134,7 @@ pub fn prepare(
     justification: Justification,
     list: &[u32],
 ) -> Answer
-    ensures { λ r. ⌜ left r (now (table .exit)) (now (log .exit)) (now (blocks .exit))
+    ensures { λ r. ⌜ outcome r (now (table .exit)) (now (log .exit)) (now (blocks .exit))
         ≡ outcomeBy (λ m. prepareRule m replica block justification (now (list .entry)))
         (now (table .entry)) (now (log .entry)) (now (blocks .entry)) ⌝ }
 {
@@ -211,7 +211,7 @@ fn commit(
     stored: Stored,
 ) -> Answer
     requires { ⌜ Issuable (now table) (now log) replica ⌝ }
-    ensures { λ r. ⌜ ((b : List ℕ) → left r (now (table .exit)) (now (log .exit)) b
+    ensures { λ r. ⌜ ((b : List ℕ) → outcome r (now (table .exit)) (now (log .exit)) b
         ≡ outcomeBy (λ m. issuing m [] replica (storedWords stored) (certificateOf c)) (now (table .entry)) (now (log .entry)) b) ⌝ }
 {
     let filed = certificates::file(table, log, c);
@@ -233,7 +233,7 @@ pub fn store(
     replica: u32,
     number: u32,
 ) -> Answer
-    ensures { λ r. ⌜ left r (now (table .exit)) (now (log .exit)) (now (blocks .exit))
+    ensures { λ r. ⌜ outcome r (now (table .exit)) (now (log .exit)) (now (blocks .exit))
         ≡ outcomeBy (λ m. storeRule m replica number) (now (table .entry)) (now (log .entry)) (now (blocks .entry)) ⌝ }
 {
     let refusal = checks::number_refusal(table, log, blocks, replica, number);
@@ -298,7 +298,7 @@ fn enter(
     c: Certificate,
 ) -> Answer
     requires { ⌜ Issuable (now table) (now log) replica ⌝ }
-    ensures { λ r. ⌜ ((b : List ℕ) → left r (now (table .exit)) (now (log .exit)) b
+    ensures { λ r. ⌜ ((b : List ℕ) → outcome r (now (table .exit)) (now (log .exit)) b
         ≡ outcomeBy (λ m. issuing m [] replica (flagAt becomes flag ∷ minViewAt becomes view ∷ []) (certificateOf c))
         (now (table .entry)) (now (log .entry)) b) ⌝ }
 {
@@ -319,7 +319,7 @@ pub fn view(
     replica: u32,
     view: u32,
 ) -> Answer
-    ensures { λ r. ⌜ left r (now (table .exit)) (now (log .exit)) (now (blocks .exit))
+    ensures { λ r. ⌜ outcome r (now (table .exit)) (now (log .exit)) (now (blocks .exit))
         ≡ outcomeBy (λ m. viewRule m replica view) (now (table .entry)) (now (log .entry)) (now (blocks .entry)) ⌝ }
 {
     let refusal = checks::replica_refusal(table, log, blocks, replica);

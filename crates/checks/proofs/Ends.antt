@@ -8,7 +8,7 @@ use lib.ListN.{length, getD}
 use Rattle.protocol.specs.declared.Answer.{Answer}
 use Rattle.protocol.specs.Memory.{Memory, rowAt, replicaWords, certificateCount, certificateAt, certificateWords}
 use Rattle.protocol.specs.Outcome.{Need, _else_, Rule, firstRefusal, follow}
-use Rattle.protocol.proofs.Tests.{tests}
+use Rattle.protocol.proofs.Booleans.{tests}
 use Rattle.protocol.proofs.Needs as Needs
 use Rattle.protocol.proofs.Needs.{fails, holds}
 use Rattle.protocol.proofs.Formed.{Sizes}

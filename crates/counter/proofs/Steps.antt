@@ -9,7 +9,7 @@ use lib.Dec.{leb}
 use Rattle.protocol.specs.Memory.{Memory}
 use Rattle.protocol.specs.Form.{allHold, allBelow}
 use Rattle.protocol.specs.Counter.{counterSteps, lastStepAt, counterStep}
-use Rattle.protocol.proofs.Tests.{tests, each, at-below}
+use Rattle.protocol.proofs.Booleans.{tests, each, at-below}
 
 -- What a caller needs: a step moves the limit, and by at most 1,024.
 pub record StepBounds (m : Memory) (boot : ℕ) : Type 0 where

@@ -9,7 +9,7 @@ use lib.Dec.{ltb, leb}
 use Rattle.field.specs.Digits.{leastFrom, digitCount}
 use Rattle.field.specs.Field.{columns, maxNumber}
 use Rattle.field.specs.Theorems.{CountIsLeast}
-use Rattle.field.proofs.Tests.{tests, by-test}
+use Rattle.field.proofs.Booleans.{tests, by-test}
 
 module _ (n : ℕ) where
   from-start : (steps k : ℕ) → k ≤ leastFrom steps k n

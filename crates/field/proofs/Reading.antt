@@ -12,7 +12,7 @@ use lib.ListN.{length, replicate, getD, take, drop, length-take, length-drop, dr
 use lib.Seq.{drop-cons}
 use Rattle.field.specs.Digits.{digitZero, digitNine, isDigit, digits}
 use Rattle.field.specs.Field.{columns, blank, maxNumber, noNumber, continued, unpadded, justified, readField}
-use Rattle.field.proofs.Tests.{tests, by-test}
+use Rattle.field.proofs.Booleans.{tests, by-test}
 use Rattle.field.proofs.Counts.{next-power}
 
 -- ---- one byte

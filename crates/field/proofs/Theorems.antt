@@ -12,7 +12,7 @@ use Rattle.field.specs.Digits.{digitZero, digitCount, digits}
 use Rattle.field.specs.Field.{columns, blank, maxNumber, noNumber, fieldOf, writeField}
 use Rattle.field.specs.Field.{continued, isLeadingZero, unpadded, justified, readField}
 use Rattle.field.specs.Theorems.{WrittenReadsBack, ReadWritesBack, ReadIsBounded}
-use Rattle.field.proofs.Tests.{tests, by-test}
+use Rattle.field.proofs.Booleans.{tests, by-test}
 use Rattle.field.proofs.Counts.{count-fits, count-of-zero, count-positive, below-power, count-is, first-digit}
 use Rattle.field.proofs.Reading.{by-digit, continued-digit, not-digit, after-blanks, justified-digits, digits-back}
 use Rattle.field.proofs.Reading.{continued-low, continued-high}

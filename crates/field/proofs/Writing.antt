@@ -12,7 +12,7 @@ use native.Mathlib.Nat.{le-refl}
 use Rattle.field.specs.Digits.{digitZero, digits, digitCount}
 use Rattle.field.specs.Field.{columns, blank, maxNumber, accepted, unwritable, fieldOf, written, writeField}
 use Rattle.field.specs.Theorems.{CountIsLeast}
-use Rattle.field.proofs.Tests.{tests, by-test}
+use Rattle.field.proofs.Booleans.{tests, by-test}
 use Rattle.field.proofs.Counts.{count-is-least}
 
 set-at-front : (l : List ℕ) (i a : ℕ) → i < length l → drop i (set l i a) ≡ a ∷ drop (suc i) l

@@ -1,7 +1,7 @@
 // The C interface: include/yard.h.
 ghost use mathlib.Core.Path.{_≡_};
 ghost use Rattle.protocol.specs.Memory.{memory};
-ghost use Rattle.protocol.specs.Outcome.{left};
+ghost use Rattle.protocol.specs.Outcome.{outcome};
 ghost use Rattle.ledger.specs.Called.{called};
 ghost use Rattle.ledger.specs.Panel.{panelAnswer};
 ghost use Rattle.field.specs.Field.{readField, written, writeField};
@@ -19,7 +19,7 @@ pub extern "C" fn yard_call(
     first: &mut u32,
     second: &mut u32,
 ) -> u32
-    ensures { λ r. ⌜ left (record { number = r; first = now (first .exit); second = now (second .exit) }) (now (table .exit))
+    ensures { λ r. ⌜ outcome (record { number = r; first = now (first .exit); second = now (second .exit) }) (now (table .exit))
         (now (log .exit)) (now (blocks .exit))
         ≡ called (memory (now (table .entry)) (now (log .entry)) (now (blocks .entry))) code replica number (now (list .entry)) ⌝ }
 {

@@ -5,7 +5,7 @@ use mathlib.Core.Bool.{Bool, true, false, _&&_}
 use native.Mathlib.Numerals.{add-one}
 use native.Mathlib.Omega.{arith}
 use Rattle.protocol.specs.Form.{allBelow}
-use Rattle.protocol.proofs.Tests.{by-test, true-and, each, all-hold, at-below}
+use Rattle.protocol.proofs.Booleans.{by-test, true-and, each, all-hold, at-below}
 use Rattle.layout.specs.Parts.{fourOk}
 
 module _ (test : ℕ → Bool) where

@@ -4,7 +4,7 @@ use mathlib.Core.Bool.{Bool, true, false, not, _&&_}
 use mathlib.Core.List.{List, [], _∷_}
 use borrow.Author.Tests.{not-true, not-false}
 use Rattle.protocol.specs.Form.{allHold}
-use Rattle.protocol.proofs.Tests.{Each, each, all-hold}
+use Rattle.protocol.proofs.Booleans.{Each, each, all-hold}
 
 -- t & u & .. from the left
 abbrev pub joined : Bool → List Bool → Bool

@@ -6,7 +6,7 @@ use native.Mathlib.Omega.{arith}
 use lib.ListN.{length}
 use Rattle.protocol.specs.Memory.{Memory, maxFaultBound, faultBound, rowStart}
 use Rattle.protocol.specs.Form.{allHold, isFaultBound, lengthsFit, countsFit, wellFormed}
-use Rattle.protocol.proofs.Tests.{tests, by-test, and-true, true-and, each}
+use Rattle.protocol.proofs.Booleans.{tests, by-test, and-true, true-and, each}
 use Rattle.protocol.proofs.Formed.{formed, Sizes, sizes}
 use Rattle.layout.specs.Parts.{wordsOk}
 

@@ -9,7 +9,7 @@ use Rattle.protocol.specs.Memory.{Memory, replicaCount, ceiling, faultBound, ce
 use Rattle.protocol.specs.Memory.{replicaWords, rowAt, retired, raised, replica, certificateWords, certificateAt, certificate}
 use Rattle.protocol.specs.Memory.{maxCertificates, maxBlocks, blockAt, parent}
 use Rattle.protocol.specs.Form.{lastKind, lengthsFit, blockFormed, replicaFormed, certificateFormed}
-use Rattle.protocol.proofs.Tests.{tests, each}
+use Rattle.protocol.proofs.Booleans.{tests, each}
 use Rattle.protocol.proofs.Formed.{Formed, Sizes, sizes}
 
 -- ---- what the accessors require

@@ -8,7 +8,7 @@ use Rattle.protocol.specs.declared.Answer.{Answer}
 use Rattle.protocol.specs.declared.Call.{Call}
 use Rattle.protocol.specs.Memory.{Memory, memory}
 use Rattle.protocol.specs.Form.{wellFormed}
-use Rattle.protocol.specs.Outcome.{Outcome, left, wrongForm, unreadable}
+use Rattle.protocol.specs.Outcome.{Outcome, outcome, wrongForm, unreadable}
 use Rattle.protocol.specs.Runs.{step}
 use Rattle.protocol.proofs.Needs.{refusal, refuses}
 use Rattle.protocol.proofs.Rules.{no-form}
@@ -22,10 +22,10 @@ use Rattle.ledger.specs.Called.{MakeCall, calledBy, called}
 module _ (t l b : List ℕ) (code replica number : ℕ) (list : List ℕ) (r : Coded)
     (e : r ≡ codedCall (memory t l []) code replica number list) where
   pub not-called : {a : Answer} → r ≡ Unreadable → a ≡ record { number = unreadable; first = 0; second = 0 }
-      → left a t l b ≡ called (memory t l b) code replica number list
+      → outcome a t l b ≡ called (memory t l b) code replica number list
   unfolding called calledBy
   not-called u x =
-      ap (λ (y : Answer). left y t l b) x
+      ap (λ (y : Answer). outcome y t l b) x
       ∙ ap (λ (y : Coded). calledBy y (memory t l b) list) (sym u ∙ e ∙ coded-aside t l b code replica number list)
 
   pub is-called : {call : Call} {o : Outcome} → r ≡ Of call → o ≡ step (memory t l b) call list

@@ -9,11 +9,11 @@ use Rattle.protocol.specs.Memory.{Memory, replicaCount}
 use Rattle.protocol.specs.Outcome.{outOfRange}
 use Rattle.protocol.specs.Calls.{isReplica}
 use Rattle.protocol.specs.Runs.{Invocation}
-use Rattle.protocol.specs.Agreement.{Life, endOf}
-use Rattle.protocol.proofs.Tests.{tests, by-test}
+use Rattle.protocol.specs.Agreement.{Execution, endOf}
+use Rattle.protocol.proofs.Booleans.{tests, by-test}
 use Rattle.protocol.proofs.Formed.{form}
 use Rattle.protocol.proofs.Reached.{panel-height}
-use Rattle.protocol.proofs.Agreement.{lives, begins, panel-stays-up}
+use Rattle.protocol.proofs.Agreement.{reached-by, begins, panel-stays-up}
 use Rattle.checks.proofs.Ready.{no-replica, all-ready}
 use Rattle.ledger.specs.Panel.{panelAnswer}
 use Rattle.ledger.specs.Theorems.{PanelShowsHistory, PanelNeverFalls}
@@ -21,19 +21,19 @@ use Rattle.ledger.proofs.Panels.{panel-refused, panel-shown}
 
 pub panel-shows-history : PanelShowsHistory
 unfolding PanelShowsHistory
-panel-shows-history m f list calls life i own =
+panel-shows-history m f list calls execution i own =
     let end = endOf m f list calls in
-    let h = lives m f list calls life in
+    let h = reached-by m f list calls execution in
     let faults = h .faults in
     let known : isReplica end i ≡ true = omega tests in
     sym (panel-shown end i _ _ (all-ready end i (form end (h .safe .formed)) known) refl (sym (panel-height f _ end h i own)))
 
 -- A number that is no replica's has no panel.
-no-panel : (m : Memory) (f : ℕ) (list : List ℕ) (calls : List Invocation) → Life m f list calls → (i : ℕ) → replicaCount f ≤ i
+no-panel : (m : Memory) (f : ℕ) (list : List ℕ) (calls : List Invocation) → Execution m f list calls → (i : ℕ) → replicaCount f ≤ i
     → panelAnswer (endOf m f list calls) i .first ≡ 0
-no-panel m f list calls life i high =
+no-panel m f list calls execution i high =
     let end = endOf m f list calls in
-    let h = lives m f list calls life in
+    let h = reached-by m f list calls execution in
     let faults = h .faults in
     let unknown : isReplica end i ≡ false = omega tests in
     ap (λ (a : Answer). a .first)
@@ -41,10 +41,10 @@ no-panel m f list calls life i high =
 
 pub panel-never-falls : PanelNeverFalls
 unfolding PanelShowsHistory PanelNeverFalls
-panel-never-falls m f list calls more life i =
-    let before = begins m f list calls more life in
+panel-never-falls m f list calls more execution i =
+    let before = begins m f list calls more execution in
     by-test (ltb i (replicaCount f))
     (λ e.
-    rw (panel-shows-history m f list calls before i (omega tests), panel-shows-history m f list (calls ++ more) life i (omega tests))
-    (panel-stays-up m f list calls more life i))
+    rw (panel-shows-history m f list calls before i (omega tests), panel-shows-history m f list (calls ++ more) execution i (omega tests))
+    (panel-stays-up m f list calls more execution i))
     (λ e. rw (no-panel m f list calls before i (omega tests)) (omega tests))

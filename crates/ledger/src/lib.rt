@@ -1,7 +1,7 @@
 // Any call of a ledger, and its front panel.
 ghost use mathlib.Core.Path.{_≡_};
 ghost use Rattle.protocol.specs.Memory.{memory};
-ghost use Rattle.protocol.specs.Outcome.{left};
+ghost use Rattle.protocol.specs.Outcome.{outcome};
 ghost use Rattle.protocol.specs.Runs.{step};
 ghost use Rattle.ledger.specs.Called.{called};
 ghost use Rattle.ledger.specs.Panel.{panelAnswer};
@@ -21,7 +21,7 @@ pub fn invoke(
     call: Call,
     list: &[u32],
 ) -> Answer
-    ensures { λ r. ⌜ left r (now (table .exit)) (now (log .exit)) (now (blocks .exit))
+    ensures { λ r. ⌜ outcome r (now (table .exit)) (now (log .exit)) (now (blocks .exit))
         ≡ step (memory (now (table .entry)) (now (log .entry)) (now (blocks .entry))) call (now (list .entry)) ⌝ }
 {
     match call {
@@ -58,7 +58,7 @@ pub fn call_by_code(
     number: u32,
     list: &[u32],
 ) -> Answer
-    ensures { λ r. ⌜ left r (now (table .exit)) (now (log .exit)) (now (blocks .exit))
+    ensures { λ r. ⌜ outcome r (now (table .exit)) (now (log .exit)) (now (blocks .exit))
         ≡ called (memory (now (table .entry)) (now (log .entry)) (now (blocks .entry))) code replica number (now (list .entry)) ⌝ }
 {
     let coded = codes::coded_call(table, log, code, replica, number, list);

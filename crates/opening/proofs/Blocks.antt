@@ -8,7 +8,7 @@ use Rattle.protocol.specs.Memory.{Memory, memory, blockCountAt, blockCount, blo
 use Rattle.protocol.specs.Form.{wellFormed}
 use Rattle.protocol.specs.Outcome.{firstRefusal, follow, wrongForm, unknownNumber, noRoom}
 use Rattle.protocol.specs.Calls.{isBlock, block}
-use Rattle.protocol.proofs.Tests.{tests}
+use Rattle.protocol.proofs.Booleans.{tests}
 use Rattle.protocol.proofs.Needs.{refusal, acceptance, refuses, accepts, fails, holds}
 
 module _ (m : Memory) (p : ℕ) where

@@ -9,7 +9,7 @@ use Rattle.protocol.specs.Form.{isFaultBound, lengthsFit}
 use Rattle.protocol.specs.Counter.{counterStep}
 use Rattle.protocol.specs.Outcome.{firstRefusal, follow, outOfRange, wrongForm}
 use Rattle.protocol.specs.Calls.{freshReplica, freshReplicas, freshHeader, opening}
-use Rattle.protocol.proofs.Tests.{tests, each}
+use Rattle.protocol.proofs.Booleans.{tests, each}
 use Rattle.protocol.proofs.Needs.{refusal, acceptance, refuses, accepts, fails, holds}
 use Rattle.opening.specs.Fresh.{freshRows}
 

@@ -3,7 +3,7 @@ ghost use mathlib.Core.Path.{_≡_};
 ghost use Prim.Native.Nat.{_+_, _≤_};
 ghost use lib.ListN.{length};
 ghost use Rattle.protocol.specs.Memory.{rowAt, replicaWords, assign};
-ghost use Rattle.protocol.specs.Outcome.{left, outcomeBy};
+ghost use Rattle.protocol.specs.Outcome.{outcome, outcomeBy};
 ghost use Rattle.protocol.specs.Calls.{opening as openingRule, block as blockRule};
 ghost use Rattle.opening.specs.Fresh.{freshRow, freshRows};
 use checks::accepted;
@@ -45,7 +45,7 @@ fn fresh_rows(table: &mut [u32], replicas: u32, limit: u32)
 
 // A ledger for f, whatever the memory held.
 pub fn open_ledger(table: &mut [u32], log: &mut [u32], blocks: &mut [u32], f: u32) -> Answer
-    ensures { λ r. ⌜ left r (now (table .exit)) (now (log .exit)) (now (blocks .exit))
+    ensures { λ r. ⌜ outcome r (now (table .exit)) (now (log .exit)) (now (blocks .exit))
         ≡ outcomeBy (λ m. openingRule m f) (now (table .entry)) (now (log .entry)) (now (blocks .entry)) ⌝ }
 {
     if layout::form::is_fault_bound(f) {
@@ -65,7 +65,7 @@ pub fn open_ledger(table: &mut [u32], log: &mut [u32], blocks: &mut [u32], f: u3
 
 // A block on an added one.
 pub fn block(table: &mut [u32], log: &mut [u32], blocks: &mut [u32], parent: u32) -> Answer
-    ensures { λ r. ⌜ left r (now (table .exit)) (now (log .exit)) (now (blocks .exit))
+    ensures { λ r. ⌜ outcome r (now (table .exit)) (now (log .exit)) (now (blocks .exit))
         ≡ outcomeBy (λ m. blockRule m parent) (now (table .entry)) (now (log .entry)) (now (blocks .entry)) ⌝ }
 {
     if layout::form::is_well_formed(table, log, blocks) {

@@ -14,7 +14,7 @@ use Rattle.protocol.specs.Certificates.{PROP, COMMIT, file}
 use Rattle.protocol.specs.Outcome.{Need}
 use Rattle.protocol.specs.Calls.{isReplica, issuing}
 use Rattle.protocol.specs.Agreement.{Extends}
-use Rattle.protocol.proofs.Tests.{tests, by-test, each}
+use Rattle.protocol.proofs.Booleans.{tests, by-test, each}
 use Rattle.protocol.proofs.Needs.{Holds}
 use Rattle.protocol.proofs.Words.{withinRow}
 use Rattle.protocol.proofs.Changes.{changed, update-header, update-other, update-own, append-count, append-old}

@@ -13,8 +13,8 @@ use Rattle.protocol.specs.Outcome.{firstRefusal, answered, follow}
 use Rattle.protocol.specs.Calls.{opening, block, decide}
 use Rattle.protocol.specs.Runs.{Invocation, ruleOf, step, run}
 use Rattle.protocol.specs.Theorems.{Accepted}
-use Rattle.protocol.specs.History.{Event, reopened, other, acceptedEvent, eventOf, history, givenParent, latest, panel}
-use Rattle.protocol.specs.Agreement.{PanelsRise, Life, eventsOf, endOf, Agreement, WordsMatchHistory, Extends, OnlyAppended}
+use Rattle.protocol.specs.History.{Event, reopened, other, acceptedEvent, eventOf, history, givenParent, highest, panel}
+use Rattle.protocol.specs.Agreement.{PanelsRise, Execution, eventsOf, endOf, Agreement, WordsMatchHistory, Extends, OnlyAppended}
 use Rattle.protocol.specs.Agreement.{WouldAgree}
 use Rattle.protocol.proofs.Needs.{Holds, no-refusal, accepted-after, accepted-first}
 use Rattle.protocol.proofs.Rules.{needs-hold}
@@ -25,7 +25,7 @@ use Rattle.protocol.proofs.SafeCalls.{store-safe, view-safe, accumulate
 use Rattle.protocol.proofs.SafeCalls.{reply-safe, recover-safe, chosen}
 use Rattle.protocol.proofs.SafePrepare.{prepare-safe}
 use Rattle.protocol.proofs.SafeEnds.{opened-safe}
-use Rattle.protocol.proofs.Reached.{Reached, Follows, one-line, chosen-known, quiet, added-block, decides}
+use Rattle.protocol.proofs.Reached.{Reached, Follows, one-chain, chosen-known, quiet, added-block, decides}
 
 -- ---- one call
 
@@ -124,7 +124,7 @@ runs f past since m (q ∷ qs) h once =
 
 -- What an accepted opening leaves is a start.
 start : (m : Memory) (f : ℕ) (list : List ℕ) → Accepted (step m (Open f) list) → Reached f [] (step m (Open f) list .memory)
-unfolding step ruleOf opening givenParent latest counterStep
+unfolding step ruleOf opening givenParent highest counterStep
 start m f list accepted =
     let h = needs-hold m (Open f) list (no-refusal m (ruleOf m (Open f) list) accepted) in
     let o = opened m f (h .1 .0) in
@@ -143,11 +143,11 @@ start m f list accepted =
       panels = tt;
     })
 
--- All that a life reaches.
-pub lives : (m : Memory) (f : ℕ) (list : List ℕ) (calls : List Invocation) → Life m f list calls
+-- All that an execution reaches.
+pub reached-by : (m : Memory) (f : ℕ) (list : List ℕ) (calls : List Invocation) → Execution m f list calls
     → Reached f (eventsOf m f list calls) (endOf m f list calls)
-lives m f list calls life =
-    runs f [] [] (step m (Open f) list .memory) calls (start m f list (life .opened)) (life .once) .reached
+reached-by m f list calls execution =
+    runs f [] [] (step m (Open f) list .memory) calls (start m f list (execution .opened)) (execution .once) .reached
 
 -- ---- a list of calls, and more calls
 
@@ -159,12 +159,12 @@ history-on past m (q ∷ qs) more =
     let o = step m (q .call) (q .list) in
     history-on (eventOf (q .call) (o .answer) ∷ past) (o .memory) qs more
 
--- The beginning of a life is one.
-pub begins : (m : Memory) (f : ℕ) (list : List ℕ) (calls more : List Invocation) → Life m f list (calls ++ more) → Life m f list calls
-begins m f list calls more life =
+-- The beginning of an execution is one.
+pub begins : (m : Memory) (f : ℕ) (list : List ℕ) (calls more : List Invocation) → Execution m f list (calls ++ more) → Execution m f list calls
+begins m f list calls more execution =
     record {
-      opened = life .opened;
-      once = λ again. life .once (rw (history-on [] _ calls more) (kept (endOf m f list calls) more again));
+      opened = execution .opened;
+      once = λ again. execution .once (rw (history-on [] _ calls more) (kept (endOf m f list calls) more again));
     }
 
 -- A panel after more calls is no lower.
@@ -177,36 +177,36 @@ rises past m (q ∷ qs) up =
     let now = rises (eventOf (q .call) (o .answer) ∷ past) (o .memory) qs up in
     (λ i. let first = now .1 .0 i in let then = now .0 i in omega arith, now .1 .1)
 
-pub panel-stays-up : (m : Memory) (f : ℕ) (list : List ℕ) (calls more : List Invocation) → Life m f list (calls ++ more) → (i : ℕ)
+pub panel-stays-up : (m : Memory) (f : ℕ) (list : List ℕ) (calls more : List Invocation) → Execution m f list (calls ++ more) → (i : ℕ)
     → panel (eventsOf m f list calls) i ≤ panel (eventsOf m f list (calls ++ more)) i
-panel-stays-up m f list calls more life i =
+panel-stays-up m f list calls more execution i =
     let e = history-on [] (step m (Open f) list .memory) calls more in
-    rw e (rises (eventsOf m f list calls) (endOf m f list calls) more (rw e at (lives m f list (calls ++ more) life .panels)) .0 i)
+    rw e (rises (eventsOf m f list calls) (endOf m f list calls) more (rw e at (reached-by m f list (calls ++ more) execution .panels)) .0 i)
 
 -- ---- the theorems
 
 pub agreement : Agreement
 unfolding Agreement
-agreement m f list calls life =
-    let h = lives m f list calls life in
+agreement m f list calls execution =
+    let h = reached-by m f list calls execution in
     let events = eventsOf m f list calls in
     record {
-      oneLine =
+      oneChain =
           λ i b v j c w x y.
           let hb = h .decisions i b v x in
           let hc = h .decisions j c w y in
-          one-line f events _ h (chosen-known f events _ h hb) (chosen-known f events _ h hc) hb hc;
+          one-chain f events _ h (chosen-known f events _ h hb) (chosen-known f events _ h hc) hb hc;
       panelsRise = h .panels;
     }
 
 pub words-match-history : WordsMatchHistory
 unfolding WordsMatchHistory
-words-match-history m f list calls life = lives m f list calls life .told
+words-match-history m f list calls execution = reached-by m f list calls execution .told
 
 pub only-appended : OnlyAppended
 unfolding OnlyAppended
-only-appended m f list calls more life once =
-    runs f (eventsOf m f list calls) [] (endOf m f list calls) more (lives m f list calls life) once .extends
+only-appended m f list calls more execution once =
+    runs f (eventsOf m f list calls) [] (endOf m f list calls) more (reached-by m f list calls execution) once .extends
 
 -- What an accepted Decide returns is chosen.
 would-choose : (m : Memory) → Safe m → (i : ℕ) (l : List ℕ) → Accepted (step m (Decide i) l)
@@ -218,9 +218,9 @@ would-choose m safe i l accepted =
 
 pub would-agree : WouldAgree
 unfolding WouldAgree
-would-agree m f list calls life i j l₁ l₂ a b =
-    let h = lives m f list calls life in
+would-agree m f list calls execution i j l₁ l₂ a b =
+    let h = reached-by m f list calls execution in
     let events = eventsOf m f list calls in
     let hb = would-choose _ (h .safe) i l₁ a in
     let hc = would-choose _ (h .safe) j l₂ b in
-    one-line f events _ h (chosen-known f events _ h hb) (chosen-known f events _ h hc) hb hc
+    one-chain f events _ h (chosen-known f events _ h hb) (chosen-known f events _ h hc) hb hc

@@ -15,7 +15,7 @@ use Rattle.protocol.specs.Certificates.{firstBelow, hasWords, numberFor,
 use Rattle.protocol.specs.Quorum.{every, isIssued, allIssued, certificatesOf}
 use Rattle.protocol.specs.Calls.{isBlock}
 use Rattle.protocol.specs.Theorems.{SameLengths, Alike}
-use Rattle.protocol.proofs.Tests.{tests, by-test, and-true, same-below}
+use Rattle.protocol.proofs.Booleans.{tests, by-test, and-true, same-below}
 use Rattle.protocol.proofs.Words.{withinRow, set-alike, sets-alike}
 use Rattle.protocol.proofs.Changes.{certificate-same, update-header, append-table, append-count, block-table}
 use Rattle.protocol.proofs.Changes.{block-count}

@@ -9,7 +9,7 @@ use Rattle.protocol.specs.Memory.{replica, certificateWords, certificate
 use Rattle.protocol.specs.Ancestry.{Falls}
 use Rattle.protocol.specs.Form.{isFaultBound, lengthsFit, countsFit, blockFormed, replicaFormed, certificateFormed}
 use Rattle.protocol.specs.Form.{wellFormed}
-use Rattle.protocol.proofs.Tests.{tests, each, all-hold, at-below, all-below}
+use Rattle.protocol.proofs.Booleans.{tests, each, all-hold, at-below, all-below}
 
 pub record Formed (m : Memory) : Type 0 where
   pub faults : isFaultBound (faultBound m) ≡ true

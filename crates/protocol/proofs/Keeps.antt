@@ -14,7 +14,7 @@ use Rattle.protocol.specs.Certificates.{canFile, file, logHasRoom}
 use Rattle.protocol.specs.Outcome.{Need, _else_, noRoom}
 use Rattle.protocol.specs.Calls.{isReplica, issuing}
 use Rattle.protocol.specs.Theorems.{SameLengths}
-use Rattle.protocol.proofs.Tests.{tests, by-test, each, all-hold}
+use Rattle.protocol.proofs.Booleans.{tests, by-test, each, all-hold}
 use Rattle.protocol.proofs.Needs.{Holds, holds-both}
 use Rattle.protocol.proofs.Words.{withinRow}
 use Rattle.protocol.proofs.Formed.{Formed, sizes}

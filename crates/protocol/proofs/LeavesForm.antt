@@ -17,7 +17,7 @@ use Rattle.protocol.specs.Calls.{isAhead, retires, opening, block, prepa
 use Rattle.protocol.specs.Calls.{reserve, request, reply, recover}
 use Rattle.protocol.specs.Runs.{ruleOf, step}
 use Rattle.protocol.specs.Theorems.{AcceptedLeavesForm}
-use Rattle.protocol.proofs.Tests.{tests, by-cond, or-false, each, all-hold}
+use Rattle.protocol.proofs.Booleans.{tests, by-cond, or-false, each, all-hold}
 use Rattle.protocol.proofs.Needs.{Holds, no-refusal, accepted-after}
 use Rattle.protocol.proofs.Rules.{needs-hold}
 use Rattle.protocol.proofs.Formed.{Formed, formed, form}

@@ -1,6 +1,6 @@
 -- What follows from the definitions: laws of their parts, then the theorems that specs/Theorems.antt and specs/Agreement.antt state, and
 -- the table of cases.
-pub mod Tests
+pub mod Booleans
 pub mod Needs
 pub mod Rules
 pub mod Words
@@ -15,7 +15,7 @@ pub mod Frame
 pub mod Alike
 pub mod Unread
 pub mod Values
-pub mod Line
+pub mod Ancestors
 pub mod Meeting
 pub mod Safety
 pub mod Moves

@@ -7,7 +7,7 @@ use mathlib.Core.List.{List, [], _∷_}
 use Rattle.protocol.specs.Memory.{Memory, Certificate, certificateCount, certificate}
 use Rattle.protocol.specs.Quorum.{every, isQuorumSize, isIssued, allIssued, certificatesOf, firstOf, isGreater, greater}
 use Rattle.protocol.specs.Quorum.{greatestFrom, greatest}
-use Rattle.protocol.proofs.Tests.{tests, by-cond, and-true}
+use Rattle.protocol.proofs.Booleans.{tests, by-cond, and-true}
 
 abbrev pub All : (Certificate → Type 0) → List Certificate → Type 0
 All P [] = Unit {0}

@@ -10,7 +10,7 @@ use lib.ListN.{length, length-append}
 use lib.Dec.{eqb}
 use Rattle.protocol.specs.Memory.{replicaCount}
 use Rattle.protocol.specs.Quorum.{contains, distinct}
-use Rattle.protocol.proofs.Tests.{tests, by-test, by-cond, and-true, or-false}
+use Rattle.protocol.proofs.Booleans.{tests, by-test, by-cond, and-true, or-false}
 
 -- Every member of a list is below a number.
 abbrev pub AllBelow : ℕ → List ℕ → Type 0

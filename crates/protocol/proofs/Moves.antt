@@ -10,9 +10,9 @@ use Rattle.protocol.specs.Memory.{Memory, Replica, Certificate, faultBou
 use Rattle.protocol.specs.Memory.{certificate, parent, raised}
 use Rattle.protocol.specs.Certificates.{COMMIT}
 use Rattle.protocol.specs.Agreement.{Extends}
-use Rattle.protocol.proofs.Tests.{tests, by-test}
+use Rattle.protocol.proofs.Booleans.{tests, by-test}
 use Rattle.protocol.proofs.Formed.{Formed, falls}
-use Rattle.protocol.proofs.Line.{line-same}
+use Rattle.protocol.proofs.Ancestors.{ancestor-same}
 use Rattle.protocol.proofs.Safety.{Issued, Commit, Committed, Origin, CanCommit, Choosable, Chosen, Ancestor, PropSafe}
 use Rattle.protocol.proofs.Safety.{ReportSafe, clauses, CertificateSafe, ReplicaSafe}
 
@@ -70,8 +70,8 @@ module _ (m m′ : Memory) (mv : Moves m m′) where
       record {
         block = x .block;
         proposed = issued-after _ (x .proposed);
-        line =
-            line-same (parent m) (parent m′) (blockCount m) (falls m h) (λ b l. sym (mv .extends .parent b l)) l (x .line);
+        ancestor =
+            ancestor-same (parent m) (parent m′) (blockCount m) (falls m h) (λ b l. sym (mv .extends .parent b l)) l (x .ancestor);
       }
 
   -- ---- backwards

@@ -9,7 +9,7 @@ use lib.Dec.{leb}
 use Rattle.protocol.specs.Memory.{Memory}
 use Rattle.protocol.specs.Outcome.{Outcome, Need, _else_, Rule, firstRefusal, answered, follow}
 use Rattle.protocol.specs.Theorems.{Accepted, Refused, Lowest}
-use Rattle.protocol.proofs.Tests.{tests, and-true}
+use Rattle.protocol.proofs.Booleans.{tests, and-true}
 
 -- Every need of a list holds.
 abbrev pub Holds : List Need → Type 0
@@ -104,10 +104,10 @@ unfolding follow answered
 accepts m rule e = rw (← e) refl
 
 -- What holds of the memory as it was and of the memory on success holds of the memory left.
-pub left-memory : (P : Memory → Type 0) (m : Memory) (rule : Rule) → P m → (firstRefusal (rule .needs) ≡ 0 → P (rule .after))
+pub outcome-memory : (P : Memory → Type 0) (m : Memory) (rule : Rule) → P m → (firstRefusal (rule .needs) ≡ 0 → P (rule .after))
     → P (follow m rule .memory)
 unfolding follow answered
-left-memory P m rule before after = go (firstRefusal (rule .needs)) refl
+outcome-memory P m rule before after = go (firstRefusal (rule .needs)) refl
   where
     go : (n : ℕ) → firstRefusal (rule .needs) ≡ n → P (answered n m rule .memory)
     go zero e = after e

@@ -12,7 +12,7 @@ use Rattle.protocol.specs.Form.{isFaultBound, lengthsFit, blockFormed, r
 use Rattle.protocol.specs.Counter.{counterStep}
 use Rattle.protocol.specs.Calls.{freshReplica, freshReplicas, freshHeader}
 use Rattle.protocol.specs.Theorems.{SameLengths}
-use Rattle.protocol.proofs.Tests.{tests, by-test, each, all-hold}
+use Rattle.protocol.proofs.Booleans.{tests, by-test, each, all-hold}
 use Rattle.protocol.proofs.Changes.{update-lengths, update-header, update-other, update-own}
 use Rattle.protocol.proofs.Formed.{Formed}
 use Rattle.protocol.proofs.Keeps.{lengths-same, counts-fit}

@@ -12,7 +12,7 @@ use Rattle.protocol.specs.Memory.{Memory, Certificate, replicaCount, fau
 use Rattle.protocol.specs.Form.{certificateFormed}
 use Rattle.protocol.specs.Quorum.{isGreater, greater, every, isQuorumSize, allIssued, certificatesOf, firstOf, contains}
 use Rattle.protocol.specs.Quorum.{distinct, signers, greatestFrom, greatest}
-use Rattle.protocol.proofs.Tests.{tests, by-test, by-cond, and-true, each}
+use Rattle.protocol.proofs.Booleans.{tests, by-test, by-cond, and-true, each}
 use Rattle.protocol.proofs.Formed.{Formed}
 use Rattle.protocol.proofs.Lists.{All, all-named}
 use Rattle.protocol.proofs.Meeting.{AllBelow, Quorum, meet}

@@ -13,27 +13,27 @@ use Rattle.protocol.specs.Ancestry.{Falls, stepsToRoot, heightBy, height
 use Rattle.protocol.specs.Form.{replicaFormed, certificateFormed}
 use Rattle.protocol.specs.Quorum.{certificatesOf, firstOf}
 use Rattle.protocol.specs.Calls.{block, decide}
-use Rattle.protocol.specs.History.{Event, added, decided, other, givenParent, Latest, none, _inView_, later, latest}
-use Rattle.protocol.specs.History.{latestBlock, latestView, panel}
-use Rattle.protocol.specs.Agreement.{OneLine, PanelsRise, Told, Extends}
-use Rattle.protocol.proofs.Tests.{tests, by-test, by-cond, each}
+use Rattle.protocol.specs.History.{Event, added, decided, other, givenParent, Decision, none, _inView_, higher, highest}
+use Rattle.protocol.specs.History.{decisionBlock, decisionView, panel}
+use Rattle.protocol.specs.Agreement.{OneChain, PanelsRise, Told, Extends}
+use Rattle.protocol.proofs.Booleans.{tests, by-test, by-cond, each}
 use Rattle.protocol.proofs.Needs.{Holds}
 use Rattle.protocol.proofs.Changes.{changed, block-new, block-old, block-count}
 use Rattle.protocol.proofs.Formed.{sizes, falls}
 use Rattle.protocol.proofs.Keeps.{block-keeps}
-use Rattle.protocol.proofs.Line.{Line, line-same, is-ancestor, height-same, height-line}
+use Rattle.protocol.proofs.Ancestors.{Ancestor, ancestor-same, is-ancestor, height-same, ancestor-height}
 use Rattle.protocol.proofs.Safety.{Chosen, Safe}
 use Rattle.protocol.proofs.Moves.{chosen-after}
 use Rattle.protocol.proofs.Acts.{GoesOn}
 use Rattle.protocol.proofs.SafeCalls.{chosen, decide-safe}
-use Rattle.protocol.proofs.SafeEnds.{adds-moves, adds-safe, block-adds, chosen-proposal, chosen-line}
+use Rattle.protocol.proofs.SafeEnds.{adds-moves, adds-safe, block-adds, chosen-proposal, chosen-ancestor}
 
 pub record Reached (f : ℕ) (past : List Event) (m : Memory) : Type 0 where
   pub safe : Safe m
   pub faults : faultBound m ≡ f
   pub told : Told f past m
   -- a number that is no replica's has decided nothing
-  pub strangers : (i : ℕ) → replicaCount f ≤ i → latest past i ≡ none
+  pub strangers : (i : ℕ) → replicaCount f ≤ i → highest past i ≡ none
   pub decisions : (i b v : ℕ) → List·Memᴰ (decided i b v) past → Chosen m v b
   pub panels : PanelsRise past
 
@@ -46,21 +46,21 @@ pub record Follows (f : ℕ) (past : List Event) (m m′ : Memory) : Type 0 wher
 older : {x e : Event} {past : List Event} → (x ≡ e → ⊥) → List·Memᴰ x (e ∷ past) → List·Memᴰ x past
 older differs w = ⊎-elim (λ e. absurd (differs e)) (λ w. w) (List·Memᴰ·cases-cons w)
 
--- The decided words of a replica are those of its latest decision.
-record HoldsLatest (r : Replica) (s : Latest) : Type 0 where
-  view : r .decidedView ≡ latestView s
-  block : r .decidedBlock ≡ latestBlock s
+-- The decided words of a replica are those of its highest decision.
+record HoldsHighest (r : Replica) (s : Decision) : Type 0 where
+  view : r .decidedView ≡ decisionView s
+  block : r .decidedBlock ≡ decisionBlock s
 
-words-told : (r : Replica) (b v : ℕ) (d : Latest) → 1 ≤ v → HoldsLatest r d
-    → HoldsLatest (changed (cond (ltb (r .decidedView) v) (decidedViewAt becomes v ∷ decidedBlockAt becomes b ∷ []) []) r) (later d b v)
-unfolding later
+words-told : (r : Replica) (b v : ℕ) (d : Decision) → 1 ≤ v → HoldsHighest r d
+    → HoldsHighest (changed (cond (ltb (r .decidedView) v) (decidedViewAt becomes v ∷ decidedBlockAt becomes b ∷ []) []) r) (higher d b v)
+unfolding higher
 words-told r b v none positive h =
     let z = h .view in
-    by-cond (λ cs. HoldsLatest (changed cs r) (b inView v)) (ltb (r .decidedView) v) (λ e. record { view = refl; block = refl })
+    by-cond (λ cs. HoldsHighest (changed cs r) (b inView v)) (ltb (r .decidedView) v) (λ e. record { view = refl; block = refl })
     (λ e. absurd (omega tests))
 words-told r b v (c inView w) positive h =
     let z = h .view in
-    by-cond (λ cs. HoldsLatest (changed cs r) (later (c inView w) b v)) (ltb (r .decidedView) v)
+    by-cond (λ cs. HoldsHighest (changed cs r) (higher (c inView w) b v)) (ltb (r .decidedView) v)
     (λ e. let q : ltb w v ≡ true = omega tests in rw q (record { view = refl; block = refl }))
     (λ e. let q : ltb w v ≡ false = omega tests in rw q h)
 
@@ -73,13 +73,13 @@ module _ (f : ℕ) (past : List Event) (m : Memory) (h : Reached f past m) where
       let lower = falls m (h .safe .formed) b l n in
       omega arith
 
-  holds-latest : (i : ℕ) → i < replicaCount f → HoldsLatest (replica m i) (latest past i)
-  holds-latest i own = record { view = h .told .views i own; block = h .told .blocks i own }
+  holds-highest : (i : ℕ) → i < replicaCount f → HoldsHighest (replica m i) (highest past i)
+  holds-highest i own = record { view = h .told .views i own; block = h .told .blocks i own }
 
-  -- The block of a latest decision is an added one.
-  latest-known : (i : ℕ) → latestBlock (latest past i) < blockCount m
+  -- The block of a highest decision is an added one.
+  highest-known : (i : ℕ) → decisionBlock (highest past i) < blockCount m
   unfolding replicaFormed
-  latest-known i =
+  highest-known i =
       let z = sizes m (h .safe .formed) in
       let same = h .faults in
       by-test (ltb i (replicaCount f))
@@ -94,22 +94,22 @@ module _ (f : ℕ) (past : List Event) (m : Memory) (h : Reached f past m) where
   unfolding panel
   panel-height i own =
       ap (height m) (h .told .blocks i own)
-      ∙ height-same (parent m) (givenParent past) (blockCount m) (falls m (h .safe .formed)) (h .told .parents) _ (latest-known i)
+      ∙ height-same (parent m) (givenParent past) (blockCount m) (falls m (h .safe .formed)) (h .told .parents) _ (highest-known i)
 
-  pub one-line : {v b w c : ℕ} → b < blockCount m → c < blockCount m → Chosen m v b → Chosen m w c → OneLine past b c
-  one-line {v} {b} {w} {c} known-b known-c hb hc =
-      by-test (leb v w) (λ e. inl (line known-c (chosen-line m (h .safe) hb hc (omega tests))))
-      (λ e. inr (line known-b (chosen-line m (h .safe) hc hb (omega tests))))
+  pub one-chain : {v b w c : ℕ} → b < blockCount m → c < blockCount m → Chosen m v b → Chosen m w c → OneChain past b c
+  one-chain {v} {b} {w} {c} known-b known-c hb hc =
+      by-test (leb v w) (λ e. inl (in-chain known-c (chosen-ancestor m (h .safe) hb hc (omega tests))))
+      (λ e. inr (in-chain known-b (chosen-ancestor m (h .safe) hc hb (omega tests))))
     where
-      line : {a b : ℕ} → b < blockCount m → Line (parent m) a b → isAncestorBy (givenParent past) a b ≡ true
-      line l w =
+      in-chain : {a b : ℕ} → b < blockCount m → Ancestor (parent m) a b → isAncestorBy (givenParent past) a b ≡ true
+      in-chain l w =
           is-ancestor (givenParent past) (blockCount m) given-falls l
-          (line-same (parent m) (givenParent past) (blockCount m) (falls m (h .safe .formed)) (h .told .parents) l w)
+          (ancestor-same (parent m) (givenParent past) (blockCount m) (falls m (h .safe .formed)) (h .told .parents) l w)
 
   -- ---- an event that the history does not see
 
   pub quiet : {m′ : Memory} → GoesOn m m′ → Follows f (other ∷ past) m m′
-  unfolding givenParent latest panel
+  unfolding givenParent highest panel
   quiet g =
       let q = g .quiet in
       let count = q .blocks in
@@ -136,7 +136,7 @@ module _ (f : ℕ) (past : List Event) (m : Memory) (h : Reached f past m) where
   -- ---- a block is added
 
   pub added-block : (p : ℕ) → Holds (block m p .needs) → Follows f (added (blockCount m) p ∷ past) m (appendBlock m p)
-  unfolding block givenParent latest panel
+  unfolding block givenParent highest panel
   added-block p needs =
       let z = sizes m (h .safe .formed) in
       let adds = block-adds m p (h .safe .formed) in
@@ -163,7 +163,7 @@ module _ (f : ℕ) (past : List Event) (m : Memory) (h : Reached f past m) where
                 λ i.
                     let same =
                     height-same (givenParent past) (λ x. cond (eqb x (blockCount m)) p (givenParent past x)) (blockCount m) given-falls
-                    (λ x l. let e : eqb x (blockCount m) ≡ false = omega tests in rw e refl) _ (latest-known i) in
+                    (λ x l. let e : eqb x (blockCount m) ≡ false = omega tests in rw e refl) _ (highest-known i) in
                     omega arith,
                 h .panels,
               );
@@ -182,28 +182,28 @@ module _ (f : ℕ) (past : List Event) (m : Memory) (h : Reached f past m) where
       omega tests
 
   -- The panel of a replica that decides does not fall.
-  panel-rises : (i b v : ℕ) (d : Latest) → i < replicaCount f → latest past i ≡ d → Chosen m v b
-      → heightBy (givenParent past) (latestBlock d) ≤ heightBy (givenParent past) (latestBlock (later d b v))
-  unfolding later stepsToRoot
+  panel-rises : (i b v : ℕ) (d : Decision) → i < replicaCount f → highest past i ≡ d → Chosen m v b
+      → heightBy (givenParent past) (decisionBlock d) ≤ heightBy (givenParent past) (decisionBlock (higher d b v))
+  unfolding higher stepsToRoot
   panel-rises i b v none own e x = omega arith
   panel-rises i b v (c inView w) own e x =
       let given = givenParent past in
-      by-cond (λ (z : Latest). heightBy given c ≤ heightBy given (latestBlock z)) (ltb w v)
+      by-cond (λ (z : Decision). heightBy given c ≤ heightBy given (decisionBlock z)) (ltb w v)
       (λ t.
       let faults = h .faults in
-      let view : replica m i .decidedView ≡ w = h .told .views i own ∙ ap latestView e in
-      let blk : replica m i .decidedBlock ≡ c = h .told .blocks i own ∙ ap latestBlock e in
+      let view : replica m i .decidedView ≡ w = h .told .views i own ∙ ap decisionView e in
+      let blk : replica m i .decidedBlock ≡ c = h .told .blocks i own ∙ ap decisionBlock e in
       ⊎-elim (λ z. let root = z .1 in let q : c ≡ 0 = omega arith in rw q (omega arith))
       (λ y.
-      height-line given (blockCount m) given-falls (chosen-known x)
-      (line-same (parent m) given (blockCount m) (falls m (h .safe .formed)) (h .told .parents) (chosen-known x)
-      (chosen-line m (h .safe) (rw (view, blk) at y) x (omega tests))))
+      ancestor-height given (blockCount m) given-falls (chosen-known x)
+      (ancestor-same (parent m) given (blockCount m) (falls m (h .safe .formed)) (h .told .parents) (chosen-known x)
+      (chosen-ancestor m (h .safe) (rw (view, blk) at y) x (omega tests))))
       (h .safe .rows i (omega arith) .decided))
       (λ t. omega arith)
 
   pub decides : (i : ℕ) (list : List ℕ) → Holds (decide m i list .needs)
       → Follows f (decided i (decide m i list .first) (decide m i list .second) ∷ past) m (decide m i list .after)
-  unfolding decide givenParent latest panel
+  unfolding decide givenParent highest panel
   decides i list needs =
       let faults = h .faults in
       let own : i < replicaCount f = omega tests in
@@ -213,15 +213,15 @@ module _ (f : ℕ) (past : List Event) (m : Memory) (h : Reached f past m) where
       let x = chosen m i list needs (h .safe) in
       let positive = chosen-proposal m (h .safe) x .positive in
       let rows :
-      (j : ℕ) → j < replicaCount f → HoldsLatest (replica (decide m i list .after) j) (latest (decided i (c .block) (c .view) ∷ past) j) =
+      (j : ℕ) → j < replicaCount f → HoldsHighest (replica (decide m i list .after) j) (highest (decided i (c .block) (c .view) ∷ past) j) =
       λ j l.
       by-test (eqb j i)
       (λ e.
       let q : j ≡ i = omega tests in
-      let mine = words-told (replica m i) (c .block) (c .view) (latest past i) positive (holds-latest i own) in
-      rw e (rw q (subst (λ (r : Replica). HoldsLatest r (later (latest past i) (c .block) (c .view))) (sym (u .acts .own)) mine)))
+      let mine = words-told (replica m i) (c .block) (c .view) (highest past i) positive (holds-highest i own) in
+      rw e (rw q (subst (λ (r : Replica). HoldsHighest r (higher (highest past i) (c .block) (c .view))) (sym (u .acts .own)) mine)))
       (λ e.
-      rw e (subst (λ (r : Replica). HoldsLatest r (latest past j)) (sym (u .acts .others j (omega tests))) (holds-latest j l))) in
+      rw e (subst (λ (r : Replica). HoldsHighest r (highest past j)) (sym (u .acts .others j (omega tests))) (holds-highest j l))) in
       record {
         reached =
             record {
@@ -247,7 +247,7 @@ module _ (f : ℕ) (past : List Event) (m : Memory) (h : Reached f past m) where
               panels = (
                 λ j.
                     by-test (eqb j i)
-                    (λ e. let q : j ≡ i = omega tests in rw e (rw q (panel-rises i (c .block) (c .view) (latest past i) own refl x)))
+                    (λ e. let q : j ≡ i = omega tests in rw e (rw q (panel-rises i (c .block) (c .view) (highest past i) own refl x)))
                     (λ e. rw e (omega arith)),
                 h .panels,
               );

@@ -14,7 +14,7 @@ use Rattle.protocol.specs.Quorum.{certificatesOf, signers, firstOf, isCo
 use Rattle.protocol.specs.Calls.{isReplica, isAhead, retires, decisionWords, store, view, accumulate, decide, reboot}
 use Rattle.protocol.specs.Calls.{hasStatus, issuing, reserve, request, reply, recover}
 use Rattle.protocol.specs.Outcome.{Need}
-use Rattle.protocol.proofs.Tests.{tests, by-cond, each}
+use Rattle.protocol.proofs.Booleans.{tests, by-cond, each}
 use Rattle.protocol.proofs.Needs.{Holds}
 use Rattle.protocol.proofs.Words.{withinRow}
 use Rattle.protocol.proofs.Changes.{changed}

@@ -12,11 +12,11 @@ use Rattle.protocol.specs.Form.{isFaultBound, lengthsFit, certificateFor
 use Rattle.protocol.specs.Certificates.{PROP, COMMIT}
 use Rattle.protocol.specs.Counter.{counterStep}
 use Rattle.protocol.specs.Quorum.{contains}
-use Rattle.protocol.proofs.Tests.{tests, by-test, each}
+use Rattle.protocol.proofs.Booleans.{tests, by-test, each}
 use Rattle.protocol.proofs.Changes.{block-table, block-count, block-replica, block-old}
 use Rattle.protocol.proofs.Formed.{Formed, sizes}
 use Rattle.protocol.proofs.Opened.{Opened, opened-formed}
-use Rattle.protocol.proofs.Line.{Line, self}
+use Rattle.protocol.proofs.Ancestors.{Ancestor, self}
 use Rattle.protocol.proofs.Meeting.{Quorum}
 use Rattle.protocol.proofs.Safety.{Proposed, Choosable, Chosen, CertificateSafe, clause, ReplicaSafe, OneProposal, Safe}
 use Rattle.protocol.proofs.Moves.{Moves, certificate-after, replica-after}
@@ -139,8 +139,8 @@ one-proposal m safe x y =
     (x .holds .view ∙ sym (y .holds .view))
     ∙ y .holds .block
 
-pub chosen-line : (m : Memory) → Safe m → {v b w c : ℕ} → Chosen m v b → Chosen m w c → v ≤ w → Line (parent m) b c
-chosen-line m safe {v} {b} {w} {c} hb hc le =
+pub chosen-ancestor : (m : Memory) → Safe m → {v b w c : ℕ} → Chosen m v b → Chosen m w c → v ≤ w → Ancestor (parent m) b c
+chosen-ancestor m safe {v} {b} {w} {c} hb hc le =
     let p = chosen-proposal m safe hb in
     let q = chosen-proposal m safe hc in
     by-test (eqb v w)
@@ -152,4 +152,4 @@ chosen-line m safe {v} {b} {w} {c} hb hc le =
     let prop = clause m (certificate m (x .number)) PROP (x .holds .kind) (safe .log (x .number) (x .issued)) in
     let view = x .holds .view in
     let a = rw (x .holds .block) at (prop .chain v (p .positive) (omega tests) (chosen-choosable m hb)) in
-    rw (one-proposal m safe (p .proposed) (a .proposed)) (a .line))
+    rw (one-proposal m safe (p .proposed) (a .proposed)) (a .ancestor))

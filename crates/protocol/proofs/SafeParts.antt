@@ -4,10 +4,10 @@ use mathlib.Core.Path.{_≡_}
 use mathlib.Core.Logic.{_≢_, _⊎_, inl, inr, ⊎-elim}
 use native.Mathlib.Omega.{arith}
 use lib.Dec.{eqb}
-use Rattle.protocol.proofs.Tests.{tests, by-test}
+use Rattle.protocol.proofs.Booleans.{tests, by-test}
 use Rattle.protocol.specs.Memory.{Memory, Replica, Certificate, replica, certificate, parent, live}
 use Rattle.protocol.specs.Certificates.{PROP, COMMIT}
-use Rattle.protocol.proofs.Line.{Line, self, up}
+use Rattle.protocol.proofs.Ancestors.{Ancestor, self, up}
 use Rattle.protocol.proofs.Safety.{Proposed, Committed, Origin, Choosable, Chosen, Ancestor, clause, ReplicaSafe, Safe}
 use Rattle.protocol.proofs.Moves.{Moves, origin-after, chosen-after, choosable-before}
 use Rattle.protocol.proofs.Acts.{Acts, committed-same}
@@ -54,12 +54,12 @@ pub extend : (m : Memory) → Safe m → (g p b v : ℕ) → Proposed m g p → 
     → Ancestor m v b
 extend m safe g p b v x n e positive le ch =
     by-test (eqb v g)
-    (λ t. let q : v ≡ g = omega tests in record { block = p; proposed = rw q x; line = above self })
+    (λ t. let q : v ≡ g = omega tests in record { block = p; proposed = rw q x; ancestor = above self })
     (λ t.
     let prop = clause m (certificate m (x .number)) PROP (x .holds .kind) (safe .log (x .number) (x .issued)) in
     let view = x .holds .view in
     let a = rw (x .holds .block) at (prop .chain v positive (omega tests) ch) in
-    record { block = a .block; proposed = a .proposed; line = above (a .line) })
+    record { block = a .block; proposed = a .proposed; ancestor = above (a .ancestor) })
   where
-    above : {a : ℕ} → Line (parent m) a p → Line (parent m) a b
+    above : {a : ℕ} → Ancestor (parent m) a p → Ancestor (parent m) a b
     above w = up n (rw e w)

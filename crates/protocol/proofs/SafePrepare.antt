@@ -15,7 +15,7 @@ use Rattle.protocol.specs.Certificates.{PROP, COMMIT, ACC}
 use Rattle.protocol.specs.Leader.{leads}
 use Rattle.protocol.specs.Quorum.{every, isIssued, allIssued, certificatesOf, isCommitQuorum}
 use Rattle.protocol.specs.Calls.{numbersOf, isSized, proposalView, justifiedBlock, isJustified, prepare}
-use Rattle.protocol.proofs.Tests.{tests, and-true, each}
+use Rattle.protocol.proofs.Booleans.{tests, and-true, each}
 use Rattle.protocol.proofs.Needs.{Holds}
 use Rattle.protocol.proofs.Keeps.{issuing-needs}
 use Rattle.protocol.proofs.LeavesForm.{prepare-leaves}

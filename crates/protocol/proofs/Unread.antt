@@ -22,7 +22,7 @@ use Rattle.protocol.specs.Calls.{block, prepare, store, view, accumulate
 use Rattle.protocol.specs.Calls.{recover}
 use Rattle.protocol.specs.Runs.{ruleOf, step}
 use Rattle.protocol.specs.Theorems.{Alike, SameAnswer, PastCountsUnread}
-use Rattle.protocol.proofs.Tests.{by-test, by-cond}
+use Rattle.protocol.proofs.Booleans.{by-test, by-cond}
 use Rattle.protocol.proofs.Needs.{Holds}
 use Rattle.protocol.proofs.Rules.{needs-hold}
 use Rattle.protocol.proofs.Words.{withinRow, set-alike}

@@ -16,7 +16,7 @@ use Rattle.protocol.specs.Calls.{issuing, retires, opening, block, prepa
 use Rattle.protocol.specs.Calls.{reserve, request, reply, recover}
 use Rattle.protocol.specs.Runs.{ruleOf, step}
 use Rattle.protocol.specs.Theorems.{Fits, ValuesFit}
-use Rattle.protocol.proofs.Tests.{tests, by-test, by-cond, and-true, each}
+use Rattle.protocol.proofs.Booleans.{tests, by-test, by-cond, and-true, each}
 use Rattle.protocol.proofs.Needs.{Holds}
 use Rattle.protocol.proofs.Rules.{needs-hold}
 use Rattle.protocol.proofs.Formed.{formed}

@@ -9,7 +9,7 @@ use lib.ListN.{length, getD, set, length-set, List·getD-eq-default}
 use lib.Seq.{sets, getD-set-same, getD-set-other}
 use lib.Dec.{ltb, eqb}
 use Rattle.protocol.specs.Memory.{Assignment, _becomes_, assign, replicaWords}
-use Rattle.protocol.proofs.Tests.{tests, by-test, and-true}
+use Rattle.protocol.proofs.Booleans.{tests, by-test, and-true}
 
 -- ---- words of a row
 

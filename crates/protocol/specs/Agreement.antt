@@ -10,11 +10,11 @@ use Rattle.protocol.specs.Memory.{Memory, replicaCount, certificateCount
 use Rattle.protocol.specs.Ancestry.{isAncestorBy}
 use Rattle.protocol.specs.Runs.{Invocation, step, run}
 use Rattle.protocol.specs.Theorems.{Accepted}
-use Rattle.protocol.specs.History.{Event, reopened, decided, history, givenParent, latest, latestBlock, latestView, panel}
+use Rattle.protocol.specs.History.{Event, reopened, decided, history, givenParent, highest, decisionBlock, decisionView, panel}
 
 -- One of two blocks is in the other's line, by the parents given.
-abbrev pub OneLine : List Event → ℕ → ℕ → Type 0
-OneLine events b c = (isAncestorBy (givenParent events) b c ≡ true) ⊎ (isAncestorBy (givenParent events) c b ≡ true)
+abbrev pub OneChain : List Event → ℕ → ℕ → Type 0
+OneChain events b c = (isAncestorBy (givenParent events) b c ≡ true) ⊎ (isAncestorBy (givenParent events) c b ≡ true)
 
 -- At every event of a history, for every replica, the panel after it is at least the panel before it.
 abbrev pub PanelsRise : List Event → Type 0
@@ -23,17 +23,17 @@ PanelsRise (e ∷ past) = ((i : ℕ) → panel past i ≤ panel (e ∷ past) i) 
 
 -- (a) of the blocks that any two accepted Decides named, one is in the other's line; (b) no panel's height falls.
 pub record Agreed (events : List Event) : Type 0 where
-  pub oneLine : (i b v j c w : ℕ) → List·Memᴰ (decided i b v) events → List·Memᴰ (decided j c w) events → OneLine events b c
+  pub oneChain : (i b v j c w : ℕ) → List·Memᴰ (decided i b v) events → List·Memᴰ (decided j c w) events → OneChain events b c
   pub panelsRise : PanelsRise events
 
 -- "The list starts from the memory that an accepted Open leaves, for each f, all fitting lengths and any earlier contents. Each call in
 -- it is one of the other eleven or a refused Open, in any order, with any numbers and lists." Nothing else is assumed.
--- Call this a life of a ledger.
-pub record Life (m : Memory) (f : ℕ) (list : List ℕ) (calls : List Invocation) : Type 0 where
+-- Call this an execution of a ledger.
+pub record Execution (m : Memory) (f : ℕ) (list : List ℕ) (calls : List Invocation) : Type 0 where
   pub opened : Accepted (step m (Open f) list)
   pub once : List·Memᴰ reopened (history [] (step m (Open f) list .memory) calls) → ⊥
 
--- The events of a life, and the memory at its end.
+-- The events of an execution, and the memory at its end.
 abbrev pub eventsOf : Memory → ℕ → List ℕ → List Invocation → List Event
 eventsOf m f list calls = history [] (step m (Open f) list .memory) calls
 
@@ -42,18 +42,18 @@ endOf m f list calls = run (step m (Open f) list .memory) calls
 
 unfoldable pub Agreement : Type 0
 Agreement =
-    (m : Memory) (f : ℕ) (list : List ℕ) (calls : List Invocation) → Life m f list calls → Agreed (eventsOf m f list calls)
+    (m : Memory) (f : ℕ) (list : List ℕ) (calls : List Invocation) → Execution m f list calls → Agreed (eventsOf m f list calls)
 
 -- ---- The link to the words: what the memory holds at the end is what the calls and answers told.
 
 pub record Told (f : ℕ) (events : List Event) (m : Memory) : Type 0 where
   pub parents : (b : ℕ) → b < blockCount m → parent m b ≡ givenParent events b
-  pub views : (i : ℕ) → i < replicaCount f → replica m i .decidedView ≡ latestView (latest events i)
-  pub blocks : (i : ℕ) → i < replicaCount f → replica m i .decidedBlock ≡ latestBlock (latest events i)
+  pub views : (i : ℕ) → i < replicaCount f → replica m i .decidedView ≡ decisionView (highest events i)
+  pub blocks : (i : ℕ) → i < replicaCount f → replica m i .decidedBlock ≡ decisionBlock (highest events i)
 
 unfoldable pub WordsMatchHistory : Type 0
 WordsMatchHistory =
-    (m : Memory) (f : ℕ) (list : List ℕ) (calls : List Invocation) → Life m f list calls
+    (m : Memory) (f : ℕ) (list : List ℕ) (calls : List Invocation) → Execution m f list calls
     → Told f (eventsOf m f list calls) (endOf m f list calls)
 
 -- ---- Certificates and blocks are only ever appended between two openings: those of a memory stand in every later one.
@@ -66,14 +66,14 @@ pub record Extends (m m′ : Memory) : Type 0 where
 
 unfoldable pub OnlyAppended : Type 0
 OnlyAppended =
-    (m : Memory) (f : ℕ) (list : List ℕ) (calls more : List Invocation) → Life m f list calls
+    (m : Memory) (f : ℕ) (list : List ℕ) (calls more : List Invocation) → Execution m f list calls
     → (List·Memᴰ reopened (history [] (endOf m f list calls) more) → ⊥) → Extends (endOf m f list calls) (run (endOf m f list calls) more)
 
--- ---- The stronger form: at the end of a life, the blocks of any two lists that a Decide would accept are of one line, decided or not.
+-- ---- The stronger form: at the end of an execution, the blocks of any two lists that a Decide would accept are of one line, decided or not.
 
 unfoldable pub WouldAgree : Type 0
 WouldAgree =
-    (m : Memory) (f : ℕ) (list : List ℕ) (calls : List Invocation) → Life m f list calls → (i j : ℕ) (l₁ l₂ : List ℕ)
+    (m : Memory) (f : ℕ) (list : List ℕ) (calls : List Invocation) → Execution m f list calls → (i j : ℕ) (l₁ l₂ : List ℕ)
     → Accepted (step (endOf m f list calls) (Decide i) l₁) → Accepted (step (endOf m f list calls) (Decide j) l₂)
-    → OneLine (eventsOf m f list calls) (step (endOf m f list calls) (Decide i) l₁ .answer .first)
+    → OneChain (eventsOf m f list calls) (step (endOf m f list calls) (Decide i) l₁ .answer .first)
     (step (endOf m f list calls) (Decide j) l₂ .answer .first)

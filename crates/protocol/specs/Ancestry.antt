@@ -7,9 +7,9 @@ use Rattle.protocol.specs.Memory.{Memory, parent}
 
 -- "A block is in another's line if it is that block or is in the line of that block's parent; block 0 has only itself in its line."
 -- Whether block a is in the line of block b, at most so many steps up, where each block has the parent that the function gives.
-unfoldable pub inLine : (ℕ → ℕ) → ℕ → ℕ → ℕ → Bool
-inLine parentOf zero a b = eqb a b
-inLine parentOf (suc steps) a b = eqb a b || (not (eqb b 0) && inLine parentOf steps a (parentOf b))
+unfoldable pub ancestorWithin : (ℕ → ℕ) → ℕ → ℕ → ℕ → Bool
+ancestorWithin parentOf zero a b = eqb a b
+ancestorWithin parentOf (suc steps) a b = eqb a b || (not (eqb b 0) && ancestorWithin parentOf steps a (parentOf b))
 
 -- Each parent is below its block, for the blocks below a count.
 abbrev pub Falls : (ℕ → ℕ) → ℕ → Type 0
@@ -18,7 +18,7 @@ Falls parentOf count = (b : ℕ) → b < count → (b ≡ 0 → ⊥) → parentO
 -- In well-formed memory the parents fall, so block b is at most b steps above block 0 and the steps never run out: the code recurses on
 -- the block number itself.
 abbrev pub isAncestorBy : (ℕ → ℕ) → ℕ → ℕ → Bool
-isAncestorBy parentOf a b = inLine parentOf b a b
+isAncestorBy parentOf a b = ancestorWithin parentOf b a b
 
 -- "Height is the number of steps to block 0."
 unfoldable pub stepsToRoot : (ℕ → ℕ) → ℕ → ℕ → ℕ

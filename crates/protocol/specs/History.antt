@@ -52,32 +52,32 @@ givenParent (added number p ∷ past) b = cond (eqb b number) p (givenParent pas
 givenParent (decided i c v ∷ past) b = givenParent past b
 givenParent (other ∷ past) b = givenParent past b
 
--- A replica's latest decision, its shown block and view in document 01: "the block named by its accepted Decide of greatest view so far
--- (the first if several), or block 0 if there is none". The latest is the one of greatest view, whenever it was made.
-pub data Latest : Type 0 where
-  none : Latest
-  _inView_ : ℕ → ℕ → Latest
+-- A replica's highest decision, its shown block and view in document 01: "the block named by its accepted Decide of greatest view so far
+-- (the first if several), or block 0 if there is none".
+pub data Decision : Type 0 where
+  none : Decision
+  _inView_ : ℕ → ℕ → Decision
 
 infix 68 _inView_
-unfoldable pub later : Latest → ℕ → ℕ → Latest
-later none b v = b inView v
-later (c inView w) b v = cond (ltb w v) (b inView v) (c inView w)
+unfoldable pub higher : Decision → ℕ → ℕ → Decision
+higher none b v = b inView v
+higher (c inView w) b v = cond (ltb w v) (b inView v) (c inView w)
 
-unfoldable pub latest : List Event → ℕ → Latest
-latest [] i = none
-latest (reopened ∷ past) i = latest past i
-latest (added number p ∷ past) i = latest past i
-latest (decided j b v ∷ past) i = cond (eqb i j) (later (latest past i) b v) (latest past i)
-latest (other ∷ past) i = latest past i
+unfoldable pub highest : List Event → ℕ → Decision
+highest [] i = none
+highest (reopened ∷ past) i = highest past i
+highest (added number p ∷ past) i = highest past i
+highest (decided j b v ∷ past) i = cond (eqb i j) (higher (highest past i) b v) (highest past i)
+highest (other ∷ past) i = highest past i
 
-abbrev pub latestBlock : Latest → ℕ
-latestBlock none = 0
-latestBlock (b inView v) = b
+abbrev pub decisionBlock : Decision → ℕ
+decisionBlock none = 0
+decisionBlock (b inView v) = b
 
-abbrev pub latestView : Latest → ℕ
-latestView none = 0
-latestView (b inView v) = v
+abbrev pub decisionView : Decision → ℕ
+decisionView none = 0
+decisionView (b inView v) = v
 
 -- "A box's panel shows the height of its shown block"; "lines and heights go by these" parents.
 unfoldable pub panel : List Event → ℕ → ℕ
-panel past i = heightBy (givenParent past) (latestBlock (latest past i))
+panel past i = heightBy (givenParent past) (decisionBlock (highest past i))

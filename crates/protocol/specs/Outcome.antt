@@ -10,8 +10,8 @@ pub record Outcome : Type 0 where
   pub memory : Memory
 
 -- An answer, with what the three slices hold then.
-abbrev pub left : Answer → List ℕ → List ℕ → List ℕ → Outcome
-left a t l b = record { answer = a; memory = memory t l b }
+abbrev pub outcome : Answer → List ℕ → List ℕ → List ℕ → Outcome
+outcome a t l b = record { answer = a; memory = memory t l b }
 
 -- The column "Returned" of the table. 0 is "accepted".
 -- "lengths or form wrong (opening: lengths only)"

@@ -11,7 +11,7 @@ use Rattle.protocol.specs.Form.{lengthsFit, certificateFormed}
 use Rattle.protocol.specs.Certificates.{COMMIT}
 use Rattle.protocol.specs.Quorum.{every, isQuorumSize, isIssued, allIssued, certificatesOf, firstOf, contains}
 use Rattle.protocol.specs.Quorum.{isCommitQuorum}
-use Rattle.protocol.proofs.Tests.{tests, by-test, and-true, each}
+use Rattle.protocol.proofs.Booleans.{tests, by-test, and-true, each}
 use Rattle.protocol.proofs.Formed.{Formed, sizes}
 use Rattle.quorum.specs.Lists.{Listed, Greatest}
 

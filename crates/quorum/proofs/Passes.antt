@@ -12,7 +12,7 @@ use lib.Dec.{ltb, eqb}
 use Rattle.protocol.specs.Memory.{Certificate}
 use Rattle.protocol.specs.Form.{allHold}
 use Rattle.protocol.specs.Quorum.{every, contains, distinct, signers, greatestFrom, greatest}
-use Rattle.protocol.proofs.Tests.{tests, by-test}
+use Rattle.protocol.proofs.Booleans.{tests, by-test}
 use Rattle.quorum.specs.Signers.{holds}
 use Rattle.quorum.specs.Lists.{certificateIn, certificatesIn, isQuorum, Greatest}
 use Rattle.quorum.proofs.Bits.{holds-none, holds-with}

@@ -10,7 +10,7 @@ use Rattle.protocol.specs.Memory.{update}
 use Rattle.protocol.specs.Quorum.{certificatesOf, isReplyQuorum, greatest}
 use Rattle.protocol.specs.Outcome.{firstRefusal, follow, wrongStatus, wrongCertificate, counterLimit}
 use Rattle.protocol.specs.Calls.{recover}
-use Rattle.protocol.proofs.Tests.{tests}
+use Rattle.protocol.proofs.Booleans.{tests}
 use Rattle.layout.proofs.Within.{certificate-bounds}
 use Rattle.quorum.specs.Lists.{Greatest}
 use Rattle.quorum.proofs.Accepted.{greatest-issued}

@@ -5,7 +5,7 @@ ghost use Prim.Native.Nat.{ℕ, _+_, _≤_, max};
 ghost use lib.ListN.{length};
 ghost use Rattle.protocol.specs.Memory.{rowAt, replicaWords, assign};
 ghost use Rattle.protocol.specs.Certificates.{reqOf, replyOf};
-ghost use Rattle.protocol.specs.Outcome.{left, firstRefusal, outcomeBy};
+ghost use Rattle.protocol.specs.Outcome.{outcome, firstRefusal, outcomeBy};
 ghost use Rattle.protocol.specs.Calls.{issuing, request as requestRule, reply as replyRule, recover as recoverRule};
 ghost use Rattle.certificates.specs.Filing.{LogFits, certificateOf};
 ghost use Rattle.records.specs.Replicas.{replicaOf};
@@ -45,7 +45,7 @@ fn raise_min_view(table: &mut [u32], replica: u32, min_view: u32, view: u32)
 // Issues a certificate; the replica's lowest view rises to the certificate's view where that is above it. A REQ's view is the lowest view.
 fn issue(table: &mut [u32], log: &mut [u32], replica: u32, min_view: u32, c: Certificate) -> Answer
     requires { ⌜ LogFits (now table) (now log) × (rowAt replica + replicaWords ≤ length (now table)) ⌝ }
-    ensures { λ r. ⌜ ((b : List ℕ) → left r (now (table .exit)) (now (log .exit)) b
+    ensures { λ r. ⌜ ((b : List ℕ) → outcome r (now (table .exit)) (now (log .exit)) b
         ≡ outcomeBy (λ m. issuing m [] replica (raising «min_view» (c .view)) (certificateOf c))
         (now (table .entry)) (now (log .entry)) b) ⌝ }
 {
@@ -74,7 +74,7 @@ fn req(replica: u32, r: Replica) -> Certificate
 
 // A restarted replica asks the others.
 pub fn request(table: &mut [u32], log: &mut [u32], blocks: &mut [u32], replica: u32) -> Answer
-    ensures { λ r. ⌜ left r (now (table .exit)) (now (log .exit)) (now (blocks .exit))
+    ensures { λ r. ⌜ outcome r (now (table .exit)) (now (log .exit)) (now (blocks .exit))
         ≡ outcomeBy (λ m. requestRule m replica) (now (table .entry)) (now (log .entry)) (now (blocks .entry)) ⌝ }
 {
     let refusal = checks::replica_refusal(table, log, blocks, replica);
@@ -131,7 +131,7 @@ pub fn reply(
     replica: u32,
     number: u32,
 ) -> Answer
-    ensures { λ r. ⌜ left r (now (table .exit)) (now (log .exit)) (now (blocks .exit))
+    ensures { λ r. ⌜ outcome r (now (table .exit)) (now (log .exit)) (now (blocks .exit))
         ≡ outcomeBy (λ m. replyRule m replica number) (now (table .entry)) (now (log .entry)) (now (blocks .entry)) ⌝ }
 {
     let refusal = checks::number_refusal(table, log, blocks, replica, number);
@@ -172,7 +172,7 @@ pub fn recover(
     replica: u32,
     list: &[u32],
 ) -> Answer
-    ensures { λ r. ⌜ left r (now (table .exit)) (now (log .exit)) (now (blocks .exit))
+    ensures { λ r. ⌜ outcome r (now (table .exit)) (now (log .exit)) (now (blocks .exit))
         ≡ outcomeBy (λ m. recoverRule m replica (now (list .entry))) (now (table .entry)) (now (log .entry)) (now (blocks .entry)) ⌝ }
 {
     let refusal = checks::list_refusal(table, log, blocks, replica, list);

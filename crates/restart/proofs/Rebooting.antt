@@ -10,7 +10,7 @@ use Rattle.protocol.specs.Memory.{Memory, memory, rowAt, statusAt, recovering, 
 use Rattle.protocol.specs.Counter.{counterStep}
 use Rattle.protocol.specs.Outcome.{firstRefusal, follow}
 use Rattle.protocol.specs.Calls.{retires, reboot}
-use Rattle.protocol.proofs.Tests.{tests}
+use Rattle.protocol.proofs.Booleans.{tests}
 use Rattle.checks.specs.Needs.{replicaNeeds}
 use Rattle.checks.proofs.Ready.{Ready}
 use Rattle.layout.proofs.Within.{replica-bounds}

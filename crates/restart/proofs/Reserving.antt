@@ -9,7 +9,7 @@ use Rattle.protocol.specs.Memory.{Memory, memory, rowAt, viewLimitAt, replica, 
 use Rattle.protocol.specs.Counter.{counterStep}
 use Rattle.protocol.specs.Outcome.{firstRefusal, follow}
 use Rattle.protocol.specs.Calls.{reserve}
-use Rattle.protocol.proofs.Tests.{tests}
+use Rattle.protocol.proofs.Booleans.{tests}
 use Rattle.checks.specs.Needs.{replicaNeeds}
 use Rattle.checks.proofs.Ready.{Ready, further}
 use Rattle.layout.proofs.Within.{replica-bounds}

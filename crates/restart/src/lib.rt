@@ -1,6 +1,6 @@
 // The two calls that move a replica's counter on (document 01, "Calls"): reboot and reserve.
 ghost use mathlib.Core.Path.{_≡_};
-ghost use Rattle.protocol.specs.Outcome.{left, firstRefusal, outcomeBy};
+ghost use Rattle.protocol.specs.Outcome.{outcome, firstRefusal, outcomeBy};
 ghost use Rattle.protocol.specs.Calls.{reserve as reserveRule, reboot as rebootRule};
 ghost use Rattle.records.specs.Replicas.{replicaOf};
 ghost use Rattle.restart.specs.Tests.{reserveTests, retiring};
@@ -26,7 +26,7 @@ fn retires(r: Replica, boot: u32, limit: u32) -> bool
 
 // A power cut: the replica starts again above every view in which it can have proposed, stored or entered, or is retired.
 pub fn reboot(table: &mut [u32], log: &mut [u32], blocks: &mut [u32], replica: u32) -> Answer
-    ensures { λ r. ⌜ left r (now (table .exit)) (now (log .exit)) (now (blocks .exit))
+    ensures { λ r. ⌜ outcome r (now (table .exit)) (now (log .exit)) (now (blocks .exit))
         ≡ outcomeBy (λ m. rebootRule m replica) (now (table .entry)) (now (log .entry)) (now (blocks .entry)) ⌝ }
 {
     let refusal = checks::replica_refusal(table, log, blocks, replica);
@@ -59,7 +59,7 @@ fn reserve_refusal(r: Replica, limit: u32) -> u32
 
 // The counter moves, and with it the view limit.
 pub fn reserve(table: &mut [u32], log: &mut [u32], blocks: &mut [u32], replica: u32) -> Answer
-    ensures { λ r. ⌜ left r (now (table .exit)) (now (log .exit)) (now (blocks .exit))
+    ensures { λ r. ⌜ outcome r (now (table .exit)) (now (log .exit)) (now (blocks .exit))
         ≡ outcomeBy (λ m. reserveRule m replica) (now (table .entry)) (now (log .entry)) (now (blocks .entry)) ⌝ }
 {
     let refusal = checks::replica_refusal(table, log, blocks, replica);

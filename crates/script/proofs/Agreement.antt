@@ -18,7 +18,7 @@ use Rattle.protocol.specs.Runs.{Invocation, ruleOf, step, run}
 use Rattle.protocol.specs.Theorems.{Accepted, RefusedChangesNothing, LengthsStay}
 use Rattle.protocol.specs.History.{Event, reopened, other, acceptedEvent, eventOf, history}
 use Rattle.protocol.specs.Agreement.{Agreement}
-use Rattle.protocol.proofs.Tests.{tests, by-test, by-cond, each}
+use Rattle.protocol.proofs.Booleans.{tests, by-test, by-cond, each}
 use Rattle.protocol.proofs.Needs.{no-refusal}
 use Rattle.protocol.proofs.Rules.{needs-hold, refused-changes-nothing}
 use Rattle.protocol.proofs.Frame.{lengths-stay}
@@ -29,7 +29,7 @@ use Rattle.codes.specs.Codes.{isPlain, when, codeTable, codedCall}
 use Rattle.script.specs.Session.{Session, lentLength, lent, codeIn, replicaIn, numberIn, listIn, openCode, Answered, unchanged}
 use Rattle.script.specs.Session.{answerLine}
 use Rattle.script.specs.Agreement.{numbersIn, eventTable, acceptedLine, lineEvent, lineHistory, sessionAfter}
-use Rattle.script.specs.Agreement.{ScriptsAgree, ledgerOf, ScriptIsLife}
+use Rattle.script.specs.Agreement.{ScriptsAgree, ledgerOf, ScriptIsExecution}
 use Rattle.script.proofs.Lending.{lends}
 use Rattle.script.proofs.Ways.{lineLeaves, put-back, lentFor, made, by-line}
 
@@ -85,7 +85,7 @@ abbrev Full : ℕ → Memory → Type 0
 Full f m = length (lent f m .table) ≡ lentLength f
 
 -- What a call leaves of what is lent for f is the ledger, where f is then in use.
-record Left (o : Outcome) (s : Session) : Type 0 where
+record Carried (o : Outcome) (s : Session) : Type 0 where
   memory : o .memory ≡ ledgerOf s
   full : Full (s .faultBound) (s .memory)
 
@@ -94,10 +94,10 @@ taken-back : (s : Session) (f : ℕ) (o : Outcome) → length (o .memory .table)
     → lent f (lineLeaves s f o .session .memory) ≡ o .memory
 taken-back s f o long = rw (← long, take-append-seam)
 
-left : (s : Session) (f : ℕ) (call : Call) (list : List ℕ) → Full f (s .memory)
-    → let o = step (lent f (s .memory)) call list in lineLeaves s f o .session .faultBound ≡ f → Left o (lineLeaves s f o .session)
+carried : (s : Session) (f : ℕ) (call : Call) (list : List ℕ) → Full f (s .memory)
+    → let o = step (lent f (s .memory)) call list in lineLeaves s f o .session .faultBound ≡ f → Carried o (lineLeaves s f o .session)
 unfolding LengthsStay
-left s f call list full inUse =
+carried s f call list full inUse =
     let o = step (lent f (s .memory)) call list in
     let long = lengths-stay (lent f (s .memory)) call list .table ∙ full in
     let same = taken-back s f o long in
@@ -107,7 +107,7 @@ left s f call list full inUse =
 record Made (s : Session) (line : List ℕ) (x : Answered) : Type 0 where
   invocation : Invocation
   event : eventOf (invocation .call) (step (ledgerOf s) (invocation .call) (invocation .list) .answer) ≡ lineEvent line (x .answer)
-  left : Left (step (ledgerOf s) (invocation .call) (invocation .list)) (x .session)
+  carried : Carried (step (ledgerOf s) (invocation .call) (invocation .list)) (x .session)
 
 module _ (s : Session) (full : Full (s .faultBound) (s .memory)) (line : List ℕ) where
   -- A line that is not accepted does no more than an opening for f = 0, which is refused.
@@ -117,7 +117,7 @@ module _ (s : Session) (full : Full (s .faultBound) (s .memory)) (line : List �
       record {
         invocation = record { call = Open 0; list = [] };
         event = rw (ne-eqb n 0 h) refl;
-        left = record { memory = refl; full = full };
+        carried = record { memory = refl; full = full };
       }
 
   -- A call on the ledger of the f in use.
@@ -132,7 +132,7 @@ module _ (s : Session) (full : Full (s .faultBound) (s .memory)) (line : List �
       (record {
         invocation = record { call = call; list = list };
         event = rw (told a);
-        left = left s (s .faultBound) call list full inUse;
+        carried = carried s (s .faultBound) call list full inUse;
       })
 
   -- An opening that is not accepted.
@@ -178,11 +178,11 @@ runs past s (line ∷ lines) full once =
     let x = answerLine s line in
     let e = lineEvent line (x .answer) in
     let now = line-made s full line (λ again. once (kept (x .session) lines (List·Memᴰ·head (sym again)))) in
-    let then = runs (e ∷ past) (x .session) lines (now .left .full) once in
+    let then = runs (e ∷ past) (x .session) lines (now .carried .full) once in
     record {
       calls = now .invocation ∷ then .calls;
-      events = rw (now .event, now .left .memory) (then .events);
-      memory = rw (now .left .memory) (then .memory);
+      events = rw (now .event, now .carried .memory) (then .events);
+      memory = rw (now .carried .memory) (then .memory);
     }
 
 -- ---- the opening
@@ -190,7 +190,7 @@ runs past s (line ∷ lines) full once =
 -- An accepted opening leaves a ledger of its f.
 record Starts (s : Session) (f : ℕ) (list : List ℕ) (x : Answered) : Type 0 where
   opened : Accepted (step (lent f (s .memory)) (Open f) list)
-  left : Left (step (lent f (s .memory)) (Open f) list) (x .session)
+  carried : Carried (step (lent f (s .memory)) (Open f) list) (x .session)
 
 starts : (s : Session) (f g : ℕ) (call : Call) (list : List ℕ) → g ≡ f → call ≡ Open f
     → let o = step (lent g (s .memory)) call list in Accepted o → Starts s f list (lineLeaves s g o)
@@ -201,7 +201,7 @@ starts s f g call list same is-open accepted =
     let h = needs-hold m (Open f) list (no-refusal m (ruleOf m (Open f) list) a) in
     let fit = each _ (h .1 .0) in
     let long : length (m .table) ≡ tableLength f = omega tests in
-    rw (same, is-open) (record { opened = a; left = left s f (Open f) list (lends f (h .0) long .0) (rw a refl) })
+    rw (same, is-open) (record { opened = a; carried = carried s f (Open f) list (lends f (h .0) long .0) (rw a refl) })
 
 line-starts : (s : Session) (line : List ℕ) → codeIn (numbersIn line) ≡ openCode → answerLine s line .answer .number ≡ 0
     → Starts s (replicaIn (numbersIn line)) (listIn (numbersIn line)) (answerLine s line)
@@ -213,20 +213,20 @@ line-starts s line code =
 
 -- ---- the theorems
 
-pub script-is-life : ScriptIsLife
-unfolding ScriptIsLife
-script-is-life s opening lines h =
+pub script-is-execution : ScriptIsExecution
+unfolding ScriptIsExecution
+script-is-execution s opening lines h =
     let start = line-starts s opening (h .opens) (h .accepted) in
-    let all = runs [] (answerLine s opening .session) lines (start .left .full) (h .once) in
-    let events = rw (← start .left .memory) at (all .events) in
+    let all = runs [] (answerLine s opening .session) lines (start .carried .full) (h .once) in
+    let events = rw (← start .carried .memory) at (all .events) in
     record {
       calls = all .calls;
-      life = record { opened = start .opened; once = rw events (h .once) };
+      execution = record { opened = start .opened; once = rw events (h .once) };
       events = events;
-      memory = rw (← start .left .memory) at (all .memory);
+      memory = rw (← start .carried .memory) at (all .memory);
     }
 
 pub scripts-agree : ScriptsAgree
-unfolding ScriptsAgree ScriptIsLife Agreement
+unfolding ScriptsAgree ScriptIsExecution Agreement
 scripts-agree s opening lines h =
-    let l = script-is-life s opening lines h in rw (l .events) at (agreement _ _ _ (l .calls) (l .life))
+    let l = script-is-execution s opening lines h in rw (l .events) at (agreement _ _ _ (l .calls) (l .execution))

@@ -5,7 +5,7 @@ use mathlib.Core.Bool.{true, false}
 use mathlib.Core.List.{List}
 use lib.ListN.{take}
 use Rattle.protocol.specs.declared.Answer.{Answer}
-use Rattle.protocol.proofs.Tests.{tests, by-test}
+use Rattle.protocol.proofs.Booleans.{tests, by-test}
 use Rattle.reader.specs.declared.Read.{Read}
 use Rattle.reader.specs.declared.Read.the-variants.{Number, Refused}
 use Rattle.reader.specs.Reading.{refusalOf}

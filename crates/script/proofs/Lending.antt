@@ -10,8 +10,8 @@ use borrow.Author.Tests.{eq-eqb, ne-eqb}
 use Rattle.protocol.specs.declared.Answer.{Answer}
 use Rattle.protocol.specs.Memory.{memory, tableLength}
 use Rattle.protocol.specs.Form.{isFaultBound}
-use Rattle.protocol.specs.Outcome.{Outcome, left}
-use Rattle.protocol.proofs.Tests.{tests, each}
+use Rattle.protocol.specs.Outcome.{Outcome, outcome}
+use Rattle.protocol.proofs.Booleans.{tests, each}
 use Rattle.ledger.specs.Called.{called}
 use Rattle.script.specs.Session.{Session, Answered, leaves, maxTable, lentLength, listField, codeIn, replicaIn, numberIn}
 use Rattle.script.specs.Session.{listIn, faultBoundFor, lending, answerNumbers}
@@ -31,12 +31,12 @@ list-part given = take-all (length given - listField) (listIn given) (omega (tes
 
 -- What a call leaves of the part of a table that is lent for f, beside the rest.
 abbrev pub beside : List ℕ → ℕ → Outcome → Outcome
-beside table f o = left (o .answer) (o .memory .table ++ drop (lentLength f) table) (o .memory .log) (o .memory .blocks)
+beside table f o = outcome (o .answer) (o .memory .table ++ drop (lentLength f) table) (o .memory .log) (o .memory .blocks)
 
 pub lent-call : (t l b given : List ℕ) (f : ℕ) {a : Answer} {t′ l′ b′ : List ℕ} {r : ℕ} → r ≡ lentLength f
-    → left a t′ l′ b′
+    → outcome a t′ l′ b′
     ≡ called (memory (take r t) l b) (codeIn given) (replicaIn given) (numberIn given) (take (length given - listField) (listIn given))
-    → left a (t′ ++ drop r t) l′ b′ ≡ lending f (memory t l b) given
+    → outcome a (t′ ++ drop r t) l′ b′ ≡ lending f (memory t l b) given
 unfolding lending
 lent-call t l b given f e o = rw e (ap (beside t f) (rw (e, list-part given) at o))
 
@@ -47,15 +47,15 @@ after s f o =
     record { answer = o .answer; session = record { faultBound = inUse; memory = o .memory } }
 
 module _ (s : Session) (given : List ℕ) {f : ℕ} (e : f ≡ faultBoundFor (s .faultBound) (codeIn given) (replicaIn given)) where
-  answered : {a : Answer} {t l b : List ℕ} {inUse : ℕ} → left a t l b ≡ lending f (s .memory) given
+  answered : {a : Answer} {t l b : List ℕ} {inUse : ℕ} → outcome a t l b ≡ lending f (s .memory) given
       → inUse ≡ cond (eqb (a .number) 0) f (s .faultBound) → leaves a inUse t l b ≡ answerNumbers s given
   unfolding answerNumbers
   answered o x = rw x (ap (after s f) o ∙ rw e refl)
 
-  pub accepted : {a : Answer} {t l b : List ℕ} → left a t l b ≡ lending f (s .memory) given → a .number ≡ 0
+  pub accepted : {a : Answer} {t l b : List ℕ} → outcome a t l b ≡ lending f (s .memory) given → a .number ≡ 0
       → leaves a f t l b ≡ answerNumbers s given
   accepted o n = answered o (rw (eq-eqb _ _ n) refl)
 
-  pub refused : {a : Answer} {t l b : List ℕ} → left a t l b ≡ lending f (s .memory) given → (a .number ≡ 0 → ⊥)
+  pub refused : {a : Answer} {t l b : List ℕ} → outcome a t l b ≡ lending f (s .memory) given → (a .number ≡ 0 → ⊥)
       → leaves a (s .faultBound) t l b ≡ answerNumbers s given
   refused o n = answered o (rw (ne-eqb _ _ n) refl)

@@ -9,7 +9,7 @@ use Rattle.protocol.specs.Memory.{Memory}
 use Rattle.protocol.specs.Form.{allHold, wellFormed}
 use Rattle.protocol.specs.Outcome.{Outcome, wrongForm}
 use Rattle.protocol.specs.Theorems.{RefusedChangesNothing, Fits, ValuesFit}
-use Rattle.protocol.proofs.Tests.{tests}
+use Rattle.protocol.proofs.Booleans.{tests}
 use Rattle.protocol.proofs.Rules.{refused-changes-nothing}
 use Rattle.protocol.proofs.Values.{values-fit}
 use Rattle.ledger.proofs.Calling.{called-formless}

@@ -9,7 +9,7 @@ use borrow.Author.Tests.{ne-eqb}
 use Rattle.protocol.specs.declared.Call.{Call}
 use Rattle.protocol.specs.Outcome.{Outcome, unreadable}
 use Rattle.protocol.specs.Runs.{step}
-use Rattle.protocol.proofs.Tests.{tests, by-cond}
+use Rattle.protocol.proofs.Booleans.{tests, by-cond}
 use Rattle.protocol.proofs.Needs.{refusal}
 use Rattle.codes.specs.declared.Coded.{Coded}
 use Rattle.codes.specs.declared.Coded.the-variants.{Of}

@@ -9,7 +9,7 @@ use Rattle.protocol.specs.declared.Answer.{Answer}
 use Rattle.protocol.specs.Memory.{Memory}
 use Rattle.protocol.specs.Runs.{Invocation}
 use Rattle.protocol.specs.History.{Event, reopened, added, decided, other}
-use Rattle.protocol.specs.Agreement.{Agreed, Life, eventsOf, endOf}
+use Rattle.protocol.specs.Agreement.{Agreed, Execution, eventsOf, endOf}
 use Rattle.script.specs.Lines.{fieldCount, numbers}
 use Rattle.script.specs.Session.{Session, lent, codeIn, replicaIn, numberIn, listIn, openCode, answerLine}
 
@@ -82,11 +82,11 @@ ledgerOf s = lent (s .faultBound) (s .memory)
 -- takes for each line its own call, or an opening of f = 0, which is refused, where the line makes none or is a refused opening.)
 pub record LifeOf (s : Session) (opening : List ℕ) (lines : List (List ℕ)) (f : ℕ) (list : List ℕ) : Type 0 where
   pub calls : List Invocation
-  pub life : Life (lent f (s .memory)) f list calls
+  pub execution : Execution (lent f (s .memory)) f list calls
   pub events : eventsOf (lent f (s .memory)) f list calls ≡ toldAfter s opening lines
   pub memory : endOf (lent f (s .memory)) f list calls ≡ ledgerOf (sessionAfter (answerLine s opening .session) lines)
 
-unfoldable pub ScriptIsLife : Type 0
-ScriptIsLife =
+unfoldable pub ScriptIsExecution : Type 0
+ScriptIsExecution =
     (s : Session) (opening : List ℕ) (lines : List (List ℕ)) → OpenedOnce s opening lines
     → LifeOf s opening lines (replicaIn (numbersIn opening)) (listIn (numbersIn opening))

@@ -5,7 +5,7 @@ ghost use mathlib.Core.Bool.{true};
 ghost use mathlib.Core.List.{_++_};
 ghost use lib.ListN.{length, take};
 ghost use Rattle.protocol.specs.Memory.{memory};
-ghost use Rattle.protocol.specs.Outcome.{left};
+ghost use Rattle.protocol.specs.Outcome.{outcome};
 ghost use Rattle.field.specs.Field.{columns, maxNumber, fieldOf};
 ghost use Rattle.script.specs.Lines.{minFields, maxFields, fieldCount, numbers, hasNumbers, countOf};
 ghost use Rattle.script.specs.Session.{
@@ -102,7 +102,7 @@ fn call_lent(
     given: &[u32],
 ) -> Answer
     requires { ⌜ (length (now table) ≡ maxTable) × (minFields ≤ length (now given)) ⌝ }
-    ensures { λ r. ⌜ left r (now (table .exit)) (now (log .exit)) (now (blocks .exit))
+    ensures { λ r. ⌜ outcome r (now (table .exit)) (now (log .exit)) (now (blocks .exit))
         ≡ lending f (memory (now (table .entry)) (now (log .entry)) (now (blocks .entry))) (now (given .entry)) ⌝ }
 {
     let lent = lent_length(f);

@@ -2,7 +2,7 @@
 use native.Mathlib.Omega.{arith}
 use mathlib.Core.Path.{refl, sym, _∙_}
 use borrow.Author.Needs.{needs}
-use Rattle.protocol.proofs.Tests.{tests}
+use Rattle.protocol.proofs.Booleans.{tests}
 use Rattle.checks.proofs.Ready.{stopped, further, last}
 use Rattle.checks.proofs.Ends.{list-by, row-within, all-listed, some-there, first-there, stops, passes}
 use Rattle.accumulator.specs.Needs.{accumulateNeeds}

@@ -1,6 +1,6 @@
 -- The decided words are written, or stay.
 use borrow.Author.Needs.{needs}
-use Rattle.protocol.proofs.Tests.{tests}
+use Rattle.protocol.proofs.Booleans.{tests}
 use lib.Dec.{ltb}
 use mathlib.Core.Bool.{true, false}
 use mathlib.Core.Path.{_≡_}

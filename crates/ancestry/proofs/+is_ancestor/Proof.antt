@@ -6,7 +6,7 @@ use borrow.Author.Needs.{needs}
 use borrow.Fn.Kinds.{In}
 use borrow.Fn.PlainCycle.{Measures, is, falls, and}
 use Rattle.ancestry.proofs.Fitting.{parent-fits}
-use Rattle.ancestry.proofs.Walks.{line-ends, line-goes-on}
+use Rattle.ancestry.proofs.Walks.{walk-ends, walk-goes-on}
 use Rattle.ancestry.proofs.is_ancestor.Reads as reads
 use Rattle.ancestry.proofs.is_ancestor.Kinds as kinds
 use Rattle.ancestry.proofs.+is_ancestor.Lts-is_ancestor as lts
@@ -24,7 +24,7 @@ abbrev asked : ℕ → In 1 kinds.ps
 asked t = and 1 kinds.ps (falls 1 kinds.ps _<_ μ t) reads.Pre
 
 returns : (t : ℕ) → lts.Need-returns (asked t, reads.Post) (given t) reads.Post
-returns t c = sym (line-ends _ _ (c .before .before .pre .1 .falls) _ _ _ (omega arith) (c .if1 .taken))
+returns t c = sym (walk-ends _ _ (c .before .before .pre .1 .falls) _ _ _ (omega arith) (c .if1 .taken))
 
 is-ancestor-requires : (t : ℕ) → lts.Need-is-ancestor-requires (asked t, reads.Post) (given t) reads.Post
 is-ancestor-requires t c κs =
@@ -35,7 +35,7 @@ is-ancestor-requires t c κs =
 returns-2 : (t : ℕ) → lts.Need-returns-2 (asked t, reads.Post) (given t) reads.Post
 returns-2 t c =
     let start = c .before .before .before .before in
-    c .is-ancestor .ensures ∙ sym (line-goes-on _ _ (start .pre .1 .falls) _ _ (omega arith) (omega arith))
+    c .is-ancestor .ensures ∙ sym (walk-goes-on _ _ (start .pre .1 .falls) _ _ (omega arith) (omega arith))
 
 pub +is-ancestor-spec : {M : Type 1} → statement M
 +is-ancestor-spec =

@@ -2,7 +2,7 @@
 use mathlib.Core.Path.{sym, _∙_}
 use native.Mathlib.Omega.{arith}
 use borrow.Author.Needs.{needs}
-use Rattle.protocol.proofs.Tests.{tests}
+use Rattle.protocol.proofs.Booleans.{tests}
 use Rattle.checks.proofs.Ends.{row-within}
 use Rattle.checks.proofs.Issues.{stops-first, stops-further, goes-through}
 use Rattle.records.proofs.Reading.{replica-read}

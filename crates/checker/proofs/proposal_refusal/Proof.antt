@@ -3,7 +3,7 @@ use mathlib.Core.Path.{sym, ap, _∙_}
 use mathlib.Core.Bool.{not}
 use borrow.Author.Needs.{needs}
 use borrow.Author.Tests.{not-true, not-false, eq-eqb, ne-eqb}
-use Rattle.protocol.proofs.Tests.{tests}
+use Rattle.protocol.proofs.Booleans.{tests}
 use Rattle.checks.proofs.Ready.{last}
 use Rattle.checks.proofs.Ends.{stops, passes}
 use Rattle.checker.proofs.proposal_refusal.Statement.{statement}

@@ -2,7 +2,7 @@
 use mathlib.Core.Path.{sym, _∙_}
 use borrow.Author.Needs.{needs}
 use borrow.Author.Tests.{not-true, not-false}
-use Rattle.protocol.proofs.Tests.{tests}
+use Rattle.protocol.proofs.Booleans.{tests}
 use Rattle.checks.proofs.Ready.{last}
 use Rattle.checks.proofs.Ends.{stops, passes}
 use Rattle.checker.proofs.store_refusal.Statement.{statement}

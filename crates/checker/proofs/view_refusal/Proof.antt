@@ -1,5 +1,5 @@
 -- One test after the other, each the rule's next need.
-use Rattle.protocol.proofs.Tests.{tests}
+use Rattle.protocol.proofs.Booleans.{tests}
 use Rattle.checks.proofs.Ready.{last}
 use Rattle.checks.proofs.Ends.{stops, passes}
 use Rattle.checker.proofs.view_refusal.Statement.{statement}

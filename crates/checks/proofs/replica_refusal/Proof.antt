@@ -2,7 +2,7 @@
 use mathlib.Core.Path.{sym, _∙_}
 use native.Mathlib.Omega.{arith}
 use borrow.Author.Needs.{needs}
-use Rattle.protocol.proofs.Tests.{tests}
+use Rattle.protocol.proofs.Booleans.{tests}
 use Rattle.protocol.proofs.Formed.{formed, sizes}
 use Rattle.checks.proofs.Ready.{no-form, no-replica, all-ready}
 use Rattle.checks.proofs.replica_refusal.Statement.{statement}

@@ -1,7 +1,7 @@
 -- The word of the list's first certificate; 0 where there is no list, or the certificate is not issued.
 use native.Mathlib.Omega.{arith}
 use borrow.Author.Needs.{needs}
-use Rattle.protocol.proofs.Tests.{tests}
+use Rattle.protocol.proofs.Booleans.{tests}
 use Rattle.codes.proofs.Claims.{no-list, not-issued, claimed, no-count, past-log}
 use Rattle.codes.proofs.claimed_word.Statement.{statement}
 use Rattle.codes.proofs.claimed_word.Tie as tie

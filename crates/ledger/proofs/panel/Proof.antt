@@ -2,7 +2,7 @@
 use mathlib.Core.Path.{sym, _∙_}
 use native.Mathlib.Omega.{arith}
 use borrow.Author.Needs.{needs}
-use Rattle.protocol.proofs.Tests.{tests}
+use Rattle.protocol.proofs.Booleans.{tests}
 use Rattle.layout.proofs.Within.{replica-bounds}
 use Rattle.ancestry.proofs.Fitting.{ancestry-fits}
 use Rattle.checks.proofs.Ends.{ready-by, row-within}

@@ -1,7 +1,7 @@
 -- Refused; or a REQ is issued, of the replica's own lowest view and boot.
 use native.Mathlib.Omega.{arith}
 use borrow.Author.Needs.{needs}
-use Rattle.protocol.proofs.Tests.{tests}
+use Rattle.protocol.proofs.Booleans.{tests}
 use Rattle.certificates.proofs.Fits.{log-fits}
 use Rattle.checks.proofs.Ready.{last}
 use Rattle.checks.proofs.Ends.{ready-by, row-within, stops}

@@ -4,40 +4,40 @@ use mathlib.Core.Path.{_≡_, refl, ap}
 use mathlib.Core.Bool.{true, false, or-true}
 use native.Mathlib.Omega.{arith}
 use lib.Dec.{eqb}
-use Rattle.protocol.specs.Ancestry.{inLine, Falls, isAncestorBy, stepsToRoot, heightBy}
-use Rattle.protocol.proofs.Tests.{tests, by-test}
+use Rattle.protocol.specs.Ancestry.{ancestorWithin, Falls, isAncestorBy, stepsToRoot, heightBy}
+use Rattle.protocol.proofs.Booleans.{tests, by-test}
 
 -- Block a is block b, or is in the line of b's parent, for b not 0.
-pub data Line (parentOf : ℕ → ℕ) (a : ℕ) : ℕ → Type 0 where
-  self : Line parentOf a a
-  up : {b : ℕ} → (b ≡ 0 → ⊥) → Line parentOf a (parentOf b) → Line parentOf a b
+pub data Ancestor (parentOf : ℕ → ℕ) (a : ℕ) : ℕ → Type 0 where
+  self : Ancestor parentOf a a
+  up : {b : ℕ} → (b ≡ 0 → ⊥) → Ancestor parentOf a (parentOf b) → Ancestor parentOf a b
 
 -- ---- lines are the same where the parents are
 
-pub line-same : (p q : ℕ → ℕ) (count : ℕ) → Falls p count → ((b : ℕ) → b < count → p b ≡ q b) → {a b : ℕ} → b < count → Line p a b
-    → Line q a b
-line-same p q count falls same l self = self
-line-same p q count falls same {a} {b} l (up n w) =
+pub ancestor-same : (p q : ℕ → ℕ) (count : ℕ) → Falls p count → ((b : ℕ) → b < count → p b ≡ q b) → {a b : ℕ} → b < count → Ancestor p a b
+    → Ancestor q a b
+ancestor-same p q count falls same l self = self
+ancestor-same p q count falls same {a} {b} l (up n w) =
     let lower = falls b l n in
     let e = same b l in
-    up n (rw (← e) (line-same p q count falls same (omega arith) w))
+    up n (rw (← e) (ancestor-same p q count falls same (omega arith) w))
 
 -- ---- the test, and the height, by steps: more steps than the block's number change nothing
 
-line-found : (p : ℕ → ℕ) (count : ℕ) → Falls p count → {a b : ℕ} → (steps : ℕ) → b ≤ steps → b < count → Line p a b
-    → inLine p steps a b ≡ true
-unfolding inLine
-line-found p count falls zero le l self = omega tests
-line-found p count falls {a} (suc steps) le l self = let e : eqb a a ≡ true = omega tests in rw e refl
-line-found p count falls {a} {b} zero le l (up n w) = absurd (n (omega arith))
-line-found p count falls {a} {b} (suc steps) le l (up n w) =
+ancestor-found : (p : ℕ → ℕ) (count : ℕ) → Falls p count → {a b : ℕ} → (steps : ℕ) → b ≤ steps → b < count → Ancestor p a b
+    → ancestorWithin p steps a b ≡ true
+unfolding ancestorWithin
+ancestor-found p count falls zero le l self = omega tests
+ancestor-found p count falls {a} (suc steps) le l self = let e : eqb a a ≡ true = omega tests in rw e refl
+ancestor-found p count falls {a} {b} zero le l (up n w) = absurd (n (omega arith))
+ancestor-found p count falls {a} {b} (suc steps) le l (up n w) =
     let lower = falls b l n in
-    let found = line-found p count falls steps (omega arith) (omega arith) w in
+    let found = ancestor-found p count falls steps (omega arith) (omega arith) w in
     let e : eqb b 0 ≡ false = omega tests in
     rw (e, found) (or-true (eqb a b))
 
-pub is-ancestor : (p : ℕ → ℕ) (count : ℕ) → Falls p count → {a b : ℕ} → b < count → Line p a b → isAncestorBy p a b ≡ true
-is-ancestor p count falls {a} {b} l w = line-found p count falls b (omega arith) l w
+pub is-ancestor : (p : ℕ → ℕ) (count : ℕ) → Falls p count → {a b : ℕ} → b < count → Ancestor p a b → isAncestorBy p a b ≡ true
+is-ancestor p count falls {a} {b} l w = ancestor-found p count falls b (omega arith) l w
 
 -- Heights with steps to spare.
 steps-same : (p q : ℕ → ℕ) (count : ℕ) → Falls p count → ((b : ℕ) → b < count → p b ≡ q b) → (b s t : ℕ) → b < count → b ≤ s
@@ -66,10 +66,10 @@ height-up p count falls (suc b) l n =
     rw e (ap (λ (h : ℕ). h + 1) same)
 
 -- An ancestor is not higher.
-pub height-line : (p : ℕ → ℕ) (count : ℕ) → Falls p count → {a b : ℕ} → b < count → Line p a b → heightBy p a ≤ heightBy p b
-height-line p count falls l self = omega arith
-height-line p count falls {a} {b} l (up n w) =
+pub ancestor-height : (p : ℕ → ℕ) (count : ℕ) → Falls p count → {a b : ℕ} → b < count → Ancestor p a b → heightBy p a ≤ heightBy p b
+ancestor-height p count falls l self = omega arith
+ancestor-height p count falls {a} {b} l (up n w) =
     let lower = falls b l n in
     let e = height-up p count falls b l n in
-    let h = height-line p count falls (omega arith) w in
+    let h = ancestor-height p count falls (omega arith) w in
     omega arith

@@ -7,7 +7,7 @@ use lib.Dec.{ltb}
 use Rattle.protocol.specs.declared.Answer.{Answer}
 use Rattle.protocol.specs.Memory.{Memory, replicaCount}
 use Rattle.protocol.specs.Outcome.{outOfRange}
-use Rattle.protocol.specs.Calls.{isReplica}
+use Rattle.protocol.specs.FirstNeeds.{isReplica}
 use Rattle.protocol.specs.Runs.{Invocation}
 use Rattle.protocol.specs.Agreement.{Execution, endOf}
 use Rattle.protocol.proofs.Booleans.{tests, by-test}

@@ -7,7 +7,8 @@ use lib.Dec.{ltb}
 use Rattle.protocol.specs.Memory.{Memory, memory, blockCountAt, blockCount, blockAt, appendBlock}
 use Rattle.protocol.specs.Form.{wellFormed}
 use Rattle.protocol.specs.Outcome.{firstRefusal, follow, wrongForm, unknownNumber, noRoom}
-use Rattle.protocol.specs.Calls.{isBlock, block}
+use Rattle.protocol.specs.FirstNeeds.{isBlock}
+use Rattle.protocol.specs.Calls.{block}
 use Rattle.protocol.proofs.Booleans.{tests}
 use Rattle.protocol.proofs.Needs.{refusal, acceptance, refuses, accepts, fails, holds}
 

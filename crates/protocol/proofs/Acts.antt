@@ -12,7 +12,8 @@ use Rattle.protocol.specs.Memory.{faultBound, certificateCount, blockCou
 use Rattle.protocol.specs.Form.{certificateFormed}
 use Rattle.protocol.specs.Certificates.{PROP, COMMIT, file}
 use Rattle.protocol.specs.Outcome.{Need}
-use Rattle.protocol.specs.Calls.{isReplica, issuing}
+use Rattle.protocol.specs.FirstNeeds.{isReplica}
+use Rattle.protocol.specs.Calls.{issuing}
 use Rattle.protocol.specs.Agreement.{Extends}
 use Rattle.protocol.proofs.Booleans.{tests, by-test, each}
 use Rattle.protocol.proofs.Needs.{Holds}

@@ -13,7 +13,7 @@ use Rattle.protocol.specs.Memory.{assign, update, appendCertificate, app
 use Rattle.protocol.specs.Form.{countsFit, blockFormed, certificateFormed, wellFormed}
 use Rattle.protocol.specs.Certificates.{firstBelow, hasWords, numberFor, isFiled, canFile, file}
 use Rattle.protocol.specs.Quorum.{every, isIssued, allIssued, certificatesOf}
-use Rattle.protocol.specs.Calls.{isBlock}
+use Rattle.protocol.specs.FirstNeeds.{isBlock}
 use Rattle.protocol.specs.Theorems.{SameLengths, Alike}
 use Rattle.protocol.proofs.Booleans.{tests, by-test, and-true, same-below}
 use Rattle.protocol.proofs.Words.{withinRow, set-alike, sets-alike}

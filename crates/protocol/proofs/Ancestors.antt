@@ -8,14 +8,14 @@ use Rattle.protocol.specs.Ancestry.{ancestorWithin, Falls, isAncestorBy,
 use Rattle.protocol.proofs.Booleans.{tests, by-test}
 
 -- Block a is block b, or is in the line of b's parent, for b not 0.
-pub data Ancestor (parentOf : ℕ → ℕ) (a : ℕ) : ℕ → Type 0 where
-  self : Ancestor parentOf a a
-  up : {b : ℕ} → (b ≡ 0 → ⊥) → Ancestor parentOf a (parentOf b) → Ancestor parentOf a b
+pub data IsAncestor (parentOf : ℕ → ℕ) (a : ℕ) : ℕ → Type 0 where
+  self : IsAncestor parentOf a a
+  up : {b : ℕ} → (b ≡ 0 → ⊥) → IsAncestor parentOf a (parentOf b) → IsAncestor parentOf a b
 
 -- ---- lines are the same where the parents are
 
-pub ancestor-same : (p q : ℕ → ℕ) (count : ℕ) → Falls p count → ((b : ℕ) → b < count → p b ≡ q b) → {a b : ℕ} → b < count → Ancestor p a b
-    → Ancestor q a b
+pub ancestor-same : (p q : ℕ → ℕ) (count : ℕ) → Falls p count → ((b : ℕ) → b < count → p b ≡ q b) → {a b : ℕ} → b < count → IsAncestor p a b
+    → IsAncestor q a b
 ancestor-same p q count falls same l self = self
 ancestor-same p q count falls same {a} {b} l (up n w) =
     let lower = falls b l n in
@@ -24,7 +24,7 @@ ancestor-same p q count falls same {a} {b} l (up n w) =
 
 -- ---- the test, and the height, by steps: more steps than the block's number change nothing
 
-ancestor-found : (p : ℕ → ℕ) (count : ℕ) → Falls p count → {a b : ℕ} → (steps : ℕ) → b ≤ steps → b < count → Ancestor p a b
+ancestor-found : (p : ℕ → ℕ) (count : ℕ) → Falls p count → {a b : ℕ} → (steps : ℕ) → b ≤ steps → b < count → IsAncestor p a b
     → ancestorWithin p steps a b ≡ true
 unfolding ancestorWithin
 ancestor-found p count falls zero le l self = omega tests
@@ -36,7 +36,7 @@ ancestor-found p count falls {a} {b} (suc steps) le l (up n w) =
     let e : eqb b 0 ≡ false = omega tests in
     rw (e, found) (or-true (eqb a b))
 
-pub is-ancestor : (p : ℕ → ℕ) (count : ℕ) → Falls p count → {a b : ℕ} → b < count → Ancestor p a b → isAncestorBy p a b ≡ true
+pub is-ancestor : (p : ℕ → ℕ) (count : ℕ) → Falls p count → {a b : ℕ} → b < count → IsAncestor p a b → isAncestorBy p a b ≡ true
 is-ancestor p count falls {a} {b} l w = ancestor-found p count falls b (omega arith) l w
 
 -- Heights with steps to spare.
@@ -66,7 +66,7 @@ height-up p count falls (suc b) l n =
     rw e (ap (λ (h : ℕ). h + 1) same)
 
 -- An ancestor is not higher.
-pub ancestor-height : (p : ℕ → ℕ) (count : ℕ) → Falls p count → {a b : ℕ} → b < count → Ancestor p a b → heightBy p a ≤ heightBy p b
+pub ancestor-height : (p : ℕ → ℕ) (count : ℕ) → Falls p count → {a b : ℕ} → b < count → IsAncestor p a b → heightBy p a ≤ heightBy p b
 ancestor-height p count falls l self = omega arith
 ancestor-height p count falls {a} {b} l (up n w) =
     let lower = falls b l n in

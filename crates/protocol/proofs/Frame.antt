@@ -16,11 +16,12 @@ use Rattle.protocol.specs.Memory.{appendBlock}
 use Rattle.protocol.specs.Certificates.{file}
 use Rattle.protocol.specs.Quorum.{certificatesOf, firstOf}
 use Rattle.protocol.specs.Outcome.{Need}
-use Rattle.protocol.specs.Calls.{issuing, freshReplicas, freshHeader, retires, opening, block, prepare, store, view}
+use Rattle.protocol.specs.Calls.{issuing, freshReplicas, freshHeader, opening, block, prepare, store, view}
 use Rattle.protocol.specs.Calls.{accumulate, decide, reboot, reserve, request, reply, recover}
 use Rattle.protocol.specs.Runs.{ruleOf, step}
 use Rattle.protocol.specs.Theorems.{Address, tableWord, logWord, blockWord, wordAt, below, certificateAddresses, blockAddresses}
 use Rattle.protocol.specs.Theorems.{named, SameLengths, OnlyNamedChange, LengthsStay}
+use Rattle.protocol.proofs.LeavesForm.{reboot-retires}
 use Rattle.protocol.proofs.Booleans.{by-cond}
 use Rattle.protocol.proofs.Needs.{outcome-memory}
 use Rattle.protocol.proofs.Words.{Avoids, assign-elsewhere, sets-elsewhere}
@@ -117,7 +118,7 @@ frame m (Accumulate i) list a h = issuing-frame m _ i _ _ a tt h
 frame m (Decide i) list a h =
     update-frame m i _ a
     (by-cond (AwayFrom i a) (ltb (replica m i .decidedView) (firstOf (certificatesOf m list) .view)) (λ e. h) (λ e. tt))
-frame m (Reboot i) list a h = update-frame m i _ a (by-cond (AwayFrom i a) (retires m i) (λ e. (h .0, tt)) (λ e. h))
+frame m (Reboot i) list a h = update-frame m i _ a (by-cond (AwayFrom i a) (reboot-retires m i) (λ e. (h .0, tt)) (λ e. h))
 frame m (Reserve i) list a h = update-frame m i _ a h
 frame m (Request i) list a h = issuing-frame m _ i _ _ a tt h
 frame m (Reply i number) list a h =

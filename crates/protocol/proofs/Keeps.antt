@@ -12,7 +12,8 @@ use Rattle.protocol.specs.Memory.{certificateAt, certificate, words, blo
 use Rattle.protocol.specs.Form.{lengthsFit, countsFit, blockFormed, replicaFormed, certificateFormed}
 use Rattle.protocol.specs.Certificates.{canFile, file, logHasRoom}
 use Rattle.protocol.specs.Outcome.{Need, _else_, noRoom}
-use Rattle.protocol.specs.Calls.{isReplica, issuing}
+use Rattle.protocol.specs.FirstNeeds.{isReplica}
+use Rattle.protocol.specs.Calls.{issuing}
 use Rattle.protocol.specs.Theorems.{SameLengths}
 use Rattle.protocol.proofs.Booleans.{tests, by-test, each, all-hold}
 use Rattle.protocol.proofs.Needs.{Holds, holds-both}

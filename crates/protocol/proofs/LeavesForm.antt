@@ -1,7 +1,7 @@
 -- An accepted call leaves well-formed memory.
 use Prim.Native.Nat.{ℕ, _+_, _≤_}
 use mathlib.Core.Path.{_≡_, refl}
-use mathlib.Core.Bool.{true, false, _||_}
+use mathlib.Core.Bool.{Bool, true, false, _||_}
 use mathlib.Core.List.{List}
 use lib.Dec.{ltb, leb, eqb}
 use Rattle.protocol.specs.declared.Call.{Call}
@@ -13,7 +13,7 @@ use Rattle.protocol.specs.Memory.{replica, certificate, update}
 use Rattle.protocol.specs.Form.{replicaFormed, certificateFormed}
 use Rattle.protocol.specs.Counter.{counterStep}
 use Rattle.protocol.specs.Quorum.{certificatesOf, firstOf}
-use Rattle.protocol.specs.Calls.{isAhead, retires, opening, block, prepare, store, view, accumulate, decide, reboot}
+use Rattle.protocol.specs.Calls.{isAhead, retires, limitAfter, opening, block, prepare, store, view, accumulate, decide, reboot}
 use Rattle.protocol.specs.Calls.{reserve, request, reply, recover}
 use Rattle.protocol.specs.Runs.{ruleOf, step}
 use Rattle.protocol.specs.Theorems.{AcceptedLeavesForm}
@@ -93,8 +93,11 @@ decide-leaves m i list h =
     (λ e. update-keeps m i _ z (h .1 .0) (record { within = refl; row = all-hold _ (omega tests) }))
     (λ e. update-keeps m i _ z (h .1 .0) (record { within = refl; row = all-hold _ (omega tests) }))
 
--- A reboot that does not retire the replica stays within 1,000,000.
-pub in-range : (m : Memory) (i : ℕ) → retires m i ≡ false
+-- Whether a reboot retires the replica; one that does not stays within 1,000,000.
+abbrev pub reboot-retires : Memory → ℕ → Bool
+reboot-retires m i = let r = replica m i in retires r (r .boot + 1) (limitAfter m r (r .boot + 1))
+
+pub in-range : (m : Memory) (i : ℕ) → reboot-retires m i ≡ false
     → (replica m i .boot + 1 ≤ ceiling) × (replica m i .viewLimit + counterStep m (replica m i .boot + 1) ≤ ceiling)
 in-range m i e =
     let a = or-false (eqb (replica m i .status) retired || ltb ceiling (replica m i .boot + 1)) _ e in
@@ -106,7 +109,7 @@ unfolding reboot replicaFormed
 reboot-leaves m i h =
     let z = formed m (h .0) in
     let r = each _ (z .rows i (omega tests)) in
-    by-cond (λ cs. Formed (update m i cs)) (retires m i)
+    by-cond (λ cs. Formed (update m i cs)) (reboot-retires m i)
     (λ e. update-keeps m i _ z (h .1 .0) (record { within = refl; row = all-hold _ (omega tests) }))
     (λ e.
     let fits = in-range m i e in

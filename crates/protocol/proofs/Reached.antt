@@ -21,7 +21,7 @@ use Rattle.protocol.proofs.Needs.{Holds}
 use Rattle.protocol.proofs.Changes.{changed, block-new, block-old, block-count}
 use Rattle.protocol.proofs.Formed.{sizes, falls}
 use Rattle.protocol.proofs.Keeps.{block-keeps}
-use Rattle.protocol.proofs.Ancestors.{Ancestor, ancestor-same, is-ancestor, height-same, ancestor-height}
+use Rattle.protocol.proofs.Ancestors.{IsAncestor, ancestor-same, is-ancestor, height-same, ancestor-height}
 use Rattle.protocol.proofs.Safety.{Chosen, Safe}
 use Rattle.protocol.proofs.Moves.{chosen-after}
 use Rattle.protocol.proofs.Acts.{GoesOn}
@@ -101,7 +101,7 @@ module _ (f : ℕ) (past : List Event) (m : Memory) (h : Reached f past m) where
       by-test (leb v w) (λ e. inl (in-chain known-c (chosen-ancestor m (h .safe) hb hc (omega tests))))
       (λ e. inr (in-chain known-b (chosen-ancestor m (h .safe) hc hb (omega tests))))
     where
-      in-chain : {a b : ℕ} → b < blockCount m → Ancestor (parent m) a b → isAncestorBy (givenParent past) a b ≡ true
+      in-chain : {a b : ℕ} → b < blockCount m → IsAncestor (parent m) a b → isAncestorBy (givenParent past) a b ≡ true
       in-chain l w =
           is-ancestor (givenParent past) (blockCount m) given-falls l
           (ancestor-same (parent m) (givenParent past) (blockCount m) (falls m (h .safe .formed)) (h .told .parents) l w)

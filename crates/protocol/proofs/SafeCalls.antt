@@ -11,7 +11,8 @@ use Rattle.protocol.specs.Memory.{replica, certificate, live, raised, up
 use Rattle.protocol.specs.Form.{replicaFormed}
 use Rattle.protocol.specs.Certificates.{PROP, COMMIT, NEWVIEW, REPLY}
 use Rattle.protocol.specs.Quorum.{certificatesOf, signers, firstOf, isCommitQuorum, isNewViewQuorum, isReplyQuorum}
-use Rattle.protocol.specs.Calls.{isReplica, isAhead, retires, decisionWords, store, view, accumulate, decide, reboot}
+use Rattle.protocol.specs.FirstNeeds.{isReplica}
+use Rattle.protocol.specs.Calls.{isAhead, decisionWords, store, view, accumulate, decide, reboot}
 use Rattle.protocol.specs.Calls.{hasStatus, issuing, reserve, request, reply, recover}
 use Rattle.protocol.specs.Outcome.{Need}
 use Rattle.protocol.proofs.Booleans.{tests, by-cond, each}
@@ -23,7 +24,7 @@ use Rattle.protocol.proofs.Keeps.{issuing-needs}
 use Rattle.protocol.proofs.Lists.{picked}
 use Rattle.protocol.proofs.Quorums.{signed-by, all-map, each-tested, quorum, covers}
 use Rattle.protocol.proofs.LeavesForm.{store-leaves, view-leaves, accumulate-leaves, decide-leaves, reboot-leaves}
-use Rattle.protocol.proofs.LeavesForm.{reserve-leaves, request-leaves, reply-leaves, recover-leaves}
+use Rattle.protocol.proofs.LeavesForm.{reboot-retires, reserve-leaves, request-leaves, reply-leaves, recover-leaves}
 use Rattle.protocol.proofs.Safety.{Issued, CommitTo, Proposed, Chosen, ReportSafe, NewViewSafe, Clause, CertificateSafe}
 use Rattle.protocol.proofs.Safety.{clause, ReplicaSafe, Safe}
 use Rattle.protocol.proofs.Moves.{Moves, issued-after, origin-after, chosen-after, choosable-before, committed-before}
@@ -97,7 +98,7 @@ reportOf kind i w r subject boot =
 
 -- A live replica issues one, and has left the views below w.
 reports : (m : Memory) (needs : List Need) (i kind w subject boot : ℕ) (cs : List Assignment) → Raises (replica m i) w cs
-    → isReplica m i ≡ true → hasStatus m i live ≡ true → Safe m → kind ≢ PROP → kind ≢ COMMIT
+    → isReplica m i ≡ true → hasStatus live (replica m i) ≡ true → Safe m → kind ≢ PROP → kind ≢ COMMIT
     → (let c = reportOf kind i w (replica m i) subject boot in
     let out = issuing m needs i cs c in
     Holds (out .needs) → Formed (out .after) → (ReportSafe (out .after) c → Clause kind (out .after) c) → GoesOn m (out .after))
@@ -250,7 +251,7 @@ reboot-safe m i h safe =
     let r = replica m i in
     let f = each _ (safe .formed .rows i (omega tests)) in
     let row = safe .rows i (omega tests) in
-    by-cond (λ cs. Formed (update m i cs) → GoesOn m (update m i cs)) (retires m i)
+    by-cond (λ cs. Formed (update m i cs) → GoesOn m (update m i cs)) (reboot-retires m i)
     (λ e left.
     update-goes-on m i _ safe (h .1 .0) left refl (record { minView = omega arith; limit = omega arith; flag = λ a s x. x })
     (λ acts mv.
@@ -324,7 +325,7 @@ chosen m i list h safe =
     }
 
 pub decide-safe : (m : Memory) (i : ℕ) (list : List ℕ) → Holds (decide m i list .needs) → Safe m
-    → Updated m i (decisionWords m i (firstOf (certificatesOf m list)))
+    → Updated m i (decisionWords (replica m i) (firstOf (certificatesOf m list)))
 unfolding decide
 decide-safe m i list h safe =
     let r = replica m i in

@@ -16,7 +16,7 @@ use Rattle.protocol.proofs.Booleans.{tests, by-test, each}
 use Rattle.protocol.proofs.Changes.{block-table, block-count, block-replica, block-old}
 use Rattle.protocol.proofs.Formed.{Formed, sizes}
 use Rattle.protocol.proofs.Opened.{Opened, opened-formed}
-use Rattle.protocol.proofs.Ancestors.{Ancestor, self}
+use Rattle.protocol.proofs.Ancestors.{IsAncestor, self}
 use Rattle.protocol.proofs.Meeting.{Quorum}
 use Rattle.protocol.proofs.Safety.{Proposed, Choosable, Chosen, CertificateSafe, clause, ReplicaSafe, OneProposal, Safe}
 use Rattle.protocol.proofs.Moves.{Moves, certificate-after, replica-after}
@@ -139,7 +139,7 @@ one-proposal m safe x y =
     (x .holds .view ∙ sym (y .holds .view))
     ∙ y .holds .block
 
-pub chosen-ancestor : (m : Memory) → Safe m → {v b w c : ℕ} → Chosen m v b → Chosen m w c → v ≤ w → Ancestor (parent m) b c
+pub chosen-ancestor : (m : Memory) → Safe m → {v b w c : ℕ} → Chosen m v b → Chosen m w c → v ≤ w → IsAncestor (parent m) b c
 chosen-ancestor m safe {v} {b} {w} {c} hb hc le =
     let p = chosen-proposal m safe hb in
     let q = chosen-proposal m safe hc in

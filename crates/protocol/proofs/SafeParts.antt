@@ -7,7 +7,7 @@ use lib.Dec.{eqb}
 use Rattle.protocol.proofs.Booleans.{tests, by-test}
 use Rattle.protocol.specs.Memory.{Memory, Replica, Certificate, replica, certificate, parent, live}
 use Rattle.protocol.specs.Certificates.{PROP, COMMIT}
-use Rattle.protocol.proofs.Ancestors.{Ancestor, self, up}
+use Rattle.protocol.proofs.Ancestors.{IsAncestor, self, up}
 use Rattle.protocol.proofs.Safety.{Proposed, Committed, Origin, Choosable, Chosen, Ancestor, clause, ReplicaSafe, Safe}
 use Rattle.protocol.proofs.Moves.{Moves, origin-after, chosen-after, choosable-before}
 use Rattle.protocol.proofs.Acts.{Acts, committed-same}
@@ -61,5 +61,5 @@ extend m safe g p b v x n e positive le ch =
     let a = rw (x .holds .block) at (prop .chain v positive (omega tests) ch) in
     record { block = a .block; proposed = a .proposed; ancestor = above (a .ancestor) })
   where
-    above : {a : ℕ} → Ancestor (parent m) a p → Ancestor (parent m) a b
+    above : {a : ℕ} → IsAncestor (parent m) a p → IsAncestor (parent m) a b
     above w = up n (rw e w)

@@ -89,7 +89,7 @@ prepare-safe m i b j list hold safe =
       chain =
           λ v a l ch.
           let before = choosable-before m _ mv ch in
-          let g = justified-proposed m i j list safe (h .1 .1 .0) (ranged .1 .0) (justified .0) v a l before in
+          let g = justified-proposed m i j list safe (h .1 .1 .0) (ranged .0) (justified .0) v a l before in
           let above = not-true (eqb b 0) (block .0) in
           ancestor-after m _ mv (safe .formed) (omega tests)
           (extend m safe (g .view) (justifiedBlock j cs) b v (g .proposed) (omega tests) (omega tests) a (g .covers) before);

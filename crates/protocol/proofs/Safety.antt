@@ -11,7 +11,7 @@ use Rattle.protocol.specs.Certificates.{PROP, COMMIT}
 use Rattle.protocol.specs.Leader.{leads}
 use Rattle.protocol.specs.Quorum.{contains}
 use Rattle.protocol.proofs.Formed.{Formed}
-use Rattle.protocol.proofs.Ancestors.{Ancestor}
+use Rattle.protocol.proofs.Ancestors.{IsAncestor}
 use Rattle.protocol.proofs.Meeting.{Quorum}
 
 -- ---- what the log holds
@@ -67,7 +67,7 @@ pub record Chosen (m : Memory) (v b : ℕ) : Type 0 where
 pub record Ancestor (m : Memory) (v b : ℕ) : Type 0 where
   pub block : ℕ
   pub proposed : Proposed m v block
-  pub ancestor : Ancestor (parent m) block b
+  pub ancestor : IsAncestor (parent m) block b
 
 -- ---- the clauses of a certificate
 

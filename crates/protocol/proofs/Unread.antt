@@ -17,11 +17,12 @@ use Rattle.protocol.specs.Form.{wellFormed, lengthsFit}
 use Rattle.protocol.specs.Certificates.{file}
 use Rattle.protocol.specs.Quorum.{certificatesOf, firstOf}
 use Rattle.protocol.specs.Outcome.{Need, _else_, Rule, firstRefusal, answered, follow}
-use Rattle.protocol.specs.Calls.{issuing, isSized, numbersOf, retires, freshReplica, freshReplicas, freshHeader, opening}
+use Rattle.protocol.specs.Calls.{issuing, isSized, numbersOf, freshReplica, freshReplicas, freshHeader, opening}
 use Rattle.protocol.specs.Calls.{block, prepare, store, view, accumulate, decide, reboot, reserve, request, reply}
 use Rattle.protocol.specs.Calls.{recover}
 use Rattle.protocol.specs.Runs.{ruleOf, step}
 use Rattle.protocol.specs.Theorems.{Alike, SameAnswer, PastCountsUnread}
+use Rattle.protocol.proofs.LeavesForm.{reboot-retires}
 use Rattle.protocol.proofs.Booleans.{by-test, by-cond}
 use Rattle.protocol.proofs.Needs.{Holds}
 use Rattle.protocol.proofs.Rules.{needs-hold}
@@ -116,7 +117,7 @@ module _ (m : Memory) (l b : List ℕ) (a : Alike m (twin m l b)) where
   unfolding prepare issuing
   prepare-needs i x j list =
       next (form-same m l b a)
-      (λ _. next refl (λ _. next (sized-same j list) (λ _. next refl (λ added. next refl (λ issued.
+      (λ _. next refl (λ _. next (sized-same j list) (λ _. next refl (λ issued. next refl (λ added.
       simp (can-same m l b a, named-same m l b a (numbersOf j list) issued, parent-same m l b a) (agree-self _))))))
 
   prepare-results : (i x : ℕ) (j : Justification) (list : List ℕ) → Holds (prepare m i x j list .needs)
@@ -124,7 +125,7 @@ module _ (m : Memory) (l b : List ℕ) (a : Alike m (twin m l b)) where
   unfolding prepare
   prepare-results i x j list hold =
       let h = issuing-needs m _ i _ _ hold .0 in
-      simp (named-same m l b a (numbersOf j list) (h .1 .1 .1 .1 .0)) (issued-same _ _ i _ _ (record { row = refl }) (h .0))
+      simp (named-same m l b a (numbersOf j list) (h .1 .1 .1 .0)) (issued-same _ _ i _ _ (record { row = refl }) (h .0))
 
   store-needs : (i number : ℕ) → Agree (store m i number .needs) (store (twin m l b) i number .needs)
   unfolding store issuing
@@ -182,7 +183,7 @@ module _ (m : Memory) (l b : List ℕ) (a : Alike m (twin m l b)) where
         needs = next (form-same m l b a) (λ _. agree-self _);
         results =
             λ h.
-            let within = within-cond (retires m i) (record { row = refl }) (record { row = refl }) in
+            let within = within-cond (reboot-retires m i) (record { row = refl }) (record { row = refl }) in
             record { first = refl; second = refl; after = updated-same i _ within };
       }
 

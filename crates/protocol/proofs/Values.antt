@@ -12,7 +12,7 @@ use Rattle.protocol.specs.Memory.{Memory, Certificate, ceiling, certific
 use Rattle.protocol.specs.Form.{lengthsFit, countsFit, replicaFormed, certificateFormed, wellFormed}
 use Rattle.protocol.specs.Certificates.{firstBelow, hasWords, numberFor}
 use Rattle.protocol.specs.Outcome.{Need, _else_, Rule, noRoom, firstRefusal, answered, follow}
-use Rattle.protocol.specs.Calls.{issuing, retires, opening, block, prepare, store, view, accumulate, decide, reboot}
+use Rattle.protocol.specs.Calls.{issuing, opening, block, prepare, store, view, accumulate, decide, reboot}
 use Rattle.protocol.specs.Calls.{reserve, request, reply, recover}
 use Rattle.protocol.specs.Runs.{ruleOf, step}
 use Rattle.protocol.specs.Theorems.{Fits, ValuesFit}
@@ -21,7 +21,7 @@ use Rattle.protocol.proofs.Needs.{Holds}
 use Rattle.protocol.proofs.Rules.{needs-hold}
 use Rattle.protocol.proofs.Formed.{formed}
 use Rattle.protocol.proofs.Lists.{all-named, first-named}
-use Rattle.protocol.proofs.LeavesForm.{in-range}
+use Rattle.protocol.proofs.LeavesForm.{reboot-retires, in-range}
 
 -- ---- numbers
 
@@ -92,7 +92,7 @@ rule-fits m (Reboot i) list = (
   refl,
   λ h.
       let r = each _ (formed m (h .0) .rows i (omega tests)) in
-      by-test (retires m i) (λ e. rw e (omega tests)) (λ e. let fits = in-range m i e in rw e (omega tests)),
+      by-test (reboot-retires m i) (λ e. rw e (omega tests)) (λ e. let fits = in-range m i e in rw e (omega tests)),
 )
 rule-fits m (Reserve i) list = (refl, λ h. omega tests)
 rule-fits m (Request i) list = (refl, λ h. issued-small m _ (h .0))

@@ -1,5 +1,6 @@
 -- The rules of the twelve calls (document 01, "Calls"), each with its sentence. The needs of each stand in rising order, as in the
--- table of refusals; opening alone tests f (2) before lengths (1).
+-- table of refusals; opening alone tests f (2) before lengths (1). First come the needs that calls share; those that are a call's own
+-- are stated once, over the replica and the certificates that it reads, and the code's tests cite them.
 use Prim.Native.Nat.{ℕ, zero, suc, _+_, max}
 use mathlib.Core.Bool.{Bool, true, cond, not, _||_}
 use mathlib.Core.List.{List, [], _∷_, _++_}
@@ -17,21 +18,14 @@ use Rattle.protocol.specs.Certificates.{PROP, ACC, REQ, isKind, propOf, 
 use Rattle.protocol.specs.Certificates.{numberFor, canFile, file}
 use Rattle.protocol.specs.Leader.{leads}
 use Rattle.protocol.specs.Counter.{counterStep}
-use Rattle.protocol.specs.Quorum.{isQuorumSize, isIssued, allIssued, certificatesOf, firstOf, isCommitQuorum}
+use Rattle.protocol.specs.Quorum.{isQuorumSize, allIssued, certificatesOf, firstOf, isCommitQuorum}
 use Rattle.protocol.specs.Quorum.{isNewViewQuorum, isReplyQuorum, greatest}
 use Rattle.protocol.specs.Outcome.{Need, _else_, Rule, wrongForm, outOfRange, unknownNumber, wrongStatus}
 use Rattle.protocol.specs.Outcome.{wrongCertificate, wrongBlock, wrongView, counterLimit, noRoom}
+use Rattle.protocol.specs.FirstNeeds.{isBlock, replicaNeeds, numberNeeds, listNeeds}
 
--- A replica number is below n.
-abbrev pub isReplica : Memory → ℕ → Bool
-isReplica m i = ltb i (replicaCount (faultBound m))
-
--- A block number is below the count of added ones.
-abbrev pub isBlock : Memory → ℕ → Bool
-isBlock m b = ltb b (blockCount m)
-
-abbrev pub hasStatus : Memory → ℕ → ℕ → Bool
-hasStatus m i s = eqb (replica m i .status) s
+abbrev pub hasStatus : ℕ → Replica → Bool
+hasStatus status r = eqb (r .status) status
 
 -- A call that issues a certificate: "an issuing call gives the certificate number and 0"; words of the replica may change too.
 -- 9 comes last, and only where the certificate must be added.
@@ -120,6 +114,24 @@ abbrev pub isJustified : ℕ → Justification → List Certificate → Bool
 isJustified i (Acc number) cs = allHold (isKind ACC (firstOf cs) ∷ eqb (firstOf cs .signer) i ∷ [])
 isJustified i (Commits view block) cs = isCommitQuorum view block cs
 
+-- The first needs of a Prepare: the form, the replica, the length of a list, then the certificates' numbers.
+abbrev pub justificationNeeds : Memory → ℕ → Justification → List ℕ → List Need
+justificationNeeds m i justification list =
+    replicaNeeds m i
+    ++ (isSized m justification list else outOfRange ∷ allIssued m (numbersOf justification list) else unknownNumber ∷ [])
+
+-- "the box leads w; the block isn't 0 and its parent is the ground's block; low = w; flag 0; w < bound": of f, the replica, the block and
+-- its parent, and of the view and the block that the justification gives.
+abbrev pub proposalNeeds : ℕ → ℕ → Replica → ℕ → ℕ → ℕ → ℕ → List Need
+proposalNeeds f i r b itsParent w justified =
+    leads f w i else wrongCertificate
+    ∷ not (eqb b 0) else wrongBlock
+    ∷ eqb itsParent justified else wrongBlock
+    ∷ eqb (r .minView) w else wrongView
+    ∷ eqb (r .flag) lowered else wrongView
+    ∷ ltb w (r .viewLimit) else counterLimit
+    ∷ []
+
 -- "Prepare(box, block, ground): [..] The box is live. [..] An ACC's signer is the box; the box leads w; the block isn't 0 and its parent
 -- is the ground's block; low = w; flag 0; w < bound. Sets flag 1, issues PROP(w, block)."
 unfoldable pub prepare : Memory → ℕ → ℕ → Justification → List ℕ → Rule
@@ -128,21 +140,22 @@ prepare m i b justification list =
     let cs = certificatesOf m (numbersOf justification list) in
     let w = proposalView justification cs in
     issuing m
-    (wellFormed m else wrongForm
-    ∷ isReplica m i else outOfRange
-    ∷ isSized m justification list else outOfRange
-    ∷ isBlock m b else unknownNumber
-    ∷ allIssued m (numbersOf justification list) else unknownNumber
-    ∷ hasStatus m i live else wrongStatus
+    (justificationNeeds m i justification list
+    ++ (isBlock m b else unknownNumber
+    ∷ hasStatus live r else wrongStatus
     ∷ isJustified i justification cs else wrongCertificate
-    ∷ leads (faultBound m) w i else wrongCertificate
-    ∷ not (eqb b 0) else wrongBlock
-    ∷ eqb (parent m b) (justifiedBlock justification cs) else wrongBlock
-    ∷ eqb (r .minView) w else wrongView
-    ∷ eqb (r .flag) lowered else wrongView
-    ∷ ltb w (r .viewLimit) else counterLimit
-    ∷ [])
+    ∷ proposalNeeds (faultBound m) i r b (parent m b) w (justifiedBlock justification cs)))
     i (flagAt becomes raised ∷ []) (propOf i w b)
+
+-- "live; the signer leads its view v; v ≥ low, v < bound": of f, the replica and the PROP.
+abbrev pub storeNeeds : ℕ → Replica → Certificate → List Need
+storeNeeds f r p =
+    hasStatus live r else wrongStatus
+    ∷ isKind PROP p else wrongCertificate
+    ∷ leads f (p .view) (p .signer) else wrongCertificate
+    ∷ leb (r .minView) (p .view) else wrongView
+    ∷ ltb (p .view) (r .viewLimit) else counterLimit
+    ∷ []
 
 -- "Store(box, PROP): live; the signer leads its view v; v ≥ low, v < bound. Stored becomes v and the block, low v+1, flag 0. Issues
 -- COMMIT(v, block)."
@@ -150,17 +163,7 @@ unfoldable pub store : Memory → ℕ → ℕ → Rule
 store m i number =
     let r = replica m i in
     let p = certificate m number in
-    issuing m
-    (wellFormed m else wrongForm
-    ∷ isReplica m i else outOfRange
-    ∷ isIssued m number else unknownNumber
-    ∷ hasStatus m i live else wrongStatus
-    ∷ isKind PROP p else wrongCertificate
-    ∷ leads (faultBound m) (p .view) (p .signer) else wrongCertificate
-    ∷ leb (r .minView) (p .view) else wrongView
-    ∷ ltb (p .view) (r .viewLimit) else counterLimit
-    ∷ [])
-    i
+    issuing m (numberNeeds m i number ++ storeNeeds (faultBound m) r p) i
     (storedViewAt becomes p .view
     ∷ storedBlockAt becomes p .block
     ∷ minViewAt becomes (p .view + 1)
@@ -172,65 +175,63 @@ store m i number =
 abbrev pub isAhead : Replica → ℕ → Bool
 isAhead r w = ltb (r .minView) w
 
+-- "1 ≤ w ≤ 1,000,000 [..] live [..] w ≥ low, w < bound"
+abbrev pub viewNeeds : Replica → ℕ → List Need
+viewNeeds r w =
+    leb 1 w else outOfRange
+    ∷ leb w ceiling else outOfRange
+    ∷ hasStatus live r else wrongStatus
+    ∷ leb (r .minView) w else wrongView
+    ∷ ltb w (r .viewLimit) else counterLimit
+    ∷ []
+
 -- "View(box, w): live; 1 ≤ w ≤ 1,000,000, w ≥ low, w < bound. Flag 0 if w > low; then low is w. Issues NEWVIEW(w, stored block, of-view =
 -- stored view)."
 unfoldable pub view : Memory → ℕ → ℕ → Rule
 view m i w =
     let r = replica m i in
-    issuing m
-    (wellFormed m else wrongForm
-    ∷ isReplica m i else outOfRange
-    ∷ leb 1 w else outOfRange
-    ∷ leb w ceiling else outOfRange
-    ∷ hasStatus m i live else wrongStatus
-    ∷ leb (r .minView) w else wrongView
-    ∷ ltb w (r .viewLimit) else counterLimit
-    ∷ [])
-    i (flagAt becomes cond (isAhead r w) lowered (r .flag) ∷ minViewAt becomes w ∷ [])
+    issuing m (replicaNeeds m i ++ viewNeeds r w) i
+    (flagAt becomes cond (isAhead r w) lowered (r .flag) ∷ minViewAt becomes w ∷ [])
     (newViewOf i w (r .storedBlock) (r .storedView))
+
+-- "live; NEWVIEWs of one view, different signers"
+abbrev pub accumulateNeeds : Replica → List Certificate → List Need
+accumulateNeeds r cs = hasStatus live r else wrongStatus ∷ isNewViewQuorum (firstOf cs .view) cs else wrongCertificate ∷ []
 
 -- "Accumulate(box, list): live; NEWVIEWs of one view, different signers. Issues ACC with that view and the block and of-view of the
 -- greatest of-view, the first in the list if several."
 unfoldable pub accumulate : Memory → ℕ → List ℕ → Rule
 accumulate m i list =
     let cs = certificatesOf m list in
-    issuing m
-    (wellFormed m else wrongForm
-    ∷ isReplica m i else outOfRange
-    ∷ isQuorumSize m list else outOfRange
-    ∷ allIssued m list else unknownNumber
-    ∷ hasStatus m i live else wrongStatus
-    ∷ isNewViewQuorum (firstOf cs .view) cs else wrongCertificate
-    ∷ [])
-    i [] (accOf i (firstOf cs .view) (greatest cs .block) (greatest cs .ofView))
+    issuing m (listNeeds m i list ++ accumulateNeeds (replica m i) cs) i []
+    (accOf i (firstOf cs .view) (greatest cs .block) (greatest cs .ofView))
+
+-- "matching commits"
+abbrev pub decideNeeds : List Certificate → List Need
+decideNeeds cs = isCommitQuorum (firstOf cs .view) (firstOf cs .block) cs else wrongCertificate ∷ []
 
 -- "If the view is above the shown view, both shown words are set."
-abbrev pub decisionWords : Memory → ℕ → Certificate → List Assignment
-decisionWords m i c =
-    cond (ltb (replica m i .decidedView) (c .view)) (decidedViewAt becomes c .view ∷ decidedBlockAt becomes c .block ∷ []) []
+abbrev pub decisionWords : Replica → Certificate → List Assignment
+decisionWords r c = cond (ltb (r .decidedView) (c .view)) (decidedViewAt becomes c .view ∷ decidedBlockAt becomes c .block ∷ []) []
 
 -- "Decide(box, list): any status; matching commits. Values block, view. If the view is above the shown view, both shown words are set."
 unfoldable pub decide : Memory → ℕ → List ℕ → Rule
 decide m i list =
-    let c = firstOf (certificatesOf m list) in
+    let cs = certificatesOf m list in
     record {
-      needs =
-          wellFormed m else wrongForm
-          ∷ isReplica m i else outOfRange
-          ∷ isQuorumSize m list else outOfRange
-          ∷ allIssued m list else unknownNumber
-          ∷ isCommitQuorum (c .view) (c .block) (certificatesOf m list) else wrongCertificate
-          ∷ [];
-      first = c .block;
-      second = c .view;
-      after = update m i (decisionWords m i c);
+      needs = listNeeds m i list ++ decideNeeds cs;
+      first = firstOf cs .block;
+      second = firstOf cs .view;
+      after = update m i (decisionWords (replica m i) (firstOf cs));
     }
 
--- "If boot or bound would pass 1,000,000, or the box is spent": a reboot then retires the replica.
-abbrev pub retires : Memory → ℕ → Bool
-retires m i =
-    let r = replica m i in
-    eqb (r .status) retired || ltb ceiling (r .boot + 1) || ltb ceiling (r .viewLimit + counterStep m (r .boot + 1))
+-- "If boot or bound would pass 1,000,000, or the box is spent": a reboot to this boot and view limit then retires the replica.
+abbrev pub retires : Replica → ℕ → ℕ → Bool
+retires r boot limit = hasStatus retired r || ltb ceiling boot || ltb ceiling limit
+
+-- "bound grows by the new boot's step"
+abbrev pub limitAfter : Memory → Replica → ℕ → ℕ
+limitAfter m r boot = r .viewLimit + counterStep m boot
 
 -- "Reboot(box): boot + 1, low is the old bound, bound grows by the new boot's step, flag and stored words 0, waiting; shown stays. If
 -- boot or bound would pass 1,000,000, or the box is spent, only the status becomes 2. Values boot, low as they then are." "Reboot has
@@ -238,35 +239,36 @@ retires m i =
 unfoldable pub reboot : Memory → ℕ → Rule
 reboot m i =
     let r = replica m i in
+    let boot = r .boot + 1 in
+    let limit = limitAfter m r boot in
     record {
-      needs = wellFormed m else wrongForm ∷ isReplica m i else outOfRange ∷ [];
-      first = cond (retires m i) (r .boot) (r .boot + 1);
-      second = cond (retires m i) (r .minView) (r .viewLimit);
+      needs = replicaNeeds m i;
+      first = cond (retires r boot limit) (r .boot) boot;
+      second = cond (retires r boot limit) (r .minView) (r .viewLimit);
       after =
           update m i
-          (cond (retires m i) (statusAt becomes retired ∷ [])
+          (cond (retires r boot limit) (statusAt becomes retired ∷ [])
           (statusAt becomes recovering
-          ∷ bootAt becomes (r .boot + 1)
+          ∷ bootAt becomes boot
           ∷ minViewAt becomes r .viewLimit
-          ∷ viewLimitAt becomes (r .viewLimit + counterStep m (r .boot + 1))
+          ∷ viewLimitAt becomes limit
           ∷ flagAt becomes lowered
           ∷ storedViewAt becomes 0
           ∷ storedBlockAt becomes 0
           ∷ []));
     }
 
+-- "not spent", and not past 1,000,000 (8)
+abbrev pub reserveNeeds : Replica → ℕ → List Need
+reserveNeeds r limit = not (hasStatus retired r) else wrongStatus ∷ leb limit ceiling else counterLimit ∷ []
+
 -- "Reserve(box): not spent; bound grows by its boot's step. Values bound, 0."
 unfoldable pub reserve : Memory → ℕ → Rule
 reserve m i =
     let r = replica m i in
-    let limit = r .viewLimit + counterStep m (r .boot) in
+    let limit = limitAfter m r (r .boot) in
     record {
-      needs =
-          wellFormed m else wrongForm
-          ∷ isReplica m i else outOfRange
-          ∷ not (hasStatus m i retired) else wrongStatus
-          ∷ leb limit ceiling else counterLimit
-          ∷ [];
+      needs = replicaNeeds m i ++ reserveNeeds r limit;
       first = limit;
       second = 0;
       after = update m i (viewLimitAt becomes limit ∷ []);
@@ -276,9 +278,16 @@ reserve m i =
 unfoldable pub request : Memory → ℕ → Rule
 request m i =
     let r = replica m i in
-    issuing m
-    (wellFormed m else wrongForm ∷ isReplica m i else outOfRange ∷ hasStatus m i recovering else wrongStatus ∷ [])
-    i [] (reqOf i (r .minView) (r .boot))
+    issuing m (replicaNeeds m i ++ (hasStatus recovering r else wrongStatus ∷ [])) i [] (reqOf i (r .minView) (r .boot))
+
+-- "live; signer is another box; the REQ's view ≤ bound": of the replica's number and words, and of the REQ.
+abbrev pub replyNeeds : ℕ → Replica → Certificate → List Need
+replyNeeds i r q =
+    hasStatus live r else wrongStatus
+    ∷ isKind REQ q else wrongCertificate
+    ∷ not (eqb (q .signer) i) else wrongCertificate
+    ∷ leb (q .view) (r .viewLimit) else counterLimit
+    ∷ []
 
 -- "Reply(box, REQ): live; signer is another box; the REQ's view ≤ bound. If low is below that view, low rises to it and flag is 0; else
 -- both stay. Issues REPLY(that view, stored block, of-view = stored view, subject = the REQ's signer, its boot)."
@@ -286,17 +295,21 @@ unfoldable pub reply : Memory → ℕ → ℕ → Rule
 reply m i number =
     let r = replica m i in
     let q = certificate m number in
-    issuing m
-    (wellFormed m else wrongForm
-    ∷ isReplica m i else outOfRange
-    ∷ isIssued m number else unknownNumber
-    ∷ hasStatus m i live else wrongStatus
-    ∷ isKind REQ q else wrongCertificate
-    ∷ not (eqb (q .signer) i) else wrongCertificate
-    ∷ leb (q .view) (r .viewLimit) else counterLimit
-    ∷ [])
-    i (cond (ltb (r .minView) (q .view)) (minViewAt becomes q .view ∷ flagAt becomes lowered ∷ []) [])
+    issuing m (numberNeeds m i number ++ replyNeeds i r q) i
+    (cond (ltb (r .minView) (q .view)) (minViewAt becomes q .view ∷ flagAt becomes lowered ∷ []) [])
     (replyOf i (q .view) (r .storedBlock) (r .storedView) (q .signer) (q .boot))
+
+-- "low the larger of low and g+1"
+abbrev pub recoveredView : Replica → List Certificate → ℕ
+recoveredView r cs = max (r .minView) (greatest cs .ofView + 1)
+
+-- "waiting; REPLYs with this subject, its boot, view = low, different signers, none the box. [..] which must be ≤ bound"
+abbrev pub recoverNeeds : ℕ → Replica → List Certificate → List Need
+recoverNeeds i r cs =
+    hasStatus recovering r else wrongStatus
+    ∷ isReplyQuorum i (r .boot) (r .minView) cs else wrongCertificate
+    ∷ leb (recoveredView r cs) (r .viewLimit) else counterLimit
+    ∷ []
 
 -- "Recover(box, list): waiting; REPLYs with this subject, its boot, view = low, different signers, none the box. With g the greatest
 -- of-view (first in the list if several): stored becomes g and its block, low the larger of low and g+1, which must be ≤ bound; live.
@@ -304,25 +317,16 @@ reply m i number =
 unfoldable pub recover : Memory → ℕ → List ℕ → Rule
 recover m i list =
     let r = replica m i in
-    let c = greatest (certificatesOf m list) in
-    let next = max (r .minView) (c .ofView + 1) in
+    let cs = certificatesOf m list in
     record {
-      needs =
-          wellFormed m else wrongForm
-          ∷ isReplica m i else outOfRange
-          ∷ isQuorumSize m list else outOfRange
-          ∷ allIssued m list else unknownNumber
-          ∷ hasStatus m i recovering else wrongStatus
-          ∷ isReplyQuorum i (r .boot) (r .minView) (certificatesOf m list) else wrongCertificate
-          ∷ leb next (r .viewLimit) else counterLimit
-          ∷ [];
-      first = next;
-      second = c .ofView;
+      needs = listNeeds m i list ++ recoverNeeds i r cs;
+      first = recoveredView r cs;
+      second = greatest cs .ofView;
       after =
           update m i
           (statusAt becomes live
-          ∷ minViewAt becomes next
-          ∷ storedViewAt becomes c .ofView
-          ∷ storedBlockAt becomes c .block
+          ∷ minViewAt becomes recoveredView r cs
+          ∷ storedViewAt becomes greatest cs .ofView
+          ∷ storedBlockAt becomes greatest cs .block
           ∷ []);
     }

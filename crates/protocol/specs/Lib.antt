@@ -8,6 +8,7 @@ pub mod Leader
 pub mod Counter
 pub mod Quorum
 pub mod Outcome
+pub mod FirstNeeds
 pub mod Calls
 pub mod Runs
 pub mod History

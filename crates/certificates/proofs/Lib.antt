@@ -3,4 +3,3 @@ pub mod Search
 pub mod Equal
 pub mod Slots
 pub mod Fits
-pub mod Issuing

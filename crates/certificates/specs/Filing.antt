@@ -70,7 +70,7 @@ leaves r t l b = record { outcome = r; memory = memory t l b }
 unfoldable pub filing : Memory → List ℕ → Result
 filing m ws = record { outcome = slotFor m ws; memory = cond (canFile m ws) (file m ws) m }
 
--- The number that a refusal holds.
-abbrev pub refusalOf : Filed → ℕ
-refusalOf (At number) = 0
-refusalOf (Refused refusal) = refusal
+-- The refusal that it holds; 0, "accepted", where it holds none.
+abbrev pub filingRefusal : Filed → ℕ
+filingRefusal (At number) = 0
+filingRefusal (Refused refusal) = refusal

@@ -16,7 +16,7 @@ ghost use Rattle.certificates.specs.Filing.{
   slotFor,
   leaves,
   filing,
-  refusalOf,
+  filingRefusal,
 };
 use layout::CERTIFICATE_COUNT_AT;
 use layout::CERTIFICATE_WORDS;
@@ -27,6 +27,7 @@ use layout::SIGNER_AT;
 use layout::SUBJECT_AT;
 use layout::SUBJECT_BOOT_AT;
 use layout::VIEW_AT;
+use protocol::ACCEPTED;
 use protocol::NO_ROOM;
 
 pub struct Certificate {
@@ -45,13 +46,15 @@ pub enum Filed {
     Refused(u32),
 }
 
-// The refusal that a caller hands up, 0 where the certificate is filed.
-pub fn refusal_of(filed: Filed) -> u32
-    ensures { λ r. ⌜ r ≡ refusalOf filed ⌝ }
-{
-    match filed {
-        Filed::At(_) => 0,
-        Filed::Refused(refusal) => refusal,
+// The refusal that it holds, for a call to hand up.
+impl Filed {
+    pub fn refusal(self) -> u32
+        ensures { λ r. ⌜ r ≡ filingRefusal self ⌝ }
+    {
+        match self {
+            Filed::At(_) => ACCEPTED,
+            Filed::Refused(number) => number,
+        }
     }
 }
 

@@ -20,7 +20,7 @@ use Rattle.layout.proofs.Within.{certificate-bounds}
 use Rattle.certificates.specs.declared.Certificate as code
 use Rattle.records.proofs.Reading.{certificateFrom}
 use Rattle.quorum.specs.Lists.{certificateIn, certificatesIn}
-use Rattle.quorum.proofs.Accepted.{listed, some-listed, every-at, commit-at}
+use Rattle.quorum.proofs.Accepted.{listed, some-listed, commit-at}
 use Rattle.checks.specs.Needs.{numberNeeds, listNeeds}
 use Rattle.checks.proofs.Ready.{Ready}
 use Rattle.checks.proofs.Ends.{stops, passes}

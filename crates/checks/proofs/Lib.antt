@@ -1,3 +1,4 @@
+-- For callers: what a passed test tells, and how a call goes from one need to the next.
 pub mod Ready
-pub mod Ends
-pub mod Issues
+pub mod Verdicts
+pub mod Passing

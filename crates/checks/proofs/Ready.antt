@@ -1,16 +1,20 @@
--- What the first needs of a call tell, once they hold: the form, and the replica's number.
-use Prim.Native.Nat.{ℕ}
-use mathlib.Core.Path.{_≡_, refl, sym, _∙_}
-use mathlib.Core.Bool.{Bool, true, false}
-use mathlib.Core.List.{List, [], _∷_, _++_}
-use Rattle.protocol.specs.Memory.{Memory}
-use Rattle.protocol.specs.Quorum.{isQuorumSize, isIssued, allIssued}
-use Rattle.protocol.specs.Form.{wellFormed}
-use Rattle.protocol.specs.Outcome.{Need, _else_, firstRefusal, wrongForm, outOfRange}
-use Rattle.protocol.specs.Calls.{isReplica}
-use Rattle.protocol.proofs.Needs.{positive, all-needs, refused-first, all-pass, fails, holds}
+-- What the first needs of a call tell, once they hold, and what reading then asks: a replica's row, a certificate's words, a list's
+-- certificates.
+use Prim.Native.Nat.{ℕ, _+_, _≤_, _<_}
+use mathlib.Core.Path.{_≡_, refl}
+use mathlib.Core.Bool.{true}
+use mathlib.Core.List.{List}
+use native.Mathlib.Omega.{arith}
+use lib.ListN.{length, getD}
+use Rattle.protocol.specs.Memory.{Memory, rowAt, replicaWords, certificateCount, certificateAt, certificateWords}
+use Rattle.protocol.specs.Quorum.{isQuorumSize, allIssued}
+use Rattle.protocol.specs.Outcome.{firstRefusal}
+use Rattle.protocol.specs.FirstNeeds.{isReplica, replicaNeeds, listNeeds}
+use Rattle.protocol.proofs.Booleans.{tests}
+use Rattle.protocol.proofs.Needs.{all-needs}
 use Rattle.protocol.proofs.Formed.{Formed, formed, Sizes, sizes}
-use Rattle.checks.specs.Needs.{replicaNeeds, numberNeeds, listNeeds}
+use Rattle.quorum.specs.Lists.{Listed, Greatest}
+use Rattle.quorum.proofs.Accepted.{listed, some-listed, greatest-issued}
 
 pub record Ready (m : Memory) (i : ℕ) : Type 0 where
   pub formed : Formed m
@@ -23,50 +27,29 @@ ready m i e =
     let f = formed m (h .0) in
     record { formed = f; sizes = sizes m f; own = h .1 .0 }
 
-pub record ReadyNumber (m : Memory) (i number : ℕ) : Type 0 where
-  pub ready : Ready m i
-  pub issued : isIssued m number ≡ true
+pub row-within : (m : Memory) (i : ℕ) → Ready m i → rowAt i + replicaWords ≤ length (m .table)
+row-within m i w = omega (tests, w .own, w .sizes)
 
-pub ready-number : (m : Memory) (i number : ℕ) → firstRefusal (numberNeeds m i number) ≡ 0 → ReadyNumber m i number
-ready-number m i number e =
-    let h = all-needs (numberNeeds m i number) refl e in
-    let f = formed m (h .0) in
-    record { ready = record { formed = f; sizes = sizes m f; own = h .1 .0 }; issued = h .1 .1 .0 }
+pub certificate-there : (m : Memory) (number : ℕ) → Sizes m → number < certificateCount m
+    → certificateAt number + certificateWords ≤ length (m .log)
+certificate-there m number s h = omega arith
 
-pub record ReadyList (m : Memory) (i : ℕ) (list : List ℕ) : Type 0 where
-  pub ready : Ready m i
+pub record ReadyList (m : Memory) (list : List ℕ) : Type 0 where
   pub size : isQuorumSize m list ≡ true
   pub issued : allIssued m list ≡ true
 
-pub ready-list : (m : Memory) (i : ℕ) (list : List ℕ) → firstRefusal (listNeeds m i list) ≡ 0 → ReadyList m i list
-ready-list m i list e =
-    let h = all-needs (listNeeds m i list) refl e in
-    let f = formed m (h .0) in
-    record { ready = record { formed = f; sizes = sizes m f; own = h .1 .0 }; size = h .1 .1 .0; issued = h .1 .1 .1 .0 }
+pub ready-list : (m : Memory) (list : List ℕ) → firstRefusal (listNeeds m list) ≡ 0 → ReadyList m list
+ready-list m list e = let h = all-needs (listNeeds m list) refl e in record { size = h .0; issued = h .1 .0 }
 
--- ---- the ways that the first needs go
+module _ (m : Memory) (i : ℕ) (list : List ℕ) (w : Ready m i) (l : ReadyList m list) where
+  pub all-listed : Listed (m .log) list
+  all-listed = listed m list (w .formed) (l .issued)
 
-module _ (m : Memory) (i : ℕ) where
-  pub no-form : wellFormed m ≡ false → wrongForm ≡ firstRefusal (replicaNeeds m i)
-  no-form e = sym (fails _ e)
+  pub some-there : 0 < length list
+  some-there = some-listed m list (l .size)
 
-  module _ (form : wellFormed m ≡ true) where
-    pub no-replica : isReplica m i ≡ false → outOfRange ≡ firstRefusal (replicaNeeds m i)
-    no-replica e = sym (holds _ _ form ∙ fails _ e)
+  pub first-there : certificateAt (getD list 0 0) + certificateWords ≤ length (m .log)
+  first-there = all-listed .inLog 0 some-there .within
 
-    pub all-ready : isReplica m i ≡ true → 0 ≡ firstRefusal (replicaNeeds m i)
-    unfolding firstRefusal
-    all-ready e = rw (form, e) refl
-
--- The last need of a list, where it holds.
-pub last : {t : Bool} (n : ℕ) → t ≡ true → 0 ≡ firstRefusal ((t else n) ∷ [])
-unfolding firstRefusal
-last n e = rw e refl
-
--- Further needs, after first ones.
-pub stopped : {r : ℕ} (first more : List Need) → r ≡ firstRefusal first → (r ≡ 0 → ⊥) → r ≡ firstRefusal (first ++ more)
-stopped first more e n = e ∙ sym (refused-first first more (λ z. n (e ∙ z)))
-
-pub further : {r s : ℕ} (first more : List Need) → positive first ≡ true → r ≡ firstRefusal first → r ≡ 0 → s ≡ firstRefusal more
-    → s ≡ firstRefusal (first ++ more)
-further first more p e z s = s ∙ sym (all-pass first more p (sym e ∙ z))
+  pub greatest-there : (g : ℕ) → Greatest (m .log) list g → certificateAt g + certificateWords ≤ length (m .log)
+  greatest-there g is = certificate-there m g (w .sizes) (greatest-issued m list g (l .issued) is)

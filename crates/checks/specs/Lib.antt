@@ -1,1 +1,2 @@
-pub mod Needs
+-- What the tests that calls share answer.
+pub mod Verdicts

@@ -1,20 +1,36 @@
-// What the calls share: their answers, and the tests that most of them begin with.
+// What the calls share: their answers, what a test answers, and the tests that most of them begin with.
 ghost use mathlib.Core.Path.{_≡_};
-ghost use Rattle.protocol.specs.Memory.{memory};
-ghost use Rattle.protocol.specs.Outcome.{firstRefusal};
-ghost use Rattle.checks.specs.Needs.{replicaNeeds, numberNeeds, listNeeds};
+ghost use mathlib.Core.List.{List, []};
+ghost use Prim.Native.Nat.{ℕ, _<_};
+ghost use lib.ListN.{length};
+ghost use Rattle.protocol.specs.Memory.{memory, certificateCountAt};
+ghost use Rattle.protocol.specs.Outcome.{_else_};
+ghost use Rattle.protocol.specs.FirstNeeds.{listNeeds};
+ghost use Rattle.certificates.specs.Filing.{LogFits};
+ghost use Rattle.checks.specs.Verdicts.{
+  next,
+  tested,
+  replicaFound,
+  certificateFound,
+  testRefusal,
+  replicaRefusal,
+  certificateRefusal,
+};
+use certificates::Certificate;
 use layout::CERTIFICATE_COUNT_AT;
 use layout::FAULT_BOUND_AT;
+use protocol::ACCEPTED;
 use protocol::Answer;
 use protocol::OUT_OF_RANGE;
 use protocol::UNKNOWN_NUMBER;
 use protocol::WRONG_FORM;
+use records::Replica;
 
 pub fn accepted(first: u32, second: u32) -> Answer
     ensures { λ r. ⌜ r ≡ record { number = 0; first = first; second = second } ⌝ }
 {
     Answer {
-        number: 0,
+        number: ACCEPTED,
         first,
         second,
     }
@@ -30,52 +46,103 @@ pub fn refused(number: u32) -> Answer
     }
 }
 
+// What a test answers: that it passed, or the refusal.
+pub enum Tested {
+    Passed,
+    Refused(u32),
+}
+
+// The replica that was looked for, or the refusal.
+pub enum FoundReplica {
+    Found(Replica),
+    Refused(u32),
+}
+
+// The certificate that was looked for, or the refusal.
+pub enum FoundCertificate {
+    Found(Certificate),
+    Refused(u32),
+}
+
+// The refusal that each holds, for a call to hand up.
+impl Tested {
+    pub fn refusal(self) -> u32
+        ensures { λ r. ⌜ r ≡ testRefusal self ⌝ }
+    {
+        match self {
+            Tested::Passed => ACCEPTED,
+            Tested::Refused(number) => number,
+        }
+    }
+}
+
+impl FoundReplica {
+    pub fn refusal(self) -> u32
+        ensures { λ r. ⌜ r ≡ replicaRefusal self ⌝ }
+    {
+        match self {
+            FoundReplica::Found(_) => ACCEPTED,
+            FoundReplica::Refused(number) => number,
+        }
+    }
+}
+
+impl FoundCertificate {
+    pub fn refusal(self) -> u32
+        ensures { λ r. ⌜ r ≡ certificateRefusal self ⌝ }
+    {
+        match self {
+            FoundCertificate::Found(_) => ACCEPTED,
+            FoundCertificate::Refused(number) => number,
+        }
+    }
+}
+
+// One need more: an earlier refusal is handed up unchanged.
+pub fn need(before: Tested, test: bool, number: u32) -> Tested
+    ensures { λ r. ⌜ r ≡ next before (test else number) ⌝ }
+{
+    let Tested::Passed = before else {
+        return before;
+    };
+    if test {
+        Tested::Passed
+    } else {
+        Tested::Refused(number)
+    }
+}
+
 // The form (1), then the replica (2).
-pub fn replica_refusal(table: &[u32], log: &[u32], blocks: &[u32], replica: u32) -> u32
-    ensures { λ r. ⌜ r ≡ firstRefusal (replicaNeeds (memory (now (table .entry)) (now (log .entry)) (now (blocks .entry))) replica) ⌝ }
+pub fn find_replica(table: &[u32], log: &[u32], blocks: &[u32], replica: u32) -> FoundReplica
+    ensures { λ r. ⌜ r ≡ replicaFound (memory (now (table .entry)) (now (log .entry)) (now (blocks .entry))) replica ⌝ }
 {
     if layout::form::is_well_formed(table, log, blocks) {
         if replica < layout::replica_count(table[FAULT_BOUND_AT]) {
-            0
-        } else {
-            OUT_OF_RANGE
+            return FoundReplica::Found(records::replica_in(table, replica));
         }
-    } else {
-        WRONG_FORM
+        return FoundReplica::Refused(OUT_OF_RANGE);
     }
+    FoundReplica::Refused(WRONG_FORM)
 }
 
-// The form (1), the replica (2), then a certificate's number (3).
-pub fn number_refusal(table: &[u32], log: &[u32], blocks: &[u32], replica: u32, number: u32) -> u32
-    ensures { λ r. ⌜ r ≡ firstRefusal (numberNeeds (memory (now (table .entry)) (now (log .entry)) (now (blocks .entry)))
-        replica number) ⌝ }
+// A certificate, by its number (3).
+pub fn find_certificate(table: &[u32], log: &[u32], number: u32) -> FoundCertificate
+    requires { ⌜ LogFits (now table) (now log) ⌝ }
+    ensures { λ r. ⌜ ((b : List ℕ) → r ≡ certificateFound (memory (now (table .entry)) (now (log .entry)) b) number) ⌝ }
 {
-    let refusal = replica_refusal(table, log, blocks, replica);
-    if refusal != 0 {
-        return refusal;
-    }
     if number < table[CERTIFICATE_COUNT_AT] {
-        0
-    } else {
-        UNKNOWN_NUMBER
+        return FoundCertificate::Found(records::certificate_in(log, number));
     }
+    FoundCertificate::Refused(UNKNOWN_NUMBER)
 }
 
-// The form (1), the replica and the length of a list (2), then its numbers (3).
-pub fn list_refusal(table: &[u32], log: &[u32], blocks: &[u32], replica: u32, list: &[u32]) -> u32
-    ensures { λ r. ⌜ r ≡ firstRefusal (listNeeds (memory (now (table .entry)) (now (log .entry)) (now (blocks .entry)))
-        replica (now (list .entry))) ⌝ }
+// The length of a list (2), then its numbers (3).
+pub fn test_list(table: &[u32], list: &[u32]) -> Tested
+    requires { ⌜ certificateCountAt < length (now table) ⌝ }
+    ensures { λ r. ⌜ r ≡ tested (listNeeds (memory (now (table .entry)) [] []) (now (list .entry))) ⌝ }
 {
-    let refusal = replica_refusal(table, log, blocks, replica);
-    if refusal != 0 {
-        return refusal;
-    }
-    if list.len() != (table[FAULT_BOUND_AT] as usize) + 1 {
-        return OUT_OF_RANGE;
-    }
-    if quorum::all_issued(list, table[CERTIFICATE_COUNT_AT]) {
-        0
-    } else {
-        UNKNOWN_NUMBER
-    }
+    let size = (table[FAULT_BOUND_AT] as usize) + 1;
+    let tested = need(Tested::Passed, list.len() == size, OUT_OF_RANGE);
+    let issued = quorum::all_issued(list, table[CERTIFICATE_COUNT_AT]);
+    need(tested, issued, UNKNOWN_NUMBER)
 }

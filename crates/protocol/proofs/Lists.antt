@@ -1,13 +1,23 @@
 -- Lists of certificates: what holds of every issued certificate holds of each one that an issued list names, of its first and of its
 -- greatest.
-use Prim.Native.Nat.{ℕ, _<_}
+use Prim.Native.Nat.{ℕ, zero, suc, _<_}
 use mathlib.Core.Path.{_≡_}
-use mathlib.Core.Bool.{true}
+use mathlib.Core.Bool.{Bool, true}
 use mathlib.Core.List.{List, [], _∷_}
+use native.Mathlib.Omega.{arith}
+use lib.ListN.{length, getD}
 use Rattle.protocol.specs.Memory.{Memory, Certificate, certificateCount, certificate}
 use Rattle.protocol.specs.Quorum.{every, isQuorumSize, isIssued, allIssued, certificatesOf, firstOf, isGreater, greater}
 use Rattle.protocol.specs.Quorum.{greatestFrom, greatest}
 use Rattle.protocol.proofs.Booleans.{tests, by-cond, and-true}
+
+-- A test of every item, at one of them.
+pub every-at : {A : Type 0} (test : A → Bool) (xs : List A) (d : A) → every test xs ≡ true → (i : ℕ) → i < length xs
+    → test (getD xs i d) ≡ true
+unfolding every
+every-at test [] d e i h = absurd (omega arith)
+every-at test (x ∷ xs) d e zero h = and-true (test x) (every test xs) e .0
+every-at test (x ∷ xs) d e (suc i) h = every-at test xs d (and-true (test x) (every test xs) e .1) i (omega arith)
 
 abbrev pub All : (Certificate → Type 0) → List Certificate → Type 0
 All P [] = Unit {0}

@@ -114,11 +114,10 @@ abbrev pub isJustified : ℕ → Justification → List Certificate → Bool
 isJustified i (Acc number) cs = allHold (isKind ACC (firstOf cs) ∷ eqb (firstOf cs .signer) i ∷ [])
 isJustified i (Commits view block) cs = isCommitQuorum view block cs
 
--- The first needs of a Prepare: the form, the replica, the length of a list, then the certificates' numbers.
-abbrev pub justificationNeeds : Memory → ℕ → Justification → List ℕ → List Need
-justificationNeeds m i justification list =
-    replicaNeeds m i
-    ++ (isSized m justification list else outOfRange ∷ allIssued m (numbersOf justification list) else unknownNumber ∷ [])
+-- The length of a list, then the certificates' numbers.
+abbrev pub justificationNeeds : Memory → Justification → List ℕ → List Need
+justificationNeeds m justification list =
+    isSized m justification list else outOfRange ∷ allIssued m (numbersOf justification list) else unknownNumber ∷ []
 
 -- "the box leads w; the block isn't 0 and its parent is the ground's block; low = w; flag 0; w < bound": of f, the replica, the block and
 -- its parent, and of the view and the block that the justification gives.
@@ -140,11 +139,12 @@ prepare m i b justification list =
     let cs = certificatesOf m (numbersOf justification list) in
     let w = proposalView justification cs in
     issuing m
-    (justificationNeeds m i justification list
+    (replicaNeeds m i
+    ++ (justificationNeeds m justification list
     ++ (isBlock m b else unknownNumber
     ∷ hasStatus live r else wrongStatus
     ∷ isJustified i justification cs else wrongCertificate
-    ∷ proposalNeeds (faultBound m) i r b (parent m b) w (justifiedBlock justification cs)))
+    ∷ proposalNeeds (faultBound m) i r b (parent m b) w (justifiedBlock justification cs))))
     i (flagAt becomes raised ∷ []) (propOf i w b)
 
 -- "live; the signer leads its view v; v ≥ low, v < bound": of f, the replica and the PROP.
@@ -163,7 +163,7 @@ unfoldable pub store : Memory → ℕ → ℕ → Rule
 store m i number =
     let r = replica m i in
     let p = certificate m number in
-    issuing m (numberNeeds m i number ++ storeNeeds (faultBound m) r p) i
+    issuing m (replicaNeeds m i ++ (numberNeeds m number ++ storeNeeds (faultBound m) r p)) i
     (storedViewAt becomes p .view
     ∷ storedBlockAt becomes p .block
     ∷ minViewAt becomes (p .view + 1)
@@ -203,7 +203,7 @@ accumulateNeeds r cs = hasStatus live r else wrongStatus ∷ isNewViewQuorum (fi
 unfoldable pub accumulate : Memory → ℕ → List ℕ → Rule
 accumulate m i list =
     let cs = certificatesOf m list in
-    issuing m (listNeeds m i list ++ accumulateNeeds (replica m i) cs) i []
+    issuing m (replicaNeeds m i ++ (listNeeds m list ++ accumulateNeeds (replica m i) cs)) i []
     (accOf i (firstOf cs .view) (greatest cs .block) (greatest cs .ofView))
 
 -- "matching commits"
@@ -219,7 +219,7 @@ unfoldable pub decide : Memory → ℕ → List ℕ → Rule
 decide m i list =
     let cs = certificatesOf m list in
     record {
-      needs = listNeeds m i list ++ decideNeeds cs;
+      needs = replicaNeeds m i ++ (listNeeds m list ++ decideNeeds cs);
       first = firstOf cs .block;
       second = firstOf cs .view;
       after = update m i (decisionWords (replica m i) (firstOf cs));
@@ -295,7 +295,7 @@ unfoldable pub reply : Memory → ℕ → ℕ → Rule
 reply m i number =
     let r = replica m i in
     let q = certificate m number in
-    issuing m (numberNeeds m i number ++ replyNeeds i r q) i
+    issuing m (replicaNeeds m i ++ (numberNeeds m number ++ replyNeeds i r q)) i
     (cond (ltb (r .minView) (q .view)) (minViewAt becomes q .view ∷ flagAt becomes lowered ∷ []) [])
     (replyOf i (q .view) (r .storedBlock) (r .storedView) (q .signer) (q .boot))
 
@@ -319,7 +319,7 @@ recover m i list =
     let r = replica m i in
     let cs = certificatesOf m list in
     record {
-      needs = listNeeds m i list ++ recoverNeeds i r cs;
+      needs = replicaNeeds m i ++ (listNeeds m list ++ recoverNeeds i r cs);
       first = recoveredView r cs;
       second = greatest cs .ofView;
       after =

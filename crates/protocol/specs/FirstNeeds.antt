@@ -1,7 +1,7 @@
 -- The needs that most calls begin with, in the order of document 01's table of refusals.
 use Prim.Native.Nat.{ℕ}
 use mathlib.Core.Bool.{Bool}
-use mathlib.Core.List.{List, [], _∷_, _++_}
+use mathlib.Core.List.{List, [], _∷_}
 use lib.Dec.{ltb}
 use Rattle.protocol.specs.Memory.{Memory, replicaCount, faultBound, blockCount}
 use Rattle.protocol.specs.Form.{wellFormed}
@@ -21,9 +21,9 @@ abbrev pub replicaNeeds : Memory → ℕ → List Need
 replicaNeeds m i = wellFormed m else wrongForm ∷ isReplica m i else outOfRange ∷ []
 
 -- then a certificate's number,
-abbrev pub numberNeeds : Memory → ℕ → ℕ → List Need
-numberNeeds m i number = replicaNeeds m i ++ (isIssued m number else unknownNumber ∷ [])
+abbrev pub numberNeeds : Memory → ℕ → List Need
+numberNeeds m number = isIssued m number else unknownNumber ∷ []
 
 -- or a list: its length and its numbers.
-abbrev pub listNeeds : Memory → ℕ → List ℕ → List Need
-listNeeds m i list = replicaNeeds m i ++ (isQuorumSize m list else outOfRange ∷ allIssued m list else unknownNumber ∷ [])
+abbrev pub listNeeds : Memory → List ℕ → List Need
+listNeeds m list = isQuorumSize m list else outOfRange ∷ allIssued m list else unknownNumber ∷ []

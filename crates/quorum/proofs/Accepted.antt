@@ -1,5 +1,5 @@
 -- For callers: what makes the record that the functions ask for, and what an accepted list tells.
-use Prim.Native.Nat.{ℕ, zero, suc, _<_}
+use Prim.Native.Nat.{ℕ, _<_}
 use mathlib.Core.Path.{_≡_, refl}
 use mathlib.Core.Bool.{Bool, true}
 use mathlib.Core.List.{List, [], _∷_}
@@ -12,17 +12,11 @@ use Rattle.protocol.specs.Certificates.{COMMIT}
 use Rattle.protocol.specs.Quorum.{every, isQuorumSize, isIssued, allIssued, certificatesOf, firstOf, contains}
 use Rattle.protocol.specs.Quorum.{isCommitQuorum}
 use Rattle.protocol.proofs.Booleans.{tests, by-test, and-true, each}
+use Rattle.protocol.proofs.Lists.{every-at}
 use Rattle.protocol.proofs.Formed.{Formed, sizes}
 use Rattle.quorum.specs.Lists.{Listed, Greatest}
 
 -- ---- lists
-
-pub every-at : {A : Type 0} (test : A → Bool) (xs : List A) (d : A) → every test xs ≡ true → (i : ℕ) → i < length xs
-    → test (getD xs i d) ≡ true
-unfolding every
-every-at test [] d e i h = absurd (omega arith)
-every-at test (x ∷ xs) d e zero h = and-true (test x) (every test xs) e .0
-every-at test (x ∷ xs) d e (suc i) h = every-at test xs d (and-true (test x) (every test xs) e .1) i (omega arith)
 
 pub every-contained : (test : ℕ → Bool) (xs : List ℕ) (x : ℕ) → every test xs ≡ true → contains x xs ≡ true → test x ≡ true
 unfolding every contains

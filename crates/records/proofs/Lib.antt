@@ -1,2 +1,2 @@
--- Laws for callers.
-pub mod Reading
+-- Laws of the words that are set together.
+pub mod Setting

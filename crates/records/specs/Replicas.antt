@@ -1,9 +1,14 @@
--- A replica of the code, as the rules have it; and what is written of one that starts.
-use Prim.Native.Nat.{ℕ}
+-- Replicas and certificates of the code, as the rules have them, and back; and the words of a replica that are set together.
+use Prim.Native.Nat.{ℕ, _<_}
+use mathlib.Core.Path.{_≡_}
+use mathlib.Core.Bool.{true}
 use mathlib.Core.List.{List, [], _∷_}
+use lib.ListN.{length}
+use lib.Dec.{ltb}
 use Rattle.protocol.specs.Memory as Memory
-use Rattle.protocol.specs.Memory.{Assignment, _becomes_, statusAt, bootAt, minViewAt, viewLimitAt, flagAt, storedViewAt, storedBlockAt}
-use Rattle.protocol.specs.Memory.{lowered}
+use Rattle.protocol.specs.Memory.{Assignment, _becomes_, replicaWords}
+use Rattle.protocol.specs.Quorum.{every}
+use Rattle.certificates.specs.declared.Certificate.{Certificate}
 use Rattle.records.specs.declared.Replica.{Replica}
 
 abbrev pub replicaOf : Replica → Memory.Replica
@@ -20,14 +25,39 @@ replicaOf r =
       decidedBlock = r .«decided_block»;
     }
 
--- By its status, boot, lowest view and view limit: the flag is lowered, and nothing is stored.
-abbrev pub started : ℕ → ℕ → ℕ → ℕ → List Assignment
-started status boot minView limit =
-    statusAt becomes status
-    ∷ bootAt becomes boot
-    ∷ minViewAt becomes minView
-    ∷ viewLimitAt becomes limit
-    ∷ flagAt becomes lowered
-    ∷ storedViewAt becomes 0
-    ∷ storedBlockAt becomes 0
-    ∷ []
+abbrev pub replicaFrom : Memory.Replica → Replica
+replicaFrom r =
+    record {
+      status = r .status;
+      boot = r .boot;
+      «min_view» = r .minView;
+      «view_limit» = r .viewLimit;
+      flag = r .flag;
+      «stored_view» = r .storedView;
+      «stored_block» = r .storedBlock;
+      «decided_view» = r .decidedView;
+      «decided_block» = r .decidedBlock;
+    }
+
+abbrev pub certificateFrom : Memory.Certificate → Certificate
+certificateFrom c =
+    record {
+      kind = c .kind;
+      signer = c .signer;
+      view = c .view;
+      block = c .block;
+      «of_view» = c .ofView;
+      subject = c .subject;
+      boot = c .boot;
+    }
+
+-- Each offset of the row with its new value.
+abbrev pub assignments : List ℕ → List ℕ → List Assignment
+assignments [] values = []
+assignments (offset ∷ offsets) [] = []
+assignments (offset ∷ offsets) (value ∷ values) = (offset becomes value) ∷ assignments offsets values
+
+-- As many values as offsets, and each offset is one of the row's.
+pub record Settable (offsets values : List ℕ) : Type 0 where
+  pub paired : length offsets ≡ length values
+  pub within : every (λ k. ltb k replicaWords) offsets ≡ true

@@ -1,4 +1,4 @@
-// Replicas and certificates read whole, as records, so that each word is read once; and the words of a replica that starts.
+// Replicas and certificates read whole, as records, so that each word is read once; and words of a replica set together.
 ghost use mathlib.Core.Path.{_≡_};
 ghost use mathlib.Core.List.{[]};
 ghost use Prim.Native.Nat.{_+_, _≤_};
@@ -13,8 +13,7 @@ ghost use Rattle.protocol.specs.Memory.{
   certificate,
   assign,
 };
-ghost use Rattle.certificates.specs.Filing.{certificateOf};
-ghost use Rattle.records.specs.Replicas.{replicaOf, started};
+ghost use Rattle.records.specs.Replicas.{replicaFrom, certificateFrom, assignments, Settable};
 use certificates::Certificate;
 use layout::certificate_word;
 use layout::replica_word;
@@ -34,7 +33,7 @@ pub struct Replica {
 
 pub fn replica_in(table: &[u32], replica: u32) -> Replica
     requires { ⌜ rowAt replica + replicaWords ≤ length (now table) ⌝ }
-    ensures { λ r. ⌜ replicaOf r ≡ replicaAt (memory (now (table .entry)) [] []) replica ⌝ }
+    ensures { λ r. ⌜ r ≡ replicaFrom (replicaAt (memory (now (table .entry)) [] []) replica) ⌝ }
 {
     Replica {
         status: replica_word(table, replica, layout::STATUS_AT),
@@ -49,30 +48,24 @@ pub fn replica_in(table: &[u32], replica: u32) -> Replica
     }
 }
 
-// Writes a replica that starts: its flag is lowered, and nothing is stored.
-pub fn start_replica(
-    table: &mut [u32],
-    replica: u32,
-    status: u32,
-    boot: u32,
-    min_view: u32,
-    limit: u32,
-)
+// Sets words of a replica, each by its offset in the row.
+pub fn set_words(table: &mut [u32], replica: u32, offsets: &[usize], values: &[u32])
     requires { ⌜ rowAt replica + replicaWords ≤ length (now table) ⌝ }
-    ensures { λ _. ⌜ now (table .exit) ≡ assign (now (table .entry)) (rowAt replica) (started status boot «min_view» limit) ⌝ }
+    requires { ⌜ Settable (now offsets) (now values) ⌝ }
+    ensures { λ _. ⌜ now (table .exit)
+        ≡ assign (now (table .entry)) (rowAt replica) (assignments (now (offsets .entry)) (now (values .entry))) ⌝ }
 {
-    set_replica_word(table, replica, layout::STATUS_AT, status);
-    set_replica_word(table, replica, layout::BOOT_AT, boot);
-    set_replica_word(table, replica, layout::MIN_VIEW_AT, min_view);
-    set_replica_word(table, replica, layout::VIEW_LIMIT_AT, limit);
-    set_replica_word(table, replica, layout::FLAG_AT, layout::LOWERED);
-    set_replica_word(table, replica, layout::STORED_VIEW_AT, 0);
-    set_replica_word(table, replica, layout::STORED_BLOCK_AT, 0);
+    let mut i = 0;
+    while i < offsets.len() {
+        let offset = offsets[i];
+        set_replica_word(table, replica, offset, values[i]);
+        i += 1;
+    }
 }
 
 pub fn certificate_in(log: &[u32], number: u32) -> Certificate
     requires { ⌜ certificateAt number + certificateWords ≤ length (now log) ⌝ }
-    ensures { λ r. ⌜ certificateOf r ≡ certificate (memory [] (now (log .entry)) []) number ⌝ }
+    ensures { λ r. ⌜ r ≡ certificateFrom (certificate (memory [] (now (log .entry)) []) number) ⌝ }
 {
     Certificate {
         kind: certificate_word(log, number, layout::KIND_AT),

@@ -9,10 +9,10 @@ use Rattle.protocol.specs.Certificates.{numberFor, canFile, file}
 use Rattle.protocol.specs.Outcome.{firstRefusal, answered, follow, noRoom}
 use Rattle.protocol.specs.Calls.{issuing}
 use Rattle.protocol.proofs.Needs.{refusal, acceptance}
 use Rattle.certificates.specs.declared.Filed.{Filed}
 use Rattle.certificates.specs.declared.Filed.the-variants.{At, Refused}
-use Rattle.certificates.specs.Filing.{Result, filing, refusalOf}
+use Rattle.certificates.specs.Filing.{Result, filing, filingRefusal}
 use Rattle.certificates.proofs.Slots.{placed, not-placed}
 
 module _ (m : Memory) (i : ℕ) (changes : List Assignment) (c : Certificate) where
   refused-no-room : canFile m (words c) ≡ false → follow m (issuing m [] i changes c) ≡ refusal noRoom m
@@ -24,10 +24,10 @@ module _ (m : Memory) (i : ℕ) (changes : List Assignment) (c : Certificate) wh
   unfolding follow issuing answered firstRefusal
   issues can = rw can
 
-  -- From what `file`, `refusal_of`, `refused` and `accepted` give.
+  -- From what `file`, `refusal`, `refused` and `accepted` give.
   module _ {d : Certificate} (same : d ≡ c) {r : Filed} {n : ℕ} {m′ : Memory}
       (filed : record { outcome = r; memory = m′ } ≡ filing m (words d)) where
-    pub full : {a : Answer} {k : ℕ} → r ≡ Refused n → k ≡ refusalOf r → a ≡ record { number = k; first = 0; second = 0 }
+    pub full : {a : Answer} {k : ℕ} → r ≡ Refused n → k ≡ filingRefusal r → a ≡ record { number = k; first = 0; second = 0 }
         → record { answer = a; memory = m′ } ≡ follow m (issuing m [] i changes c)
     unfolding filing
     full at e p =

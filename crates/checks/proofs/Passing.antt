@@ -1,0 +1,110 @@
+-- How a call goes from one need to the next, from what the code's tests answer: refused, with the number handed up, or on to the rest.
+use Prim.Native.Nat.{ℕ}
+use mathlib.Core.Path.{_≡_, refl, sym, _∙_}
+use mathlib.Core.Bool.{Bool, true, false}
+use mathlib.Core.List.{List, [], _∷_, _++_}
+use Rattle.protocol.specs.declared.Answer.{Answer}
+use Rattle.protocol.specs.Memory.{Memory, replica, certificate}
+use Rattle.protocol.specs.Quorum.{isIssued}
+use Rattle.protocol.specs.Outcome.{Need, _else_, Rule, firstRefusal, follow}
+use Rattle.protocol.specs.FirstNeeds.{replicaNeeds, numberNeeds}
+use Rattle.protocol.proofs.Needs as Needs
+use Rattle.protocol.proofs.Needs.{Holds, positive, all-needs, refused-first, all-pass}
+use Rattle.certificates.specs.declared.Certificate.{Certificate}
+use Rattle.records.specs.declared.Replica.{Replica}
+use Rattle.records.specs.Replicas.{replicaFrom, certificateFrom}
+use Rattle.checks.specs.declared.Tested.{Tested}
+use Rattle.checks.specs.declared.Tested.the-variants as Test
+use Rattle.checks.specs.declared.FoundReplica.{FoundReplica}
+use Rattle.checks.specs.declared.FoundReplica.the-variants as OfReplica
+use Rattle.checks.specs.declared.FoundCertificate.{FoundCertificate}
+use Rattle.checks.specs.declared.FoundCertificate.the-variants as OfCertificate
+use Rattle.checks.specs.Verdicts.{tested, replicaFound, certificateFound, testRefusal, replicaRefusal, certificateRefusal}
+use Rattle.checks.proofs.Ready.{Ready, ready}
+use Rattle.checks.proofs.Verdicts.{was-refused, was-found, tested-is}
+
+-- The needs of a rule up to these hold: what the rest refuses, the rule refuses.
+pub record At (rule : Rule) (rest : List Need) : Type 0 where
+  pub same : firstRefusal (rule .needs) ≡ firstRefusal rest
+
+pub start : (rule : Rule) → At rule (rule .needs)
+start rule = record { same = refl }
+
+module _ {rule : Rule} where
+  pub on : (ns rest : List Need) → positive ns ≡ true → At rule (ns ++ rest) → firstRefusal ns ≡ 0 → At rule rest
+  on ns rest p at e = record { same = at .same ∙ all-pass ns rest p e }
+
+  pub accepts : (m : Memory) {m′ : Memory} {a : Answer} → At rule [] → a ≡ record { number = 0; first = rule .first; second = rule .second }
+      → m′ ≡ rule .after → record { answer = a; memory = m′ } ≡ follow m rule
+  unfolding firstRefusal
+  accepts m at e after = rw (e, after) (Needs.accepts m rule (sym (at .same)))
+
+  module _ {m : Memory} {a : Answer} {n k : ℕ} (k-is : k ≡ n) (answer : a ≡ record { number = k; first = 0; second = 0 }) where
+    stops : (ns rest : List Need) → At rule (ns ++ rest) → (n ≡ firstRefusal ns) × (n ≡ 0 → ⊥)
+        → record { answer = a; memory = m } ≡ follow m rule
+    stops ns rest at w =
+        let first = refused-first ns rest (λ z. w .1 (w .0 ∙ z)) in
+        rw (answer, k-is) (Needs.refuses m rule n (w .0 ∙ sym first ∙ sym (at .same)) (w .1))
+
+-- ---- by what is found: a replica
+
+-- What is known once it is found.
+pub record ReplicaFound (m : Memory) (i : ℕ) (rule : Rule) (rest : List Need) (r : Replica) : Type 0 where
+  pub ready : Ready m i
+  pub read : r ≡ replicaFrom (replica m i)
+  pub at : At rule rest
+
+module _ (m : Memory) (i : ℕ) {rule : Rule} (rest : List Need) (at : At rule (replicaNeeds m i ++ rest))
+    {f : FoundReplica} (is : f ≡ replicaFound m i) where
+  pub no-replica : {a : Answer} {n k : ℕ} → f ≡ OfReplica.Refused n → k ≡ replicaRefusal f
+      → a ≡ record { number = k; first = 0; second = 0 } → record { answer = a; memory = m } ≡ follow m rule
+  no-replica told number answer =
+      stops (number ∙ rw told refl) answer (replicaNeeds m i) rest at
+      (was-refused _ _ (replicaNeeds m i) (λ e. cc) (λ k e. cc) (sym told ∙ is))
+
+  pub found-replica : {r : Replica} → f ≡ OfReplica.Found r → ReplicaFound m i rule rest r
+  found-replica told =
+      let w = was-found _ _ (replicaNeeds m i) (λ k e. cc) (sym told ∙ is) in
+      record { ready = ready m i (w .0); read = let e = w .1 in cc; at = on (replicaNeeds m i) rest refl at (w .0) }
+
+-- ---- a certificate
+
+pub record CertificateFound (m : Memory) (number : ℕ) (rule : Rule) (rest : List Need) (c : Certificate) : Type 0 where
+  pub issued : isIssued m number ≡ true
+  pub read : c ≡ certificateFrom (certificate m number)
+  pub at : At rule rest
+
+module _ (m : Memory) (number : ℕ) {rule : Rule} (rest : List Need) (at : At rule (numberNeeds m number ++ rest))
+    {f : FoundCertificate} (is : f ≡ certificateFound m number) where
+  pub no-certificate : {a : Answer} {n k : ℕ} → f ≡ OfCertificate.Refused n → k ≡ certificateRefusal f
+      → a ≡ record { number = k; first = 0; second = 0 } → record { answer = a; memory = m } ≡ follow m rule
+  no-certificate told refusal answer =
+      stops (refusal ∙ rw told refl) answer (numberNeeds m number) rest at
+      (was-refused _ _ (numberNeeds m number) (λ e. cc) (λ k e. cc) (sym told ∙ is))
+
+  pub found-certificate : {c : Certificate} → f ≡ OfCertificate.Found c → CertificateFound m number rule rest c
+  found-certificate told =
+      let w = was-found _ _ (numberNeeds m number) (λ k e. cc) (sym told ∙ is) in
+      record {
+        issued = all-needs (numberNeeds m number) refl (w .0) .0;
+        read = let e = w .1 in cc;
+        at = on (numberNeeds m number) rest refl at (w .0);
+      }
+
+-- ---- by the answer of a test
+
+module _ (ns : List Need) (numbered : positive ns ≡ true) {t : Tested} (is : t ≡ tested ns) where
+  pub failed : (m : Memory) {rule : Rule} (rest : List Need) → At rule (ns ++ rest) → {a : Answer} {n k : ℕ} → t ≡ Test.Refused n → k ≡ testRefusal t
+      → a ≡ record { number = k; first = 0; second = 0 } → record { answer = a; memory = m } ≡ follow m rule
+  failed m rest at told refusal answer =
+      stops (refusal ∙ rw told refl) answer ns rest at
+      (was-refused _ _ ns (λ e. cc) (λ k e. cc) (sym told ∙ is ∙ tested-is ns numbered))
+
+  passes : t ≡ Test.Passed → firstRefusal ns ≡ 0
+  passes told = was-found _ _ ns (λ k e. cc) (sym told ∙ is ∙ tested-is ns numbered) .0
+
+  pub held : t ≡ Test.Passed → Holds ns
+  held told = all-needs ns numbered (passes told)
+
+  pub passed : {rule : Rule} (rest : List Need) → At rule (ns ++ rest) → t ≡ Test.Passed → At rule rest
+  passed rest at told = on ns rest numbered at (passes told)

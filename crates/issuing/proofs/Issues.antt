@@ -1,0 +1,27 @@
+-- For callers: what `issue` asks, and the rule of a call whose needs hold up to the log's slot.
+use Prim.Native.Nat.{ℕ, zero, suc}
+use mathlib.Core.Path.{_≡_, refl, sym, ap, _∙_}
+use mathlib.Core.List.{List, [], _∷_}
+use Rattle.protocol.specs.Memory.{Memory, Certificate, Assignment, words}
+use Rattle.protocol.specs.Certificates.{canFile}
+use Rattle.protocol.specs.Outcome.{Outcome, Need, _else_, firstRefusal, answered, follow, noRoom}
+use Rattle.protocol.specs.Calls.{issuing}
+use Rattle.certificates.proofs.Fits.{log-fits}
+use Rattle.checks.proofs.Ready.{Ready, row-within}
+use Rattle.checks.proofs.Passing.{At}
+use Rattle.issuing.specs.Issuable.{Issuable}
+
+pub issuable : (m : Memory) (i : ℕ) → Ready m i → Issuable (m .table) (m .log) i
+issuable m i h = record { fits = log-fits m (h .formed); row = row-within m i h }
+
+pub issues : (m : Memory) (needs : List Need) (i : ℕ) (changes : List Assignment) (c : Certificate)
+    → At (issuing m needs i changes c) (canFile m (words c) else noRoom ∷ []) → {o : Outcome}
+    → o ≡ follow m (issuing m [] i changes c) → o ≡ follow m (issuing m needs i changes c)
+unfolding follow answered issuing
+issues m needs i changes c at e =
+    e ∙ go (firstRefusal (issuing m [] i changes c .needs))
+    ∙ ap (λ (n : ℕ). answered n m (issuing m needs i changes c)) (sym (at .same))
+  where
+    go : (n : ℕ) → answered n m (issuing m [] i changes c) ≡ answered n m (issuing m needs i changes c)
+    go zero = refl
+    go (suc n) = refl

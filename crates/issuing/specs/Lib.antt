@@ -1,0 +1,2 @@
+-- What issuing asks.
+pub mod Issuable

@@ -58,7 +58,7 @@ refused-stays n [] = refl
 refused-stays n (need ∷ ns) = refused-stays n ns
 
 pub tested-is : (ns : List Need) → positive ns ≡ true → tested ns ≡ verdict ns Passed Refused
-unfolding next verdict firstRefusal
+unfolding next tested verdict firstRefusal
 tested-is [] p = refl
 tested-is ((true else n) ∷ ns) p = tested-is ns (and-true (leb 1 n) (positive ns) p .1)
 tested-is ((false else zero) ∷ ns) p = absurd (let h = and-true (leb 1 0) (positive ns) p in omega tests)

@@ -37,7 +37,7 @@ abbrev pub testedAfter : Tested → List Need → Tested
 testedAfter before [] = before
 testedAfter before (need ∷ needs) = testedAfter (next before need) needs
 
-abbrev pub tested : List Need → Tested
+unfoldable pub tested : List Need → Tested
 tested needs = testedAfter Test.Passed needs
 
 -- The number that each holds; 0, "accepted", where it holds none.

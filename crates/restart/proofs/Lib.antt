@@ -1,2 +1,1 @@
-pub mod Reserving
-pub mod Rebooting
+pub mod Limits

@@ -1,15 +1,29 @@
 // The two calls that move a replica's counter on (document 01, "Calls"): reboot and reserve.
 ghost use mathlib.Core.Path.{_≡_};
-ghost use Rattle.protocol.specs.Outcome.{outcome, firstRefusal, outcomeBy};
-ghost use Rattle.protocol.specs.Calls.{reserve as reserveRule, reboot as rebootRule};
+ghost use Rattle.protocol.specs.Outcome.{outcome, outcomeBy};
+ghost use Rattle.protocol.specs.Calls.{
+  reserveNeeds,
+  retires as retiresRule,
+  reserve as reserveRule,
+  reboot as rebootRule,
+};
 ghost use Rattle.records.specs.Replicas.{replicaOf};
-ghost use Rattle.restart.specs.Tests.{reserveTests, retiring};
+ghost use Rattle.checks.specs.Verdicts.{tested};
+use checks::FoundReplica;
+use checks::Tested;
 use checks::accepted;
+use checks::need;
 use checks::refused;
+use layout::BOOT_AT;
 use layout::CEILING;
+use layout::FLAG_AT;
+use layout::LOWERED;
+use layout::MIN_VIEW_AT;
 use layout::RECOVERING;
 use layout::RETIRED;
 use layout::STATUS_AT;
+use layout::STORED_BLOCK_AT;
+use layout::STORED_VIEW_AT;
 use layout::VIEW_LIMIT_AT;
 use layout::set_replica_word;
 use protocol::Answer;
@@ -19,7 +33,7 @@ use records::Replica;
 
 // Whether a reboot, to this boot and view limit, retires the replica.
 fn retires(r: Replica, boot: u32, limit: u32) -> bool
-    ensures { λ b. ⌜ b ≡ retiring (replicaOf r) boot limit ⌝ }
+    ensures { λ b. ⌜ b ≡ retiresRule (replicaOf r) boot limit ⌝ }
 {
     (r.status == RETIRED) | (CEILING < boot) | (CEILING < limit)
 }
@@ -29,32 +43,36 @@ pub fn reboot(table: &mut [u32], log: &mut [u32], blocks: &mut [u32], replica: u
     ensures { λ r. ⌜ outcome r (now (table .exit)) (now (log .exit)) (now (blocks .exit))
         ≡ outcomeBy (λ m. rebootRule m replica) (now (table .entry)) (now (log .entry)) (now (blocks .entry)) ⌝ }
 {
-    let refusal = checks::replica_refusal(table, log, blocks, replica);
-    if refusal != 0 {
-        return refused(refusal);
-    }
-    let r = records::replica_in(table, replica);
+    let found = checks::find_replica(table, log, blocks, replica);
+    let FoundReplica::Found(r) = found else {
+        return refused(found.refusal());
+    };
     let boot = r.boot + 1;
     let limit = r.view_limit + counter::counter_step(boot);
     if retires(r, boot, limit) {
         set_replica_word(table, replica, STATUS_AT, RETIRED);
         return accepted(r.boot, r.min_view);
     }
-    records::start_replica(table, replica, RECOVERING, boot, r.view_limit, limit);
+    let offsets = [
+        STATUS_AT,
+        BOOT_AT,
+        MIN_VIEW_AT,
+        VIEW_LIMIT_AT,
+        FLAG_AT,
+        STORED_VIEW_AT,
+        STORED_BLOCK_AT,
+    ];
+    let values = [RECOVERING, boot, r.view_limit, limit, LOWERED, 0, 0];
+    records::set_words(table, replica, &offsets, &values);
     accepted(boot, r.view_limit)
 }
 
-// The refusals of reserve after the shared ones.
-fn reserve_refusal(r: Replica, limit: u32) -> u32
-    ensures { λ n. ⌜ n ≡ firstRefusal (reserveTests (replicaOf r) limit) ⌝ }
+// The needs of reserve that are its own.
+fn test_reserve(r: Replica, limit: u32) -> Tested
+    ensures { λ t. ⌜ t ≡ tested (reserveNeeds (replicaOf r) limit) ⌝ }
 {
-    if r.status == RETIRED {
-        return WRONG_STATUS;
-    }
-    if CEILING < limit {
-        return COUNTER_LIMIT;
-    }
-    0
+    let tested = need(Tested::Passed, r.status != RETIRED, WRONG_STATUS);
+    need(tested, limit <= CEILING, COUNTER_LIMIT)
 }
 
 // The counter moves, and with it the view limit.
@@ -62,16 +80,15 @@ pub fn reserve(table: &mut [u32], log: &mut [u32], blocks: &mut [u32], replica: 
     ensures { λ r. ⌜ outcome r (now (table .exit)) (now (log .exit)) (now (blocks .exit))
         ≡ outcomeBy (λ m. reserveRule m replica) (now (table .entry)) (now (log .entry)) (now (blocks .entry)) ⌝ }
 {
-    let refusal = checks::replica_refusal(table, log, blocks, replica);
-    if refusal != 0 {
-        return refused(refusal);
-    }
-    let r = records::replica_in(table, replica);
+    let found = checks::find_replica(table, log, blocks, replica);
+    let FoundReplica::Found(r) = found else {
+        return refused(found.refusal());
+    };
     let limit = r.view_limit + counter::counter_step(r.boot);
-    let refusal = reserve_refusal(r, limit);
-    if refusal != 0 {
-        return refused(refusal);
-    }
+    let tested = test_reserve(r, limit);
+    let Tested::Passed = tested else {
+        return refused(tested.refusal());
+    };
     set_replica_word(table, replica, VIEW_LIMIT_AT, limit);
     accepted(limit, 0)
 }

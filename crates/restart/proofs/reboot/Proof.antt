@@ -1,80 +1,82 @@
--- Refused, retired, or started again; what was read of the replica is what the rule speaks of.
+-- Refused, retired, or started again; what was found of the replica is what the rule speaks of.
+use mathlib.Core.Path.{refl, sym, _∙_}
 use native.Mathlib.Omega.{arith}
 use borrow.Author.Needs.{needs}
+use Rattle.protocol.specs.Memory.{memory, update}
+use Rattle.protocol.specs.Quorum.{every}
 use Rattle.protocol.specs.Calls.{reboot as rebootRule}
-use Rattle.checks.proofs.Ends.{refuses, ready-by, row-within}
-use Rattle.records.proofs.Reading.{replica-read}
-use Rattle.restart.proofs.Reserving.{limit-fits}
-use Rattle.restart.proofs.Rebooting.{boot-fits, reboot-retires, reboot-restarts}
+use Rattle.checks.proofs.Ready.{row-within}
+use Rattle.checks.proofs.Passing.{start, accepts, no-replica, found-replica}
+use Rattle.restart.proofs.Limits.{boot-fits, limit-fits}
 use Rattle.restart.proofs.reboot.Statement.{statement}
 use Rattle.restart.proofs.reboot.Tie as tie
 
 returns : tie.Need-returns
 unfolding rebootRule
 returns c =
-    refuses _ _ (c .refused .ensures) (c .before .if1 .taken) (c .before .before .replica-refusal .ensures)
-
-replica-in-requires : tie.Need-replica-in-requires
-replica-in-requires c κs =
-    row-within _ _ (ready-by _ _ (c .before .before .replica-refusal .ensures) (c .before .if1 .left))
+    no-replica _ _ _ (start _) (c .before .before .before .before .find-replica .ensures) (c .before .before .enum-told .given .1) (c .before .refusal .ensures) (c .refused .ensures)
 
 add-boot : tie.Need-add-boot
+unfolding rebootRule
 add-boot c =
-    let r = c .before in
-    let ok = r .before .before in
-    let w = ready-by _ _ (ok .before .replica-refusal .ensures) (ok .if1 .left) in
-    rw (replica-read (r .replica-in .ensures)) (record { fits = boot-fits _ _ w })
+    let at-found = c .before .before in
+    let found = found-replica _ _ _ (start (rebootRule _ _)) (at-found .before .before .find-replica .ensures) (at-found .found .given .1) in
+    rw (found .read) (record { fits = boot-fits _ _ (found .ready) })
 
 add-limit : tie.Need-add-limit
+unfolding rebootRule
 add-limit c =
-    let step = c .before in
-    let r = step .before .before in
-    let ok = r .before .before in
-    let w = ready-by _ _ (ok .before .replica-refusal .ensures) (ok .if1 .left) in
-    rw (replica-read (r .replica-in .ensures)) (record { fits = limit-fits _ _ _ w (step .counter-step .ensures _) })
+    let at-found = c .before .before .before .before in
+    let found = found-replica _ _ _ (start (rebootRule _ _)) (at-found .before .before .find-replica .ensures) (at-found .found .given .1) in
+    rw (found .read) (record { fits = limit-fits _ _ _ (found .ready) (c .before .counter-step .ensures _) })
 
 set-replica-word-requires : tie.Need-set-replica-word-requires
+unfolding rebootRule
 set-replica-word-requires c κs =
-    let ok = c .before .before .before .before .before .before .before .before in
-    let first = ok .before in
-    omega (arith, row-within _ _ (ready-by _ _ (first .replica-refusal .ensures) (ok .if1 .left)))
+    let at-found = c .before .before .before .before .before .before .before in
+    let found = found-replica _ _ _ (start (rebootRule _ _)) (at-found .before .before .find-replica .ensures) (at-found .found .given .1) in
+    omega (arith, row-within _ _ (found .ready))
 
 returns-2 : tie.Need-returns-2
+unfolding rebootRule update
 returns-2 c =
     let written = c .before .before .before in
-    let is = written .before .before in
-    let tested = is .before in
+    let tested = written .before .before .before in
     let step = tested .before .before in
-    let r = step .before .before in
-    let ok = r .before .before in
-    let read = replica-read (r .replica-in .ensures) in
-    reboot-retires _ _ (ok .before .replica-refusal .ensures) (ok .if1 .left) (rw read at (step .counter-step .ensures))
-    (rw read at (tested .retires .ensures)) (is .if2 .taken) (rw read at (c .accepted .ensures)) (written .set-replica-word .ensures)
+    let at-found = step .before .before .before in
+    let found = found-replica _ _ _ (start (rebootRule _ _)) (at-found .before .before .find-replica .ensures) (at-found .found .given .1) in
+    let a = c .before .before .before .before .before .before .before .before .before .before .before .before .before .before .before .before .before .before .before .before .args in
+    let stepped = rw (found .read) at (step .counter-step .ensures (memory (a .table .now) (a .log .now) (a .blocks .now))) in
+    let retires = sym (rw (found .read, stepped) at (tested .retires .ensures)) ∙ written .before .before .if1 .taken in
+    accepts _ (found .at) (rw retires (rw (found .read) at (c .accepted .ensures))) (rw (retires, written .set-replica-word .ensures))
 
-start-replica-requires : tie.Need-start-replica-requires
-start-replica-requires c κs =
-    let ok = c .before .before .before .before .before .before .before .before in
-    let first = ok .before in
-    row-within _ _ (ready-by _ _ (first .replica-refusal .ensures) (ok .if1 .left))
+set-words-requires : tie.Need-set-words-requires
+unfolding rebootRule every
+set-words-requires c κs =
+    let at-found = c .before .before .before .before .before .before .before .before .before in
+    let found = found-replica _ _ _ (start (rebootRule _ _)) (at-found .before .before .find-replica .ensures) (at-found .found .given .1) in
+    (row-within _ _ (found .ready), record { paired = refl; within = refl })
 
 returns-3 : tie.Need-returns-3
+unfolding rebootRule update
 returns-3 c =
     let written = c .before .before .before in
-    let is = written .before .before in
-    let tested = is .before in
+    let restarts = written .before .before .before .before in
+    let tested = restarts .before in
     let step = tested .before .before in
-    let r = step .before .before in
-    let ok = r .before .before in
-    let read = replica-read (r .replica-in .ensures) in
-    reboot-restarts _ _ (ok .before .replica-refusal .ensures) (ok .if1 .left) (rw read at (step .counter-step .ensures))
-    (rw read at (tested .retires .ensures)) (is .if2 .left) (rw read at (c .accepted2 .ensures))
-    (rw read at (written .start-replica .ensures))
+    let at-found = step .before .before .before in
+    let found = found-replica _ _ _ (start (rebootRule _ _)) (at-found .before .before .find-replica .ensures) (at-found .found .given .1) in
+    let a = c .before .before .before .before .before .before .before .before .before .before .before .before .before .before .before .before .before .before .before .before .before .before .args in
+    let stepped = rw (found .read) at (step .counter-step .ensures (memory (a .table .now) (a .log .now) (a .blocks .now))) in
+    let stays = sym (rw (found .read, stepped) at (tested .retires .ensures)) ∙ restarts .if1 .left in
+    accepts _ (found .at) (rw stays (rw (found .read) at (c .accepted2 .ensures)))
+    (rw (stays, written .set-words .ensures, found .read, stepped))
 
 pub reboot-spec : {M : Type 1} → statement M
 reboot-spec =
     tie.close
-    (tie.spec (λ c κs. search needs) (λ c κs. search needs) (λ c. search needs) (λ c. search needs) (λ c.
-    search needs) returns replica-in-requires add-boot (λ c κs. search needs) add-limit (λ c κs. search needs)
-    set-replica-word-requires (λ c κs. search needs) (λ c. search needs) (λ c. search needs) (λ c. search
-    needs) returns-2 start-replica-requires (λ c κs. search needs) (λ c. search needs) (λ c. search needs) (λ c.
-    search needs) returns-3)
+    (tie.spec (λ c κs. search needs) (λ c. search needs) (λ c. search needs) (λ c κs. search needs)
+    (λ c κs. search needs) (λ c. search needs) (λ c. search needs) (λ c. search needs) returns add-boot
+    (λ c κs. search needs) add-limit (λ c κs. search needs) set-replica-word-requires (λ c κs. search needs)
+    (λ c. search needs) (λ c. search needs) (λ c. search needs) returns-2 (λ c. search needs) (λ c. search needs)
+    set-words-requires (λ c κs. search needs) (λ c. search needs) (λ c. search needs) (λ c. search needs) returns-3)

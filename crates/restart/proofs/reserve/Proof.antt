@@ -1,66 +1,68 @@
--- Refused, or the limit is written; what was read of the replica is what the rule speaks of.
+-- Refused, or the limit is written; what was found of the replica is what the rule speaks of.
+use mathlib.Core.Path.{refl}
 use native.Mathlib.Omega.{arith}
 use borrow.Author.Needs.{needs}
+use Rattle.protocol.specs.Memory.{memory, update}
 use Rattle.protocol.specs.Calls.{reserve as reserveRule}
-use Rattle.checks.proofs.Ready.{stopped}
-use Rattle.checks.proofs.Ends.{refuses, ready-by, row-within}
-use Rattle.records.proofs.Reading.{replica-read}
-use Rattle.restart.proofs.Reserving.{limit-fits, reserve-refused, reserve-accepted}
+use Rattle.checks.proofs.Ready.{row-within}
+use Rattle.checks.proofs.Passing.{start, accepts, no-replica, found-replica, failed, passed}
+use Rattle.restart.proofs.Limits.{limit-fits}
 use Rattle.restart.proofs.reserve.Statement.{statement}
 use Rattle.restart.proofs.reserve.Tie as tie
 
 returns : tie.Need-returns
 unfolding reserveRule
 returns c =
-    refuses _ _ (c .refused .ensures) (c .before .if1 .taken)
-    (stopped _ _ (c .before .before .replica-refusal .ensures) (c .before .if1 .taken))
-
-replica-in-requires : tie.Need-replica-in-requires
-replica-in-requires c κs =
-    row-within _ _ (ready-by _ _ (c .before .before .replica-refusal .ensures) (c .before .if1 .left))
+    no-replica _ _ _ (start _) (c .before .before .before .before .find-replica .ensures) (c .before .before .enum-told .given .1) (c .before .refusal .ensures) (c .refused .ensures)
 
 add-limit : tie.Need-add-limit
+unfolding reserveRule
 add-limit c =
-    let step = c .before in
-    let r = step .before in
-    let ok = r .before .before in
-    let w = ready-by _ _ (ok .before .replica-refusal .ensures) (ok .if1 .left) in
-    rw (replica-read (r .replica-in .ensures)) (record { fits = limit-fits _ _ _ w (step .counter-step .ensures _) })
+    let at-found = c .before .before .before in
+    let found = found-replica _ _ _ (start (reserveRule _ _)) (at-found .before .before .find-replica .ensures) (at-found .found .given .1) in
+    rw (found .read) (record { fits = limit-fits _ _ _ (found .ready) (c .before .counter-step .ensures _) })
 
 returns-2 : tie.Need-returns-2
+unfolding reserveRule
 returns-2 c =
-    let tests = c .before .before in
+    let tests = c .before .before .before .before in
     let step = tests .before .before in
-    let r = step .before in
-    let ok = r .before .before in
-    let read = replica-read (r .replica-in .ensures) in
-    reserve-refused _ _ (ok .before .replica-refusal .ensures) (ok .if1 .left) (rw read at (step .counter-step .ensures))
-    (rw read at (tests .reserve-refusal .ensures)) (c .refused2 .ensures) (c .before .if2 .taken)
+    let at-found = step .before .before in
+    let found = found-replica _ _ _ (start (reserveRule _ _)) (at-found .before .before .find-replica .ensures) (at-found .found .given .1) in
+    let a = c .before .before .before .before .before .before .before .before .before .before .before .before .before .before .before .before .before .args in
+    let stepped = rw (found .read) at (step .counter-step .ensures (memory (a .table .now) (a .log .now) (a .blocks .now))) in
+    failed _ refl (rw (found .read, stepped) at (tests .test-reserve .ensures)) _ _ (found .at)
+    (c .before .before .enum-told3 .given .1) (c .before .refusal2 .ensures) (c .refused2 .ensures)
 
 set-replica-word-requires : tie.Need-set-replica-word-requires
+unfolding reserveRule
 set-replica-word-requires c κs =
-    let ok = c .before .before .before .before .before .before .before in
-    let first = ok .before in
-    omega (arith, row-within _ _ (ready-by _ _ (first .replica-refusal .ensures) (ok .if1 .left)))
+    let at-found = c .before .before .before .before .before .before .before in
+    let found = found-replica _ _ _ (start (reserveRule _ _)) (at-found .before .before .find-replica .ensures) (at-found .found .given .1) in
+    omega (arith, row-within _ _ (found .ready))
 
 returns-3 : tie.Need-returns-3
+unfolding reserveRule update
 returns-3 c =
     let written = c .before .before .before in
-    let pass = written .before .before in
-    let tests = pass .before in
+    let told = written .before .before in
+    let tests = told .before .before in
     let step = tests .before .before in
-    let r = step .before in
-    let ok = r .before .before in
-    let read = replica-read (r .replica-in .ensures) in
-    reserve-accepted _ _ (ok .before .replica-refusal .ensures) (ok .if1 .left) (rw read at (step .counter-step .ensures))
-    (rw read at (tests .reserve-refusal .ensures)) (rw read at (c .accepted .ensures)) (pass .if2 .left)
-    (rw read at (written .set-replica-word .ensures))
+    let at-found = step .before .before in
+    let found = found-replica _ _ _ (start (reserveRule _ _)) (at-found .before .before .find-replica .ensures) (at-found .found .given .1) in
+    let a = c .before .before .before .before .before .before .before .before .before .before .before .before .before .before .before .before .before .before .before .before .args in
+    let stepped = rw (found .read) at (step .counter-step .ensures (memory (a .table .now) (a .log .now) (a .blocks .now))) in
+    let at-end = passed _ refl (rw (found .read, stepped) at (tests .test-reserve .ensures)) _ (found .at)
+    (told .enum-told2 .given .1) in
+    accepts _ at-end (rw (found .read, stepped) at (c .accepted .ensures))
+    (rw (written .set-replica-word .ensures, found .read, stepped))
 
 pub reserve-spec : {M : Type 1} → statement M
 reserve-spec =
     tie.close
-    (tie.spec (λ c κs. search needs) (λ c κs. search needs) (λ c. search needs) (λ c. search needs) (λ c.
-    search needs) returns replica-in-requires (λ c κs. search needs) add-limit (λ c κs. search needs) (λ c κs.
-    search needs) (λ c. search needs) (λ c. search needs) (λ c. search needs) returns-2
-    set-replica-word-requires (λ c κs. search needs) (λ c. search needs) (λ c. search needs) (λ c. search
-    needs) returns-3)
+    (tie.spec (λ c κs. search needs) (λ c. search needs) (λ c. search needs) (λ c κs. search needs)
+    (λ c κs. search needs) (λ c. search needs) (λ c. search needs) (λ c. search needs) returns (λ c κs. search needs)
+    add-limit (λ c κs. search needs) (λ c. search needs) (λ c. search needs) (λ c κs. search needs)
+    (λ c κs. search needs) (λ c. search needs) (λ c. search needs) (λ c. search needs) returns-2
+    set-replica-word-requires (λ c κs. search needs) (λ c. search needs) (λ c. search needs) (λ c. search needs)
+    returns-3)

@@ -7,7 +7,7 @@ use Rattle.protocol.specs.declared.Answer.{Answer}
 use Rattle.protocol.specs.Memory.{Memory, replica, certificate}
 use Rattle.protocol.specs.Quorum.{isIssued}
 use Rattle.protocol.specs.Outcome.{Need, _else_, Rule, firstRefusal, follow}
-use Rattle.protocol.specs.FirstNeeds.{replicaNeeds, numberNeeds}
+use Rattle.protocol.specs.FirstNeeds.{replicaNeeds, numberNeeds, listNeeds}
 use Rattle.protocol.proofs.Needs as Needs
 use Rattle.protocol.proofs.Needs.{Holds, positive, all-needs, refused-first, all-pass}
 use Rattle.certificates.specs.declared.Certificate.{Certificate}
@@ -20,7 +20,7 @@ use Rattle.checks.specs.declared.FoundReplica.the-variants as OfReplica
 use Rattle.checks.specs.declared.FoundCertificate.{FoundCertificate}
 use Rattle.checks.specs.declared.FoundCertificate.the-variants as OfCertificate
 use Rattle.checks.specs.Verdicts.{tested, replicaFound, certificateFound, testRefusal, replicaRefusal, certificateRefusal}
-use Rattle.checks.proofs.Ready.{Ready, ready}
+use Rattle.checks.proofs.Ready.{Ready, ready, ReadyList}
 use Rattle.checks.proofs.Verdicts.{was-refused, was-found, tested-is}
 
 -- The needs of a rule up to these hold: what the rest refuses, the rule refuses.
@@ -48,7 +48,18 @@ module _ {rule : Rule} where
 
 -- ---- by what is found: a replica
 
--- What is known once it is found.
+-- What is known once it is found, whatever the rule; and of a rule, that the rest is still to be tested.
+pub record ReplicaKnown (m : Memory) (i : ℕ) (r : Replica) : Type 0 where
+  pub ready : Ready m i
+  pub read : r ≡ replicaFrom (replica m i)
+
+pub replica-known : (m : Memory) (i : ℕ) {f : FoundReplica} {r : Replica} → f ≡ replicaFound m i → f ≡ OfReplica.Found r
+    → ReplicaKnown m i r
+unfolding replicaFound
+replica-known m i is told =
+    let w = was-found _ _ (replicaNeeds m i) (λ k e. cc) (sym told ∙ is) in
+    record { ready = ready m i (w .0); read = let e = w .1 in cc }
+
 pub record ReplicaFound (m : Memory) (i : ℕ) (rule : Rule) (rest : List Need) (r : Replica) : Type 0 where
   pub ready : Ready m i
   pub read : r ≡ replicaFrom (replica m i)
@@ -58,14 +69,17 @@ module _ (m : Memory) (i : ℕ) {rule : Rule} (rest : List Need) (at : At rule (
     {f : FoundReplica} (is : f ≡ replicaFound m i) where
   pub no-replica : {a : Answer} {n k : ℕ} → f ≡ OfReplica.Refused n → k ≡ replicaRefusal f
       → a ≡ record { number = k; first = 0; second = 0 } → record { answer = a; memory = m } ≡ follow m rule
+  unfolding replicaFound
   no-replica told number answer =
       stops (number ∙ rw told refl) answer (replicaNeeds m i) rest at
       (was-refused _ _ (replicaNeeds m i) (λ e. cc) (λ k e. cc) (sym told ∙ is))
 
   pub found-replica : {r : Replica} → f ≡ OfReplica.Found r → ReplicaFound m i rule rest r
+  unfolding replicaFound
   found-replica told =
+      let known = replica-known m i is told in
       let w = was-found _ _ (replicaNeeds m i) (λ k e. cc) (sym told ∙ is) in
-      record { ready = ready m i (w .0); read = let e = w .1 in cc; at = on (replicaNeeds m i) rest refl at (w .0) }
+      record { ready = known .ready; read = known .read; at = on (replicaNeeds m i) rest refl at (w .0) }
 
 -- ---- a certificate
 
@@ -78,11 +92,13 @@ module _ (m : Memory) (number : ℕ) {rule : Rule} (rest : List Need) (at : At r
     {f : FoundCertificate} (is : f ≡ certificateFound m number) where
   pub no-certificate : {a : Answer} {n k : ℕ} → f ≡ OfCertificate.Refused n → k ≡ certificateRefusal f
       → a ≡ record { number = k; first = 0; second = 0 } → record { answer = a; memory = m } ≡ follow m rule
+  unfolding certificateFound
   no-certificate told refusal answer =
       stops (refusal ∙ rw told refl) answer (numberNeeds m number) rest at
       (was-refused _ _ (numberNeeds m number) (λ e. cc) (λ k e. cc) (sym told ∙ is))
 
   pub found-certificate : {c : Certificate} → f ≡ OfCertificate.Found c → CertificateFound m number rule rest c
+  unfolding certificateFound
   found-certificate told =
       let w = was-found _ _ (numberNeeds m number) (λ k e. cc) (sym told ∙ is) in
       record {
@@ -108,3 +124,6 @@ module _ (ns : List Need) (numbered : positive ns ≡ true) {t : Tested} (is : t
 
   pub passed : {rule : Rule} (rest : List Need) → At rule (ns ++ rest) → t ≡ Test.Passed → At rule rest
   passed rest at told = on ns rest numbered at (passes told)
+
+pub list-known : (m : Memory) (list : List ℕ) {t : Tested} → t ≡ tested (listNeeds m list) → t ≡ Test.Passed → ReadyList m list
+list-known m list is told = let h = held (listNeeds m list) refl is told in record { size = h .0; issued = h .1 .0 }

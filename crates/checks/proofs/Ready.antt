@@ -9,7 +9,7 @@ use lib.ListN.{length, getD}
 use Rattle.protocol.specs.Memory.{Memory, rowAt, replicaWords, certificateCount, certificateAt, certificateWords}
 use Rattle.protocol.specs.Quorum.{isQuorumSize, allIssued}
 use Rattle.protocol.specs.Outcome.{firstRefusal}
-use Rattle.protocol.specs.FirstNeeds.{isReplica, replicaNeeds, listNeeds}
+use Rattle.protocol.specs.FirstNeeds.{isReplica, replicaNeeds}
 use Rattle.protocol.proofs.Booleans.{tests}
 use Rattle.protocol.proofs.Needs.{all-needs}
 use Rattle.protocol.proofs.Formed.{Formed, formed, Sizes, sizes}
@@ -37,9 +37,6 @@ certificate-there m number s h = omega arith
 pub record ReadyList (m : Memory) (list : List ℕ) : Type 0 where
   pub size : isQuorumSize m list ≡ true
   pub issued : allIssued m list ≡ true
-
-pub ready-list : (m : Memory) (list : List ℕ) → firstRefusal (listNeeds m list) ≡ 0 → ReadyList m list
-ready-list m list e = let h = all-needs (listNeeds m list) refl e in record { size = h .0; issued = h .1 .0 }
 
 module _ (m : Memory) (i : ℕ) (list : List ℕ) (w : Ready m i) (l : ReadyList m list) where
   pub all-listed : Listed (m .log) list

@@ -1,8 +1,8 @@
 -- Verdicts, both ways: what a failed need and needs that hold make, and what a refusal and a finding tell.
 use Prim.Native.Nat.{ℕ, zero, suc}
-use mathlib.Core.Path.{_≡_, refl, sym, _∙_}
+use mathlib.Core.Path.{_≡_, refl, sym, ap, _∙_}
 use mathlib.Core.Bool.{Bool, true, false}
-use mathlib.Core.List.{List, [], _∷_}
+use mathlib.Core.List.{List, [], _∷_, _++_}
 use native.Mathlib.Omega.{arith}
 use Rattle.protocol.specs.Outcome.{Need, _else_, firstRefusal}
 use Rattle.protocol.proofs.Booleans.{tests, and-true}
@@ -63,3 +63,17 @@ tested-is [] p = refl
 tested-is ((true else n) ∷ ns) p = tested-is ns (and-true (leb 1 n) (positive ns) p .1)
 tested-is ((false else zero) ∷ ns) p = absurd (let h = and-true (leb 1 0) (positive ns) p in omega tests)
 tested-is ((false else suc n) ∷ ns) p = refused-stays (suc n) ns
+
+-- What `need` gives, first and after others.
+pub first-need : {t : Tested} (b : Bool) (n : ℕ) → t ≡ next Passed (b else n) → t ≡ tested (b else n ∷ [])
+unfolding tested
+first-need b n e = e
+
+pub then-need : {t u : Tested} (ns : List Need) (b : Bool) (n : ℕ) → t ≡ tested ns → u ≡ next t (b else n)
+    → u ≡ tested (ns ++ (b else n ∷ []))
+unfolding tested
+then-need ns b n e f = f ∙ ap (λ (x : Tested). next x (b else n)) e ∙ go Passed ns
+  where
+    go : (before : Tested) (ns : List Need) → next (testedAfter before ns) (b else n) ≡ testedAfter before (ns ++ (b else n ∷ []))
+    go before [] = refl
+    go before (x ∷ ns) = go (next before x) ns

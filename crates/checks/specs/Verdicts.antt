@@ -21,10 +21,10 @@ verdictOf (suc n) found refused = refused (suc n)
 unfoldable pub verdict : {A : Type 0} → List Need → A → (ℕ → A) → A
 verdict needs found refused = verdictOf (firstRefusal needs) found refused
 
-abbrev pub replicaFound : Memory → ℕ → FoundReplica
+unfoldable pub replicaFound : Memory → ℕ → FoundReplica
 replicaFound m i = verdict (replicaNeeds m i) (OfReplica.Found (replicaFrom (replica m i))) OfReplica.Refused
 
-abbrev pub certificateFound : Memory → ℕ → FoundCertificate
+unfoldable pub certificateFound : Memory → ℕ → FoundCertificate
 certificateFound m number =
     verdict (numberNeeds m number) (OfCertificate.Found (certificateFrom (certificate m number))) OfCertificate.Refused
 

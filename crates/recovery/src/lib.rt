@@ -1,19 +1,25 @@
 // The calls of a restarted replica and of those that help it (document 01, "Calls"): request, reply, recover.
 ghost use mathlib.Core.Path.{_≡_};
-ghost use mathlib.Core.List.{List, []};
-ghost use Prim.Native.Nat.{ℕ, _+_, _≤_, max};
-ghost use lib.ListN.{length};
-ghost use Rattle.protocol.specs.Memory.{rowAt, replicaWords, assign};
+ghost use Prim.Native.Nat.{max};
 ghost use Rattle.protocol.specs.Certificates.{reqOf, replyOf};
-ghost use Rattle.protocol.specs.Outcome.{outcome, firstRefusal, outcomeBy};
-ghost use Rattle.protocol.specs.Calls.{issuing, request as requestRule, reply as replyRule, recover as recoverRule};
-ghost use Rattle.certificates.specs.Filing.{LogFits, certificateOf};
+ghost use Rattle.protocol.specs.Outcome.{outcome, outcomeBy};
+ghost use Rattle.protocol.specs.Calls.{
+  replyNeeds,
+  request as requestRule,
+  reply as replyRule,
+  recover as recoverRule,
+};
+ghost use Rattle.certificates.specs.Filing.{certificateOf};
 ghost use Rattle.records.specs.Replicas.{replicaOf};
-ghost use Rattle.recovery.specs.Tests.{replyTests, raising, restored};
+ghost use Rattle.checks.specs.Verdicts.{tested};
 use certificates::Certificate;
-use certificates::Filed;
+use checks::FoundCertificate;
+use checks::FoundReplica;
+use checks::Tested;
 use checks::accepted;
+use checks::need;
 use checks::refused;
+use issuing::issue;
 use layout::FLAG_AT;
 use layout::LIVE;
 use layout::LOWERED;
@@ -24,38 +30,11 @@ use layout::REQ;
 use layout::STATUS_AT;
 use layout::STORED_BLOCK_AT;
 use layout::STORED_VIEW_AT;
-use layout::set_replica_word;
 use protocol::Answer;
 use protocol::COUNTER_LIMIT;
 use protocol::WRONG_CERTIFICATE;
 use protocol::WRONG_STATUS;
 use records::Replica;
-
-// The lowest view rises to a view that is above it, and the flag is lowered then.
-fn raise_min_view(table: &mut [u32], replica: u32, min_view: u32, view: u32)
-    requires { ⌜ rowAt replica + replicaWords ≤ length (now table) ⌝ }
-    ensures { λ _. ⌜ now (table .exit) ≡ assign (now (table .entry)) (rowAt replica) (raising «min_view» view) ⌝ }
-{
-    if min_view < view {
-        set_replica_word(table, replica, MIN_VIEW_AT, view);
-        set_replica_word(table, replica, FLAG_AT, LOWERED);
-    }
-}
-
-// Issues a certificate; the replica's lowest view rises to the certificate's view where that is above it. A REQ's view is the lowest view.
-fn issue(table: &mut [u32], log: &mut [u32], replica: u32, min_view: u32, c: Certificate) -> Answer
-    requires { ⌜ LogFits (now table) (now log) × (rowAt replica + replicaWords ≤ length (now table)) ⌝ }
-    ensures { λ r. ⌜ ((b : List ℕ) → outcome r (now (table .exit)) (now (log .exit)) b
-        ≡ outcomeBy (λ m. issuing m [] replica (raising «min_view» (c .view)) (certificateOf c))
-        (now (table .entry)) (now (log .entry)) b) ⌝ }
-{
-    let filed = certificates::file(table, log, c);
-    let Filed::At(number) = filed else {
-        return refused(certificates::refusal_of(filed));
-    };
-    raise_min_view(table, replica, min_view, c.view);
-    accepted(number, 0)
-}
 
 // What a restarted replica asks the others with.
 fn req(replica: u32, r: Replica) -> Certificate
@@ -77,34 +56,25 @@ pub fn request(table: &mut [u32], log: &mut [u32], blocks: &mut [u32], replica: 
     ensures { λ r. ⌜ outcome r (now (table .exit)) (now (log .exit)) (now (blocks .exit))
         ≡ outcomeBy (λ m. requestRule m replica) (now (table .entry)) (now (log .entry)) (now (blocks .entry)) ⌝ }
 {
-    let refusal = checks::replica_refusal(table, log, blocks, replica);
-    if refusal != 0 {
-        return refused(refusal);
-    }
-    let r = records::replica_in(table, replica);
-    if r.status != RECOVERING {
-        return refused(WRONG_STATUS);
-    }
-    issue(table, log, replica, r.min_view, req(replica, r))
+    let found = checks::find_replica(table, log, blocks, replica);
+    let FoundReplica::Found(r) = found else {
+        return refused(found.refusal());
+    };
+    let tested = need(Tested::Passed, r.status == RECOVERING, WRONG_STATUS);
+    let Tested::Passed = tested else {
+        return refused(tested.refusal());
+    };
+    issue(table, log, replica, &[], &[], req(replica, r))
 }
 
-// The refusals of reply after the shared ones.
-fn reply_refusal(replica: u32, r: Replica, q: Certificate) -> u32
-    ensures { λ n. ⌜ n ≡ firstRefusal (replyTests replica (replicaOf r) (certificateOf q)) ⌝ }
+// The needs of reply that are its own.
+fn test_reply(replica: u32, r: Replica, q: Certificate) -> Tested
+    ensures { λ t. ⌜ t ≡ tested (replyNeeds replica (replicaOf r) (certificateOf q)) ⌝ }
 {
-    if r.status != LIVE {
-        return WRONG_STATUS;
-    }
-    if q.kind != REQ {
-        return WRONG_CERTIFICATE;
-    }
-    if q.signer == replica {
-        return WRONG_CERTIFICATE;
-    }
-    if r.view_limit < q.view {
-        return COUNTER_LIMIT;
-    }
-    0
+    let tested = need(Tested::Passed, r.status == LIVE, WRONG_STATUS);
+    let tested = need(tested, q.kind == REQ, WRONG_CERTIFICATE);
+    let tested = need(tested, q.signer != replica, WRONG_CERTIFICATE);
+    need(tested, q.view <= r.view_limit, COUNTER_LIMIT)
 }
 
 // What a replica answers: its stored block, for the one that asked.
@@ -134,34 +104,31 @@ pub fn reply(
     ensures { λ r. ⌜ outcome r (now (table .exit)) (now (log .exit)) (now (blocks .exit))
         ≡ outcomeBy (λ m. replyRule m replica number) (now (table .entry)) (now (log .entry)) (now (blocks .entry)) ⌝ }
 {
-    let refusal = checks::number_refusal(table, log, blocks, replica, number);
-    if refusal != 0 {
-        return refused(refusal);
+    let found = checks::find_replica(table, log, blocks, replica);
+    let FoundReplica::Found(r) = found else {
+        return refused(found.refusal());
+    };
+    let asked = checks::find_certificate(table, log, number);
+    let FoundCertificate::Found(q) = asked else {
+        return refused(asked.refusal());
+    };
+    let tested = test_reply(replica, r, q);
+    let Tested::Passed = tested else {
+        return refused(tested.refusal());
+    };
+    let answer = reply_to(replica, r, q);
+    if r.min_view < q.view {
+        let offsets = [MIN_VIEW_AT, FLAG_AT];
+        let values = [q.view, LOWERED];
+        return issue(table, log, replica, &offsets, &values, answer);
     }
-    let r = records::replica_in(table, replica);
-    let q = records::certificate_in(log, number);
-    let refusal = reply_refusal(replica, r, q);
-    if refusal != 0 {
-        return refused(refusal);
-    }
-    issue(table, log, replica, r.min_view, reply_to(replica, r, q))
+    issue(table, log, replica, &[], &[], answer)
 }
 
 fn larger(a: u32, b: u32) -> u32
     ensures { λ r. ⌜ r ≡ max a b ⌝ }
 {
     if a < b { b } else { a }
-}
-
-// The words of a replica that is live again, with what the replies hold.
-fn restore(table: &mut [u32], replica: u32, min_view: u32, c: Certificate)
-    requires { ⌜ rowAt replica + replicaWords ≤ length (now table) ⌝ }
-    ensures { λ _. ⌜ now (table .exit) ≡ assign (now (table .entry)) (rowAt replica) (restored «min_view» (certificateOf c)) ⌝ }
-{
-    set_replica_word(table, replica, STATUS_AT, LIVE);
-    set_replica_word(table, replica, MIN_VIEW_AT, min_view);
-    set_replica_word(table, replica, STORED_VIEW_AT, c.of_view);
-    set_replica_word(table, replica, STORED_BLOCK_AT, c.block);
 }
 
 // A restarted replica is live again, with the stored block of greatest of-view in f+1 replies.
@@ -175,22 +142,25 @@ pub fn recover(
     ensures { λ r. ⌜ outcome r (now (table .exit)) (now (log .exit)) (now (blocks .exit))
         ≡ outcomeBy (λ m. recoverRule m replica (now (list .entry))) (now (table .entry)) (now (log .entry)) (now (blocks .entry)) ⌝ }
 {
-    let refusal = checks::list_refusal(table, log, blocks, replica, list);
-    if refusal != 0 {
-        return refused(refusal);
-    }
-    let r = records::replica_in(table, replica);
-    if r.status != RECOVERING {
-        return refused(WRONG_STATUS);
-    }
-    if !quorum::is_reply_quorum(log, list, replica, r.boot, r.min_view) {
-        return refused(WRONG_CERTIFICATE);
-    }
+    let found = checks::find_replica(table, log, blocks, replica);
+    let FoundReplica::Found(r) = found else {
+        return refused(found.refusal());
+    };
+    let listed = checks::test_list(table, list);
+    let Tested::Passed = listed else {
+        return refused(listed.refusal());
+    };
     let c = records::certificate_in(log, quorum::greatest(log, list));
     let min_view = larger(r.min_view, c.of_view + 1);
-    if r.view_limit < min_view {
-        return refused(COUNTER_LIMIT);
-    }
-    restore(table, replica, min_view, c);
+    let replied = quorum::is_reply_quorum(log, list, replica, r.boot, r.min_view);
+    let tested = need(Tested::Passed, r.status == RECOVERING, WRONG_STATUS);
+    let tested = need(tested, replied, WRONG_CERTIFICATE);
+    let tested = need(tested, min_view <= r.view_limit, COUNTER_LIMIT);
+    let Tested::Passed = tested else {
+        return refused(tested.refusal());
+    };
+    let offsets = [STATUS_AT, MIN_VIEW_AT, STORED_VIEW_AT, STORED_BLOCK_AT];
+    let values = [LIVE, min_view, c.of_view, c.block];
+    records::set_words(table, replica, &offsets, &values);
     accepted(min_view, c.of_view)
 }

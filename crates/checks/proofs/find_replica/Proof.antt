@@ -4,6 +4,7 @@ use native.Mathlib.Omega.{arith}
 use borrow.Author.Needs.{needs}
 use Rattle.protocol.proofs.Booleans.{tests}
 use Rattle.protocol.proofs.Formed.{formed, sizes}
+use Rattle.checks.specs.Verdicts.{replicaFound}
 use Rattle.checks.proofs.Verdicts.{fails, holds, last}
 use Rattle.checks.proofs.find_replica.Statement.{statement}
 use Rattle.checks.proofs.find_replica.Tie as tie
@@ -25,6 +26,7 @@ replica-in-requires c κs =
     omega (tests, z, c .if2 .taken, c .before .replica-count .ensures)
 
 returns : tie.Need-returns
+unfolding replicaFound
 returns c =
     let own = c .before in
     let form = own .before .before .before in
@@ -33,12 +35,14 @@ returns c =
     (last _ _ _ (omega (tests, own .if2 .taken, own .before .replica-count .ensures))))
 
 returns-2 : tie.Need-returns-2
+unfolding replicaFound
 returns-2 c =
     let form = c .before .before .before in
     holds _ _ _ _ (sym (form .before .is-well-formed .ensures) ∙ form .if1 .taken)
     (fails _ _ _ (omega (tests, c .if2 .left, c .before .replica-count .ensures)))
 
 returns-3 : tie.Need-returns-3
+unfolding replicaFound
 returns-3 c = fails _ _ _ (sym (c .before .is-well-formed .ensures) ∙ c .if1 .left)
 
 pub find-replica-spec : {M : Type 1} → statement M

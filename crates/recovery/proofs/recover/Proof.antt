@@ -1,120 +1,100 @@
--- The refusals in their order: the shared ones, the status, the quorum, the limit. Then the replica is live again.
-use mathlib.Core.Path.{_∙_}
+-- Refused by the form, the replica, the list or a need of its own; else the replica is live again.
+use mathlib.Core.Path.{refl, _∙_, ap}
+use native.Mathlib.Omega.{arith}
 use borrow.Author.Needs.{needs}
-use borrow.Author.Tests.{not-true, not-false}
+use Rattle.protocol.specs.Memory.{memory, update}
+use Rattle.protocol.specs.Quorum.{every}
 use Rattle.protocol.specs.Calls.{recover as recoverRule}
-use Rattle.checks.proofs.Ready.{stopped}
-use Rattle.checks.proofs.Ends.{refuses, list-by, row-within, all-listed, some-there, greatest-there}
-use Rattle.records.proofs.Reading.{replica-read, certificate-read}
-use Rattle.recovery.proofs.Recovering.{of-view-fits, recover-live, recover-none, recover-short, recover-accepted}
+use Rattle.records.specs.Replicas.{certificateFrom}
+use Rattle.checks.proofs.Ready.{row-within, all-listed, some-there, greatest-there}
+use Rattle.checks.proofs.Verdicts.{first-need, then-need}
+use Rattle.checks.proofs.Passing.{start, accepts, no-replica, replica-known, found-replica, failed, passed, list-known}
+use Rattle.recovery.proofs.Views.{of-view-fits}
 use Rattle.recovery.proofs.recover.Statement.{statement}
 use Rattle.recovery.proofs.recover.Tie as tie
 
 returns : tie.Need-returns
 unfolding recoverRule
 returns c =
-    refuses _ _ (c .refused .ensures) (c .before .if1 .taken)
-    (stopped _ _ (c .before .before .list-refusal .ensures) (c .before .if1 .taken))
+    no-replica _ _ _ (start _) (c .before .before .before .before .find-replica .ensures) (c .before .before .enum-told .given .1) (c .before .refusal .ensures) (c .refused .ensures)
 
-replica-in-requires : tie.Need-replica-in-requires
-replica-in-requires c κs =
-    let start = c .before .before .before .before .before .before .before .before .before .before in
-    row-within _ _ (list-by _ _ (start .args .list .now) (c .before .before .list-refusal .ensures) (c .before .if1 .left) .ready)
+test-list-requires : tie.Need-test-list-requires
+test-list-requires c κs =
+    let known = replica-known _ _ (c .before .before .before .before .find-replica .ensures) (c .before .before .found .given .1) in
+    omega (arith, known .ready .sizes)
 
 returns-2 : tie.Need-returns-2
+unfolding recoverRule
 returns-2 c =
-    let r = c .before .before .before in
-    let ok = r .before .before in
-    recover-live _ _ _ (ok .before .list-refusal .ensures) (ok .if1 .left)
-    (rw (replica-read (r .replica-in .ensures)) at (c .before .if2 .taken)) (c .refused2 .ensures)
-
-is-reply-quorum-requires : tie.Need-is-reply-quorum-requires
-is-reply-quorum-requires c κs =
-    let ok = c .before .before .before .before .before in
-    let first = ok .before in
-    all-listed _ _ _ (list-by _ _ _ (first .list-refusal .ensures) (ok .if1 .left))
-
-returns-3 : tie.Need-returns-3
-returns-3 c =
-    let none = c .before in
-    let tested = none .before in
-    let waits = tested .before .before in
-    let r = waits .before .before in
-    let ok = r .before .before in
-    let read = replica-read (r .replica-in .ensures) in
-    recover-none _ _ _ (ok .before .list-refusal .ensures) (ok .if1 .left) (rw read at (waits .if2 .left))
-    (rw read at (tested .is-reply-quorum .ensures)) (not-true _ (none .if3 .taken)) (c .refused3 .ensures)
+    let found = found-replica _ _ _ (start (recoverRule _ _ (c .before .before .before .before .before .before .before .before .before .before .before .before .before .before .before .before .before .args .list .now))) (c .before .before .before .before .before .before .before .before .before .find-replica .ensures) (c .before .before .before .before .before .before .before .found .given .1) in
+    failed _ refl (c .before .before .before .before .test-list .ensures) _ _ (found .at) (c .before .before .enum-told3 .given .1) (c .before .refusal2 .ensures) (c .refused2 .ensures)
 
 greatest-requires : tie.Need-greatest-requires
 greatest-requires c κs =
-    let ok = c .before .before .before .before .before .before .before .before in
-    let first = ok .before in
-    let w = list-by _ _ _ (first .list-refusal .ensures) (ok .if1 .left) in
-    (all-listed _ _ _ w, some-there _ _ _ w)
+    let known = replica-known _ _ (c .before .before .before .before .before .before .before .before .find-replica .ensures) (c .before .before .before .before .before .before .found .given .1) in
+    let listed = list-known _ _ (c .before .before .before .test-list .ensures) (c .before .enum-told2 .given .1) in
+    (all-listed _ _ _ (known .ready) listed, some-there _ _ _ (known .ready) listed)
 
 certificate-in-requires : tie.Need-certificate-in-requires
 certificate-in-requires c κs =
-    let ok = c .before .before .before .before .before .before .before .before .before in
-    let first = ok .before in
-    let w = list-by _ _ _ (first .list-refusal .ensures) (ok .if1 .left) in
-    greatest-there _ _ _ w _ (c .greatest .ensures)
+    let known = replica-known _ _ (c .before .before .before .before .before .before .before .before .before .find-replica .ensures) (c .before .before .before .before .before .before .before .found .given .1) in
+    let listed = list-known _ _ (c .before .before .before .before .test-list .ensures) (c .before .before .enum-told2 .given .1) in
+    greatest-there _ _ _ (known .ready) listed _ (c .greatest .ensures)
 
 add-larger : tie.Need-add-larger
 add-larger c =
-    let is = c .before .before in
-    let ok = is .before .before .before .before .before .before .before .before .before in
-    let w = list-by _ _ _ (ok .before .list-refusal .ensures) (ok .if1 .left) in
-    rw (certificate-read (c .before .certificate-in .ensures)) (record { fits = of-view-fits _ _ _ w _ (is .greatest .ensures) })
+    let known = replica-known _ _ (c .before .before .before .before .before .before .before .before .before .before .before .find-replica .ensures) (c .before .before .before .before .before .before .before .before .before .found .given .1) in
+    let listed = list-known _ _ (c .before .before .before .before .before .before .test-list .ensures) (c .before .before .before .before .enum-told2 .given .1) in
+    rw (c .before .certificate-in .ensures) (record { fits = of-view-fits _ _ _ (known .ready) listed _ (c .before .before .greatest .ensures) })
+
+is-reply-quorum-requires : tie.Need-is-reply-quorum-requires
+is-reply-quorum-requires c κs =
+    let known = replica-known _ _ (c .before .before .before .before .before .before .before .before .before .before .before .before .before .find-replica .ensures) (c .before .before .before .before .before .before .before .before .before .before .before .found .given .1) in
+    let listed = list-known _ _ (c .before .before .before .before .before .before .before .before .test-list .ensures) (c .before .before .before .before .before .before .enum-told2 .given .1) in
+    all-listed _ _ _ (known .ready) listed
+
+returns-3 : tie.Need-returns-3
+unfolding recoverRule
+returns-3 c =
+    let found = found-replica _ _ _ (start (recoverRule _ _ (c .before .before .before .before .before .before .before .before .before .before .before .before .before .before .before .before .before .before .before .before .before .before .before .before .before .before .before .before .before .before .before .args .list .now))) (c .before .before .before .before .before .before .before .before .before .before .before .before .before .before .before .before .before .before .before .before .before .before .before .find-replica .ensures) (c .before .before .before .before .before .before .before .before .before .before .before .before .before .before .before .before .before .before .before .before .before .found .given .1) in
+    let past-list = passed _ refl (c .before .before .before .before .before .before .before .before .before .before .before .before .before .before .before .before .before .before .test-list .ensures) _ (found .at) (c .before .before .before .before .before .before .before .before .before .before .before .before .before .before .before .before .enum-told2 .given .1) in
+    let greatest = c .before .before .before .before .before .before .before .before .before .before .before .before .before .certificate-in .ensures ∙ ap certificateFrom (c .before .before .before .before .before .before .before .before .before .before .before .before .before .before .greatest .ensures .is) in
+    let read = found .read in
+    let larger = rw (read, greatest) at (c .before .before .before .before .before .before .before .before .before .before .before .larger .ensures) in
+    let quorum = rw read at (c .before .before .before .before .before .before .before .before .before .is-reply-quorum .ensures) in
+    failed _ refl
+    (then-need _ _ _ (then-need _ _ _ (first-need _ _ (rw read at (c .before .before .before .before .before .before .before .need .ensures))) (rw quorum at (c .before .before .before .before .before .before .need2 .ensures)))
+    (rw (larger, read) at (c .before .before .before .before .need3 .ensures)))
+    _ _ past-list (c .before .before .enum-told5 .given .1) (c .before .refusal3 .ensures) (c .refused3 .ensures)
+
+set-words-requires : tie.Need-set-words-requires
+unfolding every
+set-words-requires c κs =
+    let known = replica-known _ _ (c .before .before .before .before .before .before .before .before .before .before .before .before .before .before .before .before .before .before .before .before .before .before .before .before .find-replica .ensures) (c .before .before .before .before .before .before .before .before .before .before .before .before .before .before .before .before .before .before .before .before .before .before .found .given .1) in
+    (row-within _ _ (known .ready), record { paired = refl; within = refl })
 
 returns-4 : tie.Need-returns-4
+unfolding recoverRule update
 returns-4 c =
-    let next = c .before .before .before in
-    let best = next .before .before in
-    let is = best .before in
-    let yes = is .before .before in
-    let tested = yes .before in
-    let waits = tested .before .before in
-    let r = waits .before .before in
-    let ok = r .before .before in
-    let read = replica-read (r .replica-in .ensures) in
-    let greatest = certificate-read (best .certificate-in .ensures ∙ is .greatest .ensures .is) in
-    recover-short _ _ _ (ok .before .list-refusal .ensures) (ok .if1 .left) (rw read at (waits .if2 .left))
-    (rw read at (tested .is-reply-quorum .ensures)) (not-false _ (yes .if3 .left))
-    (rw (read, greatest) at (next .larger .ensures)) (rw read at (c .before .if4 .taken)) (c .refused4 .ensures)
-
-restore-requires : tie.Need-restore-requires
-restore-requires c κs =
-    let ok = c .before .before .before .before .before .before .before .before .before .before .before .before .before .before .before in
-    let first = ok .before in
-    let start = first .before .before .before .before .before .before .before .before in
-    row-within _ _ (list-by _ _ (start .args .list .now) (first .list-refusal .ensures) (ok .if1 .left) .ready)
-
-returns-5 : tie.Need-returns-5
-returns-5 c =
-    let written = c .before .before .before in
-    let fits = written .before .before in
-    let next = fits .before .before in
-    let best = next .before .before in
-    let is = best .before in
-    let yes = is .before .before in
-    let tested = yes .before in
-    let waits = tested .before .before in
-    let r = waits .before .before in
-    let ok = r .before .before in
-    let read = replica-read (r .replica-in .ensures) in
-    let greatest = certificate-read (best .certificate-in .ensures ∙ is .greatest .ensures .is) in
-    recover-accepted _ _ _ (ok .before .list-refusal .ensures) (ok .if1 .left) (rw read at (waits .if2 .left))
-    (rw read at (tested .is-reply-quorum .ensures)) (not-false _ (yes .if3 .left))
-    (rw (read, greatest) at (next .larger .ensures)) (rw read at (fits .if4 .left)) (rw greatest at (c .accepted .ensures))
-    (rw greatest at (written .restore .ensures))
+    let found = found-replica _ _ _ (start (recoverRule _ _ (c .before .before .before .before .before .before .before .before .before .before .before .before .before .before .before .before .before .before .before .before .before .before .before .before .before .before .before .before .before .before .before .before .before .before .before .before .args .list .now))) (c .before .before .before .before .before .before .before .before .before .before .before .before .before .before .before .before .before .before .before .before .before .before .before .before .before .before .before .before .find-replica .ensures) (c .before .before .before .before .before .before .before .before .before .before .before .before .before .before .before .before .before .before .before .before .before .before .before .before .before .before .found .given .1) in
+    let past-list = passed _ refl (c .before .before .before .before .before .before .before .before .before .before .before .before .before .before .before .before .before .before .before .before .before .before .before .test-list .ensures) _ (found .at) (c .before .before .before .before .before .before .before .before .before .before .before .before .before .before .before .before .before .before .before .before .before .enum-told2 .given .1) in
+    let greatest = c .before .before .before .before .before .before .before .before .before .before .before .before .before .before .before .before .before .before .certificate-in .ensures ∙ ap certificateFrom (c .before .before .before .before .before .before .before .before .before .before .before .before .before .before .before .before .before .before .before .greatest .ensures .is) in
+    let read = found .read in
+    let larger = rw (read, greatest) at (c .before .before .before .before .before .before .before .before .before .before .before .before .before .before .before .before .larger .ensures) in
+    let quorum = rw read at (c .before .before .before .before .before .before .before .before .before .before .before .before .before .before .is-reply-quorum .ensures) in
+    let at-end = passed _ refl
+    (then-need _ _ _ (then-need _ _ _ (first-need _ _ (rw read at (c .before .before .before .before .before .before .before .before .before .before .before .before .need .ensures))) (rw quorum at (c .before .before .before .before .before .before .before .before .before .before .before .need2 .ensures)))
+    (rw (larger, read) at (c .before .before .before .before .before .before .before .before .before .need3 .ensures))) _ past-list (c .before .before .before .before .before .before .before .enum-told4 .given .1) in
+    accepts _ at-end (rw (larger, greatest) at (c .accepted .ensures)) (rw (c .before .before .before .set-words .ensures, larger, greatest))
 
 pub recover-spec : {M : Type 1} → statement M
 recover-spec =
     tie.close
-    (tie.spec (λ c κs. search needs) (λ c κs. search needs) (λ c. search needs) (λ c. search needs)
-    (λ c. search needs) returns replica-in-requires (λ c κs. search needs) (λ c. search needs)
-    (λ c. search needs) (λ c. search needs) returns-2 is-reply-quorum-requires (λ c κs. search needs)
-    (λ c. search needs) (λ c. search needs) (λ c. search needs) returns-3 greatest-requires
-    certificate-in-requires add-larger (λ c κs. search needs) (λ c κs. search needs) (λ c. search needs)
-    (λ c. search needs) (λ c. search needs) returns-4 restore-requires (λ c κs. search needs)
-    (λ c. search needs) (λ c. search needs) (λ c. search needs) returns-5)
+    (tie.spec (λ c κs. search needs) (λ c. search needs) (λ c. search needs) (λ c κs. search needs)
+    (λ c κs. search needs) (λ c. search needs) (λ c. search needs) (λ c. search needs) returns test-list-requires
+    (λ c. search needs) (λ c. search needs) (λ c κs. search needs) (λ c κs. search needs) (λ c. search needs)
+    (λ c. search needs) (λ c. search needs) returns-2 greatest-requires certificate-in-requires add-larger
+    (λ c κs. search needs) is-reply-quorum-requires (λ c κs. search needs) (λ c κs. search needs)
+    (λ c κs. search needs) (λ c. search needs) (λ c. search needs) (λ c κs. search needs) (λ c κs. search needs)
+    (λ c. search needs) (λ c. search needs) (λ c. search needs) returns-3 (λ c. search needs) (λ c. search needs)
+    set-words-requires (λ c κs. search needs) (λ c. search needs) (λ c. search needs) (λ c. search needs) returns-4)

@@ -1,66 +1,109 @@
--- Refused by the shared tests or by its own; else a REPLY is issued, to the REQ's signer, boot and view.
+-- Refused, or a REPLY is issued, to the REQ's signer, boot and view; the lowest view rises to that view where it is below it.
+use mathlib.Core.Path.{refl}
 use borrow.Author.Needs.{needs}
+use borrow.Author.Tests.{lt-ltb, le-ltb}
+use Rattle.protocol.specs.Quorum.{every}
+use Rattle.protocol.specs.Calls.{reply as replyRule}
 use Rattle.certificates.proofs.Fits.{log-fits}
-use Rattle.checks.proofs.Ends.{number-by, row-within, number-there}
-use Rattle.checks.proofs.Issues.{stops-first, stops-further, goes-through}
-use Rattle.records.proofs.Reading.{replica-read, certificate-read}
-use Rattle.recovery.proofs.Rules.{replying}
+use Rattle.checks.proofs.Passing.{no-replica, replica-known, found-replica, no-certificate, found-certificate, failed, passed}
+use Rattle.issuing.proofs.Issues.{issuable, start, issues}
 use Rattle.recovery.proofs.reply.Statement.{statement}
 use Rattle.recovery.proofs.reply.Tie as tie
 
 returns : tie.Need-returns
+unfolding replyRule
 returns c =
-    stops-first (replying _ _ _) (c .before .before .number-refusal .ensures) (c .refused .ensures) (c .before .if1 .taken)
+    no-replica _ _ _ (start _ _ _ _ _ (replyRule _ _ _) refl) (c .before .before .before .before .find-replica .ensures) (c .before .before .enum-told .given .1)
+    (c .before .refusal .ensures) (c .refused .ensures)
 
-replica-in-requires : tie.Need-replica-in-requires
-replica-in-requires c κs =
-    row-within _ _ (number-by _ _ _ (c .before .before .number-refusal .ensures) (c .before .if1 .left) .ready)
-
-certificate-in-requires : tie.Need-certificate-in-requires
-certificate-in-requires c κs =
-    let ok = c .before .before .before in
-    number-there _ _ _ (number-by _ _ _ (ok .before .number-refusal .ensures) (ok .if1 .left))
+find-certificate-requires : tie.Need-find-certificate-requires
+find-certificate-requires c κs =
+    let at-found = c .before .before .before in
+    let found = replica-known _ _ (at-found .before .before .find-replica .ensures) (at-found .found .given .1) in
+    log-fits _ (found .ready .formed)
 
 returns-2 : tie.Need-returns-2
+unfolding replyRule
 returns-2 c =
-    let tested = c .before .before in
-    let q = tested .before in
-    let r = q .before .before in
-    let ok = r .before .before in
-    stops-further (replying _ _ _) (ok .before .number-refusal .ensures) (ok .if1 .left)
-    (rw (replica-read (r .replica-in .ensures), certificate-read (q .certificate-in .ensures)) at (tested .reply-refusal .ensures))
-    (c .refused2 .ensures) (c .before .if2 .taken)
-
-issue-requires : tie.Need-issue-requires
-issue-requires c κs =
-    let ok = c .before .before .before .before .before .before .before .before .before in
-    let w = number-by _ _ _ (ok .before .number-refusal .ensures) (ok .if1 .left) .ready in
-    (log-fits _ (w .formed), row-within _ _ w)
+    let at-found = c .before .before .before .before .before .before .before .before in
+    let found = found-replica _ _ _ (start _ _ _ _ _ (replyRule _ _ _) refl) (at-found .before .before .find-replica .ensures)
+    (at-found .found .given .1) in
+    no-certificate _ _ _ (found .at) (c .before .before .before .before .find-certificate .ensures (c .before .before .before .before .before .before .before .before .before .before .before .before .before .before .before .before .before .args .blocks .now)) (c .before .before .enum-told2 .given .1)
+    (c .before .refusal2 .ensures) (c .refused2 .ensures)
 
 returns-3 : tie.Need-returns-3
+unfolding replyRule
 returns-3 c =
-    let issues = c .before .before .before .before in
-    let made = issues .before in
-    let all = made .before .before .before in
-    let tested = all .before in
-    let q = tested .before in
-    let r = q .before .before in
-    let ok = r .before .before in
-    let start = ok .before .before .before .before .before .before .before .before in
-    goes-through (replying _ _ _) (ok .before .number-refusal .ensures) (ok .if1 .left)
-    (rw (replica-read (r .replica-in .ensures), certificate-read (q .certificate-in .ensures)) at (tested .reply-refusal .ensures))
-    (all .if2 .left)
-    (rw (
-      certificate-read (made .reply-to .ensures),
-      replica-read (r .replica-in .ensures),
-      certificate-read (q .certificate-in .ensures),
-    ) at (issues .issue .ensures (start .args .blocks .now)))
+    let tests = c .before .before .before .before in
+    let at-asked = tests .before .before in
+    let at-found = at-asked .before .before .before .before .before .before in
+    let found = found-replica _ _ _ (start _ _ _ _ _ (replyRule _ _ _) refl) (at-found .before .before .find-replica .ensures)
+    (at-found .found .given .1) in
+    let asked = found-certificate _ _ _ (found .at) (at-asked .before .before .find-certificate .ensures (c .before .before .before .before .before .before .before .before .before .before .before .before .before .before .before .before .before .before .before .before .before .args .blocks .now))
+    (at-asked .asked .given .1) in
+    failed _ refl (rw (found .read, asked .read) at (tests .test-reply .ensures)) _ _ (asked .at)
+    (c .before .before .enum-told4 .given .1) (c .before .refusal3 .ensures) (c .refused3 .ensures)
+
+issue-requires : tie.Need-issue-requires
+unfolding every
+issue-requires c κs =
+    let at-found = c .before .before .before .before .before .before .before .before .before .before .before .before .before .before .before .before .before .before in
+    let found = replica-known _ _ (at-found .before .before .find-replica .ensures) (at-found .found .given .1) in
+    (issuable _ _ (found .ready), record { paired = refl; within = refl })
+
+returns-4 : tie.Need-returns-4
+unfolding replyRule
+returns-4 c =
+    let issued = c .before .before .before .before in
+    let above = issued .before .before .before .before .before in
+    let made = above .before .before .before in
+    let told = made .before in
+    let tests = told .before .before in
+    let at-asked = tests .before .before in
+    let at-found = at-asked .before .before .before .before .before .before in
+    let found = found-replica _ _ _ (start _ _ _ _ _ (replyRule _ _ _) refl) (at-found .before .before .find-replica .ensures)
+    (at-found .found .given .1) in
+    let asked = found-certificate _ _ _ (found .at) (at-asked .before .before .find-certificate .ensures (c .before .before .before .before .before .before .before .before .before .before .before .before .before .before .before .before .before .before .before .before .before .before .before .before .before .before .before .before .before .before .before .before .args .blocks .now))
+    (at-asked .asked .given .1) in
+    issues _ _ _ _ _
+    (passed _ refl (rw (found .read, asked .read) at (tests .test-reply .ensures)) _ (asked .at) (told .enum-told3 .given .1))
+    (rw (lt-ltb _ _ (rw (found .read, asked .read) at (above .if1 .taken)), asked .read))
+    (rw (found .read, asked .read) at (made .reply-to .ensures)) (issued .issue .ensures (c .before .before .before .before .before .before .before .before .before .before .before .before .before .before .before .before .before .before .before .before .before .before .before .before .before .before .before .before .before .before .before .before .args .blocks .now))
+
+issue-requires-2 : tie.Need-issue-requires-2
+unfolding every
+issue-requires-2 c κs =
+    let at-found = c .before .before .before .before .before .before .before .before .before .before .before .before .before .before .before .before .before .before in
+    let found = replica-known _ _ (at-found .before .before .find-replica .ensures) (at-found .found .given .1) in
+    (issuable _ _ (found .ready), record { paired = refl; within = refl })
+
+returns-5 : tie.Need-returns-5
+unfolding replyRule
+returns-5 c =
+    let issued = c .before .before .before .before in
+    let below = issued .before .before .before .before .before in
+    let made = below .before .before .before in
+    let told = made .before in
+    let tests = told .before .before in
+    let at-asked = tests .before .before in
+    let at-found = at-asked .before .before .before .before .before .before in
+    let found = found-replica _ _ _ (start _ _ _ _ _ (replyRule _ _ _) refl) (at-found .before .before .find-replica .ensures)
+    (at-found .found .given .1) in
+    let asked = found-certificate _ _ _ (found .at) (at-asked .before .before .find-certificate .ensures (c .before .before .before .before .before .before .before .before .before .before .before .before .before .before .before .before .before .before .before .before .before .before .before .before .before .before .before .before .before .before .before .before .args .blocks .now))
+    (at-asked .asked .given .1) in
+    issues _ _ _ _ _
+    (passed _ refl (rw (found .read, asked .read) at (tests .test-reply .ensures)) _ (asked .at) (told .enum-told3 .given .1))
+    (rw (le-ltb _ _ (rw (found .read, asked .read) at (below .if1 .left))))
+    (rw (found .read, asked .read) at (made .reply-to .ensures)) (issued .issue2 .ensures (c .before .before .before .before .before .before .before .before .before .before .before .before .before .before .before .before .before .before .before .before .before .before .before .before .before .before .before .before .before .before .before .before .args .blocks .now))
 
 pub reply-spec : {M : Type 1} → statement M
 reply-spec =
     tie.close
-    (tie.spec (λ c κs. search needs) (λ c κs. search needs) (λ c. search needs) (λ c. search needs)
-    (λ c. search needs) returns replica-in-requires certificate-in-requires (λ c κs. search needs)
-    (λ c κs. search needs) (λ c. search needs) (λ c. search needs) (λ c. search needs) returns-2
-    (λ c κs. search needs) issue-requires (λ c. search needs) (λ c. search needs) (λ c. search needs)
-    returns-3)
+    (tie.spec (λ c κs. search needs) (λ c. search needs) (λ c. search needs) (λ c κs. search needs)
+    (λ c κs. search needs) (λ c. search needs) (λ c. search needs) (λ c. search needs) returns
+    find-certificate-requires (λ c. search needs) (λ c. search needs) (λ c κs. search needs) (λ c κs. search needs)
+    (λ c. search needs) (λ c. search needs) (λ c. search needs) returns-2 (λ c κs. search needs) (λ c. search needs)
+    (λ c. search needs) (λ c κs. search needs) (λ c κs. search needs) (λ c. search needs) (λ c. search needs)
+    (λ c. search needs) returns-3 (λ c κs. search needs) (λ c. search needs) (λ c. search needs) issue-requires
+    (λ c. search needs) (λ c. search needs) (λ c. search needs) returns-4 (λ c. search needs) (λ c. search needs)
+    issue-requires-2 (λ c. search needs) (λ c. search needs) (λ c. search needs) returns-5)

@@ -1,55 +1,55 @@
--- Refused; or a REQ is issued, of the replica's own lowest view and boot.
-use native.Mathlib.Omega.{arith}
+-- Refused, or a REQ is issued, of the replica's lowest view and boot.
+use mathlib.Core.Path.{refl}
 use borrow.Author.Needs.{needs}
-use Rattle.protocol.proofs.Booleans.{tests}
-use Rattle.certificates.proofs.Fits.{log-fits}
-use Rattle.checks.proofs.Ready.{last}
-use Rattle.checks.proofs.Ends.{ready-by, row-within, stops}
-use Rattle.checks.proofs.Issues.{stops-first, stops-further, goes-through}
-use Rattle.records.proofs.Reading.{replica-read, certificate-read}
-use Rattle.recovery.proofs.Rules.{requesting}
+use Rattle.protocol.specs.Quorum.{every}
+use Rattle.protocol.specs.Calls.{request as requestRule}
+use Rattle.checks.proofs.Verdicts.{first-need}
+use Rattle.checks.proofs.Passing.{no-replica, replica-known, found-replica, failed, passed}
+use Rattle.issuing.proofs.Issues.{issuable, start, issues}
 use Rattle.recovery.proofs.request.Statement.{statement}
 use Rattle.recovery.proofs.request.Tie as tie
 
 returns : tie.Need-returns
+unfolding requestRule
 returns c =
-    stops-first (requesting _ _) (c .before .before .replica-refusal .ensures) (c .refused .ensures) (c .before .if1 .taken)
-
-replica-in-requires : tie.Need-replica-in-requires
-replica-in-requires c κs =
-    row-within _ _ (ready-by _ _ (c .before .before .replica-refusal .ensures) (c .before .if1 .left))
+    no-replica _ _ _ (start _ _ _ _ _ (requestRule _ _) refl) (c .before .before .before .before .find-replica .ensures) (c .before .before .enum-told .given .1) (c .before .refusal .ensures)
+    (c .refused .ensures)
 
 returns-2 : tie.Need-returns-2
+unfolding requestRule
 returns-2 c =
-    let r = c .before .before .before in
-    let ok = r .before .before in
-    let other = rw (replica-read (r .replica-in .ensures)) at (c .before .if2 .taken) in
-    stops-further (requesting _ _) (ok .before .replica-refusal .ensures) (ok .if1 .left)
-    (stops _ (omega (tests, other))) (c .refused2 .ensures) (λ z. omega arith)
+    let needed = c .before .before .before .before in
+    let at-found = needed .before .before .before in
+    let found = found-replica _ _ _ (start _ _ _ _ _ (requestRule _ _) refl) (at-found .before .before .find-replica .ensures)
+    (at-found .found .given .1) in
+    failed _ refl (first-need _ _ (rw (found .read) at (needed .need .ensures))) _ _ (found .at)
+    (c .before .before .enum-told3 .given .1) (c .before .refusal2 .ensures) (c .refused2 .ensures)
 
 issue-requires : tie.Need-issue-requires
+unfolding every
 issue-requires c κs =
-    let ok = c .before .before .before .before .before .before .before in
-    let w = ready-by _ _ (ok .before .replica-refusal .ensures) (ok .if1 .left) in
-    (log-fits _ (w .formed), row-within _ _ w)
+    let at-found = c .before .before .before .before .before .before .before .before .before .before in
+    let found = replica-known _ _ (at-found .before .before .find-replica .ensures) (at-found .found .given .1) in
+    (issuable _ _ (found .ready), record { paired = refl; within = refl })
 
 returns-3 : tie.Need-returns-3
+unfolding requestRule
 returns-3 c =
-    let issues = c .before .before .before .before in
-    let made = issues .before in
-    let waits = made .before .before .before in
-    let r = waits .before .before in
-    let ok = r .before .before in
-    let start = ok .before .before .before .before .before .before .before .before in
-    let recovers = rw (replica-read (r .replica-in .ensures)) at (waits .if2 .left) in
-    goes-through (requesting _ _) (ok .before .replica-refusal .ensures) (ok .if1 .left) (last _ (omega (tests, recovers))) (omega arith)
-    (rw (certificate-read (made .req .ensures), replica-read (r .replica-in .ensures))
-    at (issues .issue .ensures (start .args .blocks .now)))
+    let issued = c .before .before .before .before in
+    let told = issued .before .before .before .before .before .before in
+    let needed = told .before .before in
+    let at-found = needed .before .before .before in
+    let found = found-replica _ _ _ (start _ _ _ _ _ (requestRule _ _) refl) (at-found .before .before .find-replica .ensures)
+    (at-found .found .given .1) in
+    issues _ _ _ _ _
+    (passed _ refl (first-need _ _ (rw (found .read) at (needed .need .ensures))) _ (found .at) (told .enum-told2 .given .1))
+    refl (rw (found .read) at (issued .before .req .ensures)) (issued .issue .ensures (c .before .before .before .before .before .before .before .before .before .before .before .before .before .before .before .before .before .before .before .before .before .before .before .before .args .blocks .now))
 
 pub request-spec : {M : Type 1} → statement M
 request-spec =
     tie.close
-    (tie.spec (λ c κs. search needs) (λ c κs. search needs) (λ c. search needs) (λ c. search needs)
-    (λ c. search needs) returns replica-in-requires (λ c κs. search needs) (λ c. search needs)
-    (λ c. search needs) (λ c. search needs) returns-2 (λ c κs. search needs) issue-requires (λ c. search needs)
-    (λ c. search needs) (λ c. search needs) returns-3)
+    (tie.spec (λ c κs. search needs) (λ c. search needs) (λ c. search needs) (λ c κs. search needs)
+    (λ c κs. search needs) (λ c. search needs) (λ c. search needs) (λ c. search needs) returns (λ c κs. search needs)
+    (λ c. search needs) (λ c. search needs) (λ c κs. search needs) (λ c κs. search needs) (λ c. search needs)
+    (λ c. search needs) (λ c. search needs) returns-2 (λ c. search needs) (λ c. search needs) (λ c κs. search needs)
+    issue-requires (λ c. search needs) (λ c. search needs) (λ c. search needs) returns-3)

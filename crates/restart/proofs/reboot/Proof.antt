@@ -6,7 +6,7 @@ use Rattle.protocol.specs.Memory.{memory, update}
 use Rattle.protocol.specs.Quorum.{every}
 use Rattle.protocol.specs.Calls.{reboot as rebootRule}
 use Rattle.checks.proofs.Ready.{row-within}
-use Rattle.checks.proofs.Passing.{start, accepts, no-replica, found-replica}
+use Rattle.checks.proofs.Passing.{start, accepts, no-replica, replica-known, found-replica}
 use Rattle.restart.proofs.Limits.{boot-fits, limit-fits}
 use Rattle.restart.proofs.reboot.Statement.{statement}
 use Rattle.restart.proofs.reboot.Tie as tie
@@ -17,24 +17,21 @@ returns c =
     no-replica _ _ _ (start _) (c .before .before .before .before .find-replica .ensures) (c .before .before .enum-told .given .1) (c .before .refusal .ensures) (c .refused .ensures)
 
 add-boot : tie.Need-add-boot
-unfolding rebootRule
 add-boot c =
     let at-found = c .before .before in
-    let found = found-replica _ _ _ (start (rebootRule _ _)) (at-found .before .before .find-replica .ensures) (at-found .found .given .1) in
+    let found = replica-known _ _ (at-found .before .before .find-replica .ensures) (at-found .found .given .1) in
     rw (found .read) (record { fits = boot-fits _ _ (found .ready) })
 
 add-limit : tie.Need-add-limit
-unfolding rebootRule
 add-limit c =
     let at-found = c .before .before .before .before in
-    let found = found-replica _ _ _ (start (rebootRule _ _)) (at-found .before .before .find-replica .ensures) (at-found .found .given .1) in
+    let found = replica-known _ _ (at-found .before .before .find-replica .ensures) (at-found .found .given .1) in
     rw (found .read) (record { fits = limit-fits _ _ _ (found .ready) (c .before .counter-step .ensures _) })
 
 set-replica-word-requires : tie.Need-set-replica-word-requires
-unfolding rebootRule
 set-replica-word-requires c κs =
     let at-found = c .before .before .before .before .before .before .before in
-    let found = found-replica _ _ _ (start (rebootRule _ _)) (at-found .before .before .find-replica .ensures) (at-found .found .given .1) in
+    let found = replica-known _ _ (at-found .before .before .find-replica .ensures) (at-found .found .given .1) in
     omega (arith, row-within _ _ (found .ready))
 
 returns-2 : tie.Need-returns-2
@@ -51,10 +48,10 @@ returns-2 c =
     accepts _ (found .at) (rw retires (rw (found .read) at (c .accepted .ensures))) (rw (retires, written .set-replica-word .ensures))
 
 set-words-requires : tie.Need-set-words-requires
-unfolding rebootRule every
+unfolding every
 set-words-requires c κs =
     let at-found = c .before .before .before .before .before .before .before .before .before in
-    let found = found-replica _ _ _ (start (rebootRule _ _)) (at-found .before .before .find-replica .ensures) (at-found .found .given .1) in
+    let found = replica-known _ _ (at-found .before .before .find-replica .ensures) (at-found .found .given .1) in
     (row-within _ _ (found .ready), record { paired = refl; within = refl })
 
 returns-3 : tie.Need-returns-3

@@ -5,7 +5,7 @@ use borrow.Author.Needs.{needs}
 use Rattle.protocol.specs.Memory.{memory, update}
 use Rattle.protocol.specs.Calls.{reserve as reserveRule}
 use Rattle.checks.proofs.Ready.{row-within}
-use Rattle.checks.proofs.Passing.{start, accepts, no-replica, found-replica, failed, passed}
+use Rattle.checks.proofs.Passing.{start, accepts, no-replica, replica-known, found-replica, failed, passed}
 use Rattle.restart.proofs.Limits.{limit-fits}
 use Rattle.restart.proofs.reserve.Statement.{statement}
 use Rattle.restart.proofs.reserve.Tie as tie
@@ -16,10 +16,9 @@ returns c =
     no-replica _ _ _ (start _) (c .before .before .before .before .find-replica .ensures) (c .before .before .enum-told .given .1) (c .before .refusal .ensures) (c .refused .ensures)
 
 add-limit : tie.Need-add-limit
-unfolding reserveRule
 add-limit c =
     let at-found = c .before .before .before in
-    let found = found-replica _ _ _ (start (reserveRule _ _)) (at-found .before .before .find-replica .ensures) (at-found .found .given .1) in
+    let found = replica-known _ _ (at-found .before .before .find-replica .ensures) (at-found .found .given .1) in
     rw (found .read) (record { fits = limit-fits _ _ _ (found .ready) (c .before .counter-step .ensures _) })
 
 returns-2 : tie.Need-returns-2
@@ -35,10 +34,9 @@ returns-2 c =
     (c .before .before .enum-told3 .given .1) (c .before .refusal2 .ensures) (c .refused2 .ensures)
 
 set-replica-word-requires : tie.Need-set-replica-word-requires
-unfolding reserveRule
 set-replica-word-requires c κs =
     let at-found = c .before .before .before .before .before .before .before in
-    let found = found-replica _ _ _ (start (reserveRule _ _)) (at-found .before .before .find-replica .ensures) (at-found .found .given .1) in
+    let found = replica-known _ _ (at-found .before .before .find-replica .ensures) (at-found .found .given .1) in
     omega (arith, row-within _ _ (found .ready))
 
 returns-3 : tie.Need-returns-3

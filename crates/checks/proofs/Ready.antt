@@ -5,16 +5,18 @@ use mathlib.Core.Path.{_≡_, refl}
 use mathlib.Core.Bool.{true}
 use mathlib.Core.List.{List}
 use native.Mathlib.Omega.{arith}
-use lib.ListN.{length, getD}
+use lib.ListN.{length, getD, List·getD-eq-default}
+use lib.Dec.{ltb}
 use Rattle.protocol.specs.Memory.{Memory, rowAt, replicaWords, certificateCount, certificateAt, certificateWords}
-use Rattle.protocol.specs.Quorum.{isQuorumSize, allIssued}
+use Rattle.protocol.specs.Quorum.{isQuorumSize, isIssued, allIssued}
 use Rattle.protocol.specs.Outcome.{firstRefusal}
 use Rattle.protocol.specs.FirstNeeds.{isReplica, replicaNeeds}
-use Rattle.protocol.proofs.Booleans.{tests}
+use Rattle.protocol.proofs.Booleans.{tests, by-test}
+use Rattle.protocol.proofs.Lists.{every-at}
 use Rattle.protocol.proofs.Needs.{all-needs}
 use Rattle.protocol.proofs.Formed.{Formed, formed, Sizes, sizes}
-use Rattle.quorum.specs.Lists.{Listed, Greatest}
-use Rattle.quorum.proofs.Accepted.{listed, some-listed, greatest-issued}
+use Rattle.quorum.specs.Lists.{Listed}
+use Rattle.quorum.proofs.Accepted.{listed, some-listed}
 
 pub record Ready (m : Memory) (i : ℕ) : Type 0 where
   pub formed : Formed m
@@ -30,10 +32,6 @@ ready m i e =
 pub row-within : (m : Memory) (i : ℕ) → Ready m i → rowAt i + replicaWords ≤ length (m .table)
 row-within m i w = omega (tests, w .own, w .sizes)
 
-pub certificate-there : (m : Memory) (number : ℕ) → Sizes m → number < certificateCount m
-    → certificateAt number + certificateWords ≤ length (m .log)
-certificate-there m number s h = omega arith
-
 pub record ReadyList (m : Memory) (list : List ℕ) : Type 0 where
   pub size : isQuorumSize m list ≡ true
   pub issued : allIssued m list ≡ true
@@ -45,8 +43,14 @@ module _ (m : Memory) (i : ℕ) (list : List ℕ) (w : Ready m i) (l : ReadyList
   pub some-there : 0 < length list
   some-there = some-listed m list (l .size)
 
-  pub first-there : certificateAt (getD list 0 0) + certificateWords ≤ length (m .log)
-  first-there = all-listed .inLog 0 some-there .within
+  -- Past the list's end `getD` gives 0, which is issued too.
+  pub issued-at : (k : ℕ) → getD list k 0 < certificateCount m
+  issued-at k =
+      by-test (ltb k (length list)) (λ e. let here = every-at (isIssued m) list 0 (l .issued) k (omega tests) in omega tests)
+      (λ e.
+      let first = every-at (isIssued m) list 0 (l .issued) 0 some-there in
+      let past = List·getD-eq-default list 0 {n = k} (omega tests) in
+      omega tests)
 
-  pub greatest-there : (g : ℕ) → Greatest (m .log) list g → certificateAt g + certificateWords ≤ length (m .log)
-  greatest-there g is = certificate-there m g (w .sizes) (greatest-issued m list g (l .issued) is)
+  pub listed-there : (k : ℕ) → certificateAt (getD list k 0) + certificateWords ≤ length (m .log)
+  listed-there k = omega (arith, w .sizes, issued-at k)

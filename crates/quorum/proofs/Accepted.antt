@@ -1,31 +1,19 @@
 -- For callers: what makes the record that the functions ask for, and what an accepted list tells.
 use Prim.Native.Nat.{ℕ, _<_}
 use mathlib.Core.Path.{_≡_, refl}
-use mathlib.Core.Bool.{Bool, true}
+use mathlib.Core.Bool.{true}
 use mathlib.Core.List.{List, [], _∷_}
 use native.Mathlib.Omega.{arith}
 use lib.ListN.{length, getD, length-map, List·getD-map}
-use lib.Dec.{eqb}
 use Rattle.protocol.specs.Memory.{Memory, Certificate, certificateCount, certificate}
 use Rattle.protocol.specs.Form.{lengthsFit, certificateFormed}
 use Rattle.protocol.specs.Certificates.{COMMIT}
-use Rattle.protocol.specs.Quorum.{every, isQuorumSize, isIssued, allIssued, certificatesOf, firstOf, contains}
+use Rattle.protocol.specs.Quorum.{every, isQuorumSize, isIssued, allIssued, certificatesOf, firstOf}
 use Rattle.protocol.specs.Quorum.{isCommitQuorum}
-use Rattle.protocol.proofs.Booleans.{tests, by-test, and-true, each}
+use Rattle.protocol.proofs.Booleans.{tests, each}
 use Rattle.protocol.proofs.Lists.{every-at}
 use Rattle.protocol.proofs.Formed.{Formed, sizes}
-use Rattle.quorum.specs.Lists.{Listed, Greatest}
-
--- ---- lists
-
-pub every-contained : (test : ℕ → Bool) (xs : List ℕ) (x : ℕ) → every test xs ≡ true → contains x xs ≡ true → test x ≡ true
-unfolding every contains
-every-contained test [] x e h = cc
-every-contained test (y ∷ ys) x e h =
-    let both = and-true (test y) (every test ys) e in
-    by-test (eqb x y)
-    (λ q. let p : x ≡ y = omega tests in rw p (both .0))
-    (λ q. every-contained test ys x (both .1) (rw q at h))
+use Rattle.quorum.specs.Lists.{Listed}
 
 -- ---- before the call
 
@@ -69,8 +57,3 @@ commit-at m list view block e i h =
     let all = every-at _ (certificatesOf m list) (certificate m 0) (each _ e .0) i (simp length-map h) in
     let w = each _ (rw (List·getD-map (certificate m) list i 0) at all) in
     omega tests
-
--- What `greatest` returns is issued, where the list is.
-pub greatest-issued : (m : Memory) (list : List ℕ) (r : ℕ) → allIssued m list ≡ true → Greatest (m .log) list r
-    → r < certificateCount m
-greatest-issued m list r e g = let q = every-contained (isIssued m) list r e (g .listed) in omega tests

@@ -94,28 +94,20 @@ module _ (test : Certificate → Bool) where
 
 -- ---- the greatest of-view
 
-contains-at : (list : List ℕ) (i : ℕ) → i < length list → contains (getD list i 0) list ≡ true
-unfolding contains
-contains-at [] i h = absurd (omega arith)
-contains-at (x ∷ xs) zero h = let e : eqb x x ≡ true = omega tests in rw e refl
-contains-at (x ∷ xs) (suc i) h =
-    by-test (eqb (getD xs i 0) x) (λ e. rw e refl) (λ e. rw e (contains-at xs i (omega arith)))
-
--- The best number before an index, with its of-view, and what is left of the list, give the answer of the whole.
+-- The best one before an index, with its of-view, and what is left of the list, give the answer of the whole.
 pub record Best (log list : List ℕ) (i best view : ℕ) : Type 0 where
-  pub view-is : view ≡ certificateIn log best .ofView
-  pub listed : contains best list ≡ true
-  pub rest : greatestFrom (certificateIn log best) (certificatesIn log (drop i list)) ≡ greatest (certificatesIn log list)
+  pub within : best < length list
+  pub view-is : view ≡ certificateIn log (getD list best 0) .ofView
+  pub rest : greatestFrom (certificateIn log (getD list best 0)) (certificatesIn log (drop i list)) ≡ greatest (certificatesIn log list)
 
 either : (t : Bool) (c : Certificate) → cond t c c ≡ c
 either true c = refl
 either false c = refl
 
 module _ (log list : List ℕ) where
-  pub best-start : (view : ℕ) → 0 < length list → view ≡ certificateIn log (getD list 0 0) .ofView
-      → Best log list 1 (getD list 0 0) view
+  pub best-start : (view : ℕ) → 0 < length list → view ≡ certificateIn log (getD list 0 0) .ofView → Best log list 1 0 view
   unfolding greatestFrom
-  best-start view h e = record { view-is = e; listed = contains-at list 0 h; rest = start list h }
+  best-start view h e = record { within = h; view-is = e; rest = start list h }
     where
       start : (xs : List ℕ) → 0 < length xs
           → greatestFrom (certificateIn log (getD xs 0 0)) (certificatesIn log (drop 1 xs)) ≡ greatest (certificatesIn log xs)
@@ -125,24 +117,23 @@ module _ (log list : List ℕ) where
           ap (λ (d : Certificate). greatestFrom d (certificatesIn log xs)) (sym (either (ltb (c .ofView) (c .ofView)) c))
 
   module _ (i best view : ℕ) (b : Best log list i best view) where
-    step : i < length list → (t : Bool) → ltb (certificateIn log best .ofView) (certificateIn log (getD list i 0) .ofView) ≡ t
-        → let next : Certificate = cond t (certificateIn log (getD list i 0)) (certificateIn log best) in
+    step : i < length list → (t : Bool)
+        → ltb (certificateIn log (getD list best 0) .ofView) (certificateIn log (getD list i 0) .ofView) ≡ t
+        → let next : Certificate = cond t (certificateIn log (getD list i 0)) (certificateIn log (getD list best 0)) in
         greatestFrom next (certificatesIn log (drop (i + 1) list)) ≡ greatest (certificatesIn log list)
     unfolding greatestFrom
     step h t e = rw (← e, add-one i) (rw (drop-cons list i 0) at (b .rest))
 
     pub best-taken : (v : ℕ) → i < length list → v ≡ certificateIn log (getD list i 0) .ofView → view < v
-        → Best log list (i + 1) (getD list i 0) v
-    best-taken v h e l =
-        let q = b .view-is in
-        record { view-is = e; listed = contains-at list i h; rest = step h true (omega tests) }
+        → Best log list (i + 1) i v
+    best-taken v h e l = let q = b .view-is in record { within = h; view-is = e; rest = step h true (omega tests) }
 
     pub best-kept : (v : ℕ) → i < length list → v ≡ certificateIn log (getD list i 0) .ofView → v ≤ view
         → Best log list (i + 1) best view
     best-kept v h e l =
         let q = b .view-is in
-        record { view-is = q; listed = b .listed; rest = step h false (omega tests) }
+        record { within = b .within; view-is = q; rest = step h false (omega tests) }
 
     pub best-end : length list ≤ i → Greatest log list best
     unfolding greatestFrom
-    best-end h = record { listed = b .listed; is = rw (drop-of-length-le list h) at (b .rest) }
+    best-end h = record { within = b .within; is = rw (drop-of-length-le list h) at (b .rest) }

@@ -9,7 +9,7 @@ use Rattle.protocol.specs.Memory.{Certificate, memory, certificateWords, certif
 use Rattle.protocol.specs.Memory.{maxCertificates}
 use Rattle.protocol.specs.Form.{allHold}
 use Rattle.protocol.specs.Certificates.{isKind, COMMIT, NEWVIEW, REPLY}
-use Rattle.protocol.specs.Quorum.{every, certificatesOf, contains, distinct, signers, greatest}
+use Rattle.protocol.specs.Quorum.{every, certificatesOf, distinct, signers, greatest}
 use Rattle.quorum.specs.declared.Wanted.{Wanted}
 use Rattle.quorum.specs.declared.Wanted.the-variants.{Commit, NewView, Reply}
 
@@ -50,7 +50,7 @@ wants (Reply subject boot view) c =
 unfoldable pub isQuorum : (Certificate → Bool) → List Certificate → Bool
 isQuorum test cs = allHold (every test cs ∷ distinct (signers cs) ∷ [])
 
--- A number of the list, whose certificate is its greatest.
+-- An index of the list, where its greatest certificate stands.
 pub record Greatest (log list : List ℕ) (r : ℕ) : Type 0 where
-  pub listed : contains r list ≡ true
-  pub is : certificateIn log r ≡ greatest (certificatesIn log list)
+  pub within : r < length list
+  pub is : certificateIn log (getD list r 0) ≡ greatest (certificatesIn log list)

@@ -126,19 +126,18 @@ pub fn all_issued(list: &[u32], count: u32) -> bool
     ok
 }
 
-// The number of the certificate with the greatest of-view, of the first in the list if there are several.
-pub fn greatest(log: &[u32], list: &[u32]) -> u32
+// Which of the list has the greatest of-view, the first if there are several.
+pub fn greatest(log: &[u32], list: &[u32]) -> usize
     requires { ⌜ Listed (now log) (now list) × (0 < length (now list)) ⌝ }
     ensures { λ r. ⌜ Greatest (now (log .entry)) (now (list .entry)) r ⌝ }
 {
-    let mut best = list[0];
-    let mut best_view = certificate_word(log, best, OF_VIEW_AT);
+    let mut best = 0;
+    let mut best_view = certificate_word(log, list[0], OF_VIEW_AT);
     let mut i = 1;
     while i < list.len() {
-        let number = list[i];
-        let of_view = certificate_word(log, number, OF_VIEW_AT);
+        let of_view = certificate_word(log, list[i], OF_VIEW_AT);
         if best_view < of_view {
-            best = number;
+            best = i;
             best_view = of_view;
         }
         i += 1;

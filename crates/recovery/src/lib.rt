@@ -150,7 +150,8 @@ pub fn recover(
     let Tested::Passed = listed else {
         return refused(listed.refusal());
     };
-    let c = records::certificate_in(log, quorum::greatest(log, list));
+    let best = quorum::greatest(log, list);
+    let c = records::certificate_in(log, list[best]);
     let min_view = larger(r.min_view, c.of_view + 1);
     let replied = quorum::is_reply_quorum(log, list, replica, r.boot, r.min_view);
     let tested = need(Tested::Passed, r.status == RECOVERING, WRONG_STATUS);

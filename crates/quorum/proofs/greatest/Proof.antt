@@ -1,4 +1,4 @@
--- The best number so far, and what is left of the list, give the greatest of the whole.
+-- The best one so far, and what is left of the list, give the greatest of the whole.
 use Prim.Native.Nat.{_-_, _≤_}
 use mathlib.Core.Logic.{⊎-elim}
 use native.Mathlib.Omega.{arith}
@@ -7,6 +7,7 @@ use borrow.Author.Needs.{needs}
 use Rattle.quorum.proofs.Passes.{Best, best-start, best-taken, best-kept, best-end}
 use Rattle.quorum.proofs.greatest.Statement.{statement}
 use Rattle.quorum.proofs.greatest.Tie as tie
+
 
 abbrev Inv-loop : tie.InvT-loop
 Inv-loop log list best₀ best-view₀ i₀ best best-view i = (i ≤ length list) × Best log list i best best-view
@@ -21,10 +22,7 @@ loop-holds : tie.Need-loop-holds Inv-loop μ-loop
 loop-holds c = (search needs, best-start _ _ _ (c .before .before .before .before .pre .1) (c .certificate-word .ensures))
 
 certificate-word-requires-2 : tie.Need-certificate-word-requires-2 Inv-loop μ-loop
-certificate-word-requires-2 c κs =
-    let turn = c .before in
-    let there = turn .before .before .before .before .before .before .pre .0 .inLog _ (turn .loop-test .taken) in
-    omega (arith, there)
+certificate-word-requires-2 c κs = let there = c .before .before .before .before .before .before .before .pre .0 .inLog _ (c .before .loop-test .taken) in omega (arith, there)
 
 loop-again : tie.Need-loop-again Inv-loop μ-loop
 loop-again c =
@@ -45,5 +43,5 @@ returns c = best-end _ _ _ _ _ (c .before .loop .inv .1) (c .loop-test .left)
 pub greatest-spec : {M : Type 1} → statement M
 greatest-spec =
     tie.close
-    (tie.spec Inv-loop μ-loop (λ c. search needs) certificate-word-requires loop-holds (λ c. search needs) (λ c. search needs)
-    certificate-word-requires-2 (λ c. search needs) (λ c. search needs) loop-again returns)
+    (tie.spec Inv-loop μ-loop (λ c. search needs) certificate-word-requires loop-holds (λ c. search needs)
+    (λ c. search needs) certificate-word-requires-2 (λ c. search needs) (λ c. search needs) loop-again returns)

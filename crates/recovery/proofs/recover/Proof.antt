@@ -6,12 +6,13 @@ use Rattle.protocol.specs.Memory.{memory, update}
 use Rattle.protocol.specs.Quorum.{every}
 use Rattle.protocol.specs.Calls.{recover as recoverRule}
 use Rattle.records.specs.Replicas.{certificateFrom}
-use Rattle.checks.proofs.Ready.{row-within, all-listed, some-there, greatest-there}
+use Rattle.checks.proofs.Ready.{row-within, all-listed, some-there, listed-there}
 use Rattle.checks.proofs.Verdicts.{first-need, then-need}
 use Rattle.checks.proofs.Passing.{start, accepts, no-replica, replica-known, found-replica, failed, passed, list-known}
 use Rattle.recovery.proofs.Views.{of-view-fits}
 use Rattle.recovery.proofs.recover.Statement.{statement}
 use Rattle.recovery.proofs.recover.Tie as tie
+
 
 returns : tie.Need-returns
 unfolding recoverRule
@@ -35,30 +36,33 @@ greatest-requires c κs =
     let listed = list-known _ _ (c .before .before .before .test-list .ensures) (c .before .enum-told2 .given .1) in
     (all-listed _ _ _ (known .ready) listed, some-there _ _ _ (known .ready) listed)
 
+-- Whichever of the list is read, the first or the best, its words are there and its of-view has a next one.
 certificate-in-requires : tie.Need-certificate-in-requires
 certificate-in-requires c κs =
-    let known = replica-known _ _ (c .before .before .before .before .before .before .before .before .before .find-replica .ensures) (c .before .before .before .before .before .before .before .found .given .1) in
-    let listed = list-known _ _ (c .before .before .before .before .test-list .ensures) (c .before .before .enum-told2 .given .1) in
-    greatest-there _ _ _ (known .ready) listed _ (c .greatest .ensures)
+    let list = c .before .before .before .before .before .before .before .before .before .before .before .before .before .before .before .before .before .before .before .args .list .now in
+    let known = replica-known _ _ (c .before .before .before .before .before .before .before .before .before .before .before .find-replica .ensures) (c .before .before .before .before .before .before .before .before .before .found .given .1) in
+    let there = listed-there _ _ list (known .ready) (list-known _ list (c .before .before .before .before .before .before .test-list .ensures) (c .before .before .before .before .enum-told2 .given .1)) in
+    omega (arith, there 0, there (c .before .before .greatest .result))
 
 add-larger : tie.Need-add-larger
 add-larger c =
-    let known = replica-known _ _ (c .before .before .before .before .before .before .before .before .before .before .before .find-replica .ensures) (c .before .before .before .before .before .before .before .before .before .found .given .1) in
-    let listed = list-known _ _ (c .before .before .before .before .before .before .test-list .ensures) (c .before .before .before .before .enum-told2 .given .1) in
-    rw (c .before .certificate-in .ensures) (record { fits = of-view-fits _ _ _ (known .ready) listed _ (c .before .before .greatest .ensures) })
+    let list = c .before .before .before .before .before .before .before .before .before .before .before .before .before .before .before .before .before .before .before .before .before .args .list .now in
+    let known = replica-known _ _ (c .before .before .before .before .before .before .before .before .before .before .before .before .before .find-replica .ensures) (c .before .before .before .before .before .before .before .before .before .before .before .found .given .1) in
+    let fits = of-view-fits _ _ list (known .ready) (list-known _ list (c .before .before .before .before .before .before .before .before .test-list .ensures) (c .before .before .before .before .before .before .enum-told2 .given .1)) in
+    rw (c .before .certificate-in .ensures) (omega (arith, fits 0, fits (c .before .before .before .before .greatest .result)))
 
 is-reply-quorum-requires : tie.Need-is-reply-quorum-requires
 is-reply-quorum-requires c κs =
-    let known = replica-known _ _ (c .before .before .before .before .before .before .before .before .before .before .before .before .before .find-replica .ensures) (c .before .before .before .before .before .before .before .before .before .before .before .found .given .1) in
-    let listed = list-known _ _ (c .before .before .before .before .before .before .before .before .test-list .ensures) (c .before .before .before .before .before .before .enum-told2 .given .1) in
+    let known = replica-known _ _ (c .before .before .before .before .before .before .before .before .before .before .before .before .before .before .before .find-replica .ensures) (c .before .before .before .before .before .before .before .before .before .before .before .before .before .found .given .1) in
+    let listed = list-known _ _ (c .before .before .before .before .before .before .before .before .before .before .test-list .ensures) (c .before .before .before .before .before .before .before .before .enum-told2 .given .1) in
     all-listed _ _ _ (known .ready) listed
 
 returns-3 : tie.Need-returns-3
 unfolding recoverRule
 returns-3 c =
-    let found = found-replica _ _ _ (start (recoverRule _ _ (c .before .before .before .before .before .before .before .before .before .before .before .before .before .before .before .before .before .before .before .before .before .before .before .before .before .before .before .before .before .before .before .args .list .now))) (c .before .before .before .before .before .before .before .before .before .before .before .before .before .before .before .before .before .before .before .before .before .before .before .find-replica .ensures) (c .before .before .before .before .before .before .before .before .before .before .before .before .before .before .before .before .before .before .before .before .before .found .given .1) in
-    let past-list = passed _ refl (c .before .before .before .before .before .before .before .before .before .before .before .before .before .before .before .before .before .before .test-list .ensures) _ (found .at) (c .before .before .before .before .before .before .before .before .before .before .before .before .before .before .before .before .enum-told2 .given .1) in
-    let greatest = c .before .before .before .before .before .before .before .before .before .before .before .before .before .certificate-in .ensures ∙ ap certificateFrom (c .before .before .before .before .before .before .before .before .before .before .before .before .before .before .greatest .ensures .is) in
+    let found = found-replica _ _ _ (start (recoverRule _ _ (c .before .before .before .before .before .before .before .before .before .before .before .before .before .before .before .before .before .before .before .before .before .before .before .before .before .before .before .before .before .before .before .before .before .args .list .now))) (c .before .before .before .before .before .before .before .before .before .before .before .before .before .before .before .before .before .before .before .before .before .before .before .before .before .find-replica .ensures) (c .before .before .before .before .before .before .before .before .before .before .before .before .before .before .before .before .before .before .before .before .before .before .before .found .given .1) in
+    let past-list = passed _ refl (c .before .before .before .before .before .before .before .before .before .before .before .before .before .before .before .before .before .before .before .before .test-list .ensures) _ (found .at) (c .before .before .before .before .before .before .before .before .before .before .before .before .before .before .before .before .before .before .enum-told2 .given .1) in
+    let greatest = c .before .before .before .before .before .before .before .before .before .before .before .before .before .certificate-in .ensures ∙ ap certificateFrom (c .before .before .before .before .before .before .before .before .before .before .before .before .before .before .before .before .greatest .ensures .is) in
     let read = found .read in
     let larger = rw (read, greatest) at (c .before .before .before .before .before .before .before .before .before .before .before .larger .ensures) in
     let quorum = rw read at (c .before .before .before .before .before .before .before .before .before .is-reply-quorum .ensures) in
@@ -70,15 +74,15 @@ returns-3 c =
 set-words-requires : tie.Need-set-words-requires
 unfolding every
 set-words-requires c κs =
-    let known = replica-known _ _ (c .before .before .before .before .before .before .before .before .before .before .before .before .before .before .before .before .before .before .before .before .before .before .before .before .find-replica .ensures) (c .before .before .before .before .before .before .before .before .before .before .before .before .before .before .before .before .before .before .before .before .before .before .found .given .1) in
+    let known = replica-known _ _ (c .before .before .before .before .before .before .before .before .before .before .before .before .before .before .before .before .before .before .before .before .before .before .before .before .before .before .find-replica .ensures) (c .before .before .before .before .before .before .before .before .before .before .before .before .before .before .before .before .before .before .before .before .before .before .before .before .found .given .1) in
     (row-within _ _ (known .ready), record { paired = refl; within = refl })
 
 returns-4 : tie.Need-returns-4
 unfolding recoverRule update
 returns-4 c =
-    let found = found-replica _ _ _ (start (recoverRule _ _ (c .before .before .before .before .before .before .before .before .before .before .before .before .before .before .before .before .before .before .before .before .before .before .before .before .before .before .before .before .before .before .before .before .before .before .before .before .args .list .now))) (c .before .before .before .before .before .before .before .before .before .before .before .before .before .before .before .before .before .before .before .before .before .before .before .before .before .before .before .before .find-replica .ensures) (c .before .before .before .before .before .before .before .before .before .before .before .before .before .before .before .before .before .before .before .before .before .before .before .before .before .before .found .given .1) in
-    let past-list = passed _ refl (c .before .before .before .before .before .before .before .before .before .before .before .before .before .before .before .before .before .before .before .before .before .before .before .test-list .ensures) _ (found .at) (c .before .before .before .before .before .before .before .before .before .before .before .before .before .before .before .before .before .before .before .before .before .enum-told2 .given .1) in
-    let greatest = c .before .before .before .before .before .before .before .before .before .before .before .before .before .before .before .before .before .before .certificate-in .ensures ∙ ap certificateFrom (c .before .before .before .before .before .before .before .before .before .before .before .before .before .before .before .before .before .before .before .greatest .ensures .is) in
+    let found = found-replica _ _ _ (start (recoverRule _ _ (c .before .before .before .before .before .before .before .before .before .before .before .before .before .before .before .before .before .before .before .before .before .before .before .before .before .before .before .before .before .before .before .before .before .before .before .before .before .before .args .list .now))) (c .before .before .before .before .before .before .before .before .before .before .before .before .before .before .before .before .before .before .before .before .before .before .before .before .before .before .before .before .before .before .find-replica .ensures) (c .before .before .before .before .before .before .before .before .before .before .before .before .before .before .before .before .before .before .before .before .before .before .before .before .before .before .before .before .found .given .1) in
+    let past-list = passed _ refl (c .before .before .before .before .before .before .before .before .before .before .before .before .before .before .before .before .before .before .before .before .before .before .before .before .before .test-list .ensures) _ (found .at) (c .before .before .before .before .before .before .before .before .before .before .before .before .before .before .before .before .before .before .before .before .before .before .before .enum-told2 .given .1) in
+    let greatest = c .before .before .before .before .before .before .before .before .before .before .before .before .before .before .before .before .before .before .certificate-in .ensures ∙ ap certificateFrom (c .before .before .before .before .before .before .before .before .before .before .before .before .before .before .before .before .before .before .before .before .before .greatest .ensures .is) in
     let read = found .read in
     let larger = rw (read, greatest) at (c .before .before .before .before .before .before .before .before .before .before .before .before .before .before .before .before .larger .ensures) in
     let quorum = rw read at (c .before .before .before .before .before .before .before .before .before .before .before .before .before .before .is-reply-quorum .ensures) in
@@ -93,8 +97,9 @@ recover-spec =
     (tie.spec (λ c κs. search needs) (λ c. search needs) (λ c. search needs) (λ c κs. search needs)
     (λ c κs. search needs) (λ c. search needs) (λ c. search needs) (λ c. search needs) returns test-list-requires
     (λ c. search needs) (λ c. search needs) (λ c κs. search needs) (λ c κs. search needs) (λ c. search needs)
-    (λ c. search needs) (λ c. search needs) returns-2 greatest-requires certificate-in-requires add-larger
-    (λ c κs. search needs) is-reply-quorum-requires (λ c κs. search needs) (λ c κs. search needs)
-    (λ c κs. search needs) (λ c. search needs) (λ c. search needs) (λ c κs. search needs) (λ c κs. search needs)
-    (λ c. search needs) (λ c. search needs) (λ c. search needs) returns-3 (λ c. search needs) (λ c. search needs)
-    set-words-requires (λ c κs. search needs) (λ c. search needs) (λ c. search needs) (λ c. search needs) returns-4)
+    (λ c. search needs) (λ c. search needs) returns-2 greatest-requires (λ c. search needs) (λ c. search needs)
+    certificate-in-requires add-larger (λ c κs. search needs) is-reply-quorum-requires (λ c κs. search needs)
+    (λ c κs. search needs) (λ c κs. search needs) (λ c. search needs) (λ c. search needs) (λ c κs. search needs)
+    (λ c κs. search needs) (λ c. search needs) (λ c. search needs) (λ c. search needs) returns-3 (λ c. search needs)
+    (λ c. search needs) set-words-requires (λ c κs. search needs) (λ c. search needs) (λ c. search needs)
+    (λ c. search needs) returns-4)

@@ -22,9 +22,9 @@ rows-are m limit (suc k) e =
     rw e (row (rows-are m (counterStep m 0) k refl))
   where
     row : {x : Memory} → memory (freshRows (m .table) (counterStep m 0) k) (m .log) (m .blocks) ≡ x
-        → memory (assign (freshRows (m .table) (counterStep m 0) k) (rowAt k) (freshReplica m)) (m .log) (m .blocks)
-        ≡ update x k (freshReplica m)
-    row p = ap (λ (x : Memory). update x k (freshReplica m)) p
+        → memory (assign (freshRows (m .table) (counterStep m 0) k) (rowAt k) (freshReplica (counterStep m 0))) (m .log) (m .blocks)
+        ≡ update x k (freshReplica (counterStep m 0))
+    row p = ap (λ (x : Memory). update x k (freshReplica (counterStep m 0))) p
 
 module _ (m : Memory) (f : ℕ) where
   pub no-bound : isFaultBound f ≡ false → refusal outOfRange m ≡ follow m (opening m f)

@@ -1,12 +1,9 @@
 -- The rows that opening writes, by the table alone.
 use Prim.Native.Nat.{ℕ, zero, suc}
-use mathlib.Core.List.{List, [], _∷_, _++_}
-use Rattle.protocol.specs.Memory.{Assignment, _becomes_, rowAt, decidedViewAt, decidedBlockAt, live, assign}
-use Rattle.records.specs.Replicas.{started}
-
-abbrev pub freshRow : ℕ → List Assignment
-freshRow limit = started live 0 1 limit ++ (decidedViewAt becomes 0 ∷ decidedBlockAt becomes 0 ∷ [])
+use mathlib.Core.List.{List}
+use Rattle.protocol.specs.Memory.{rowAt, assign}
+use Rattle.protocol.specs.Calls.{freshReplica}
 
 unfoldable pub freshRows : List ℕ → ℕ → ℕ → List ℕ
 freshRows t limit zero = t
-freshRows t limit (suc i) = assign (freshRows t limit i) (rowAt i) (freshRow limit)
+freshRows t limit (suc i) = assign (freshRows t limit i) (rowAt i) (freshReplica limit)

@@ -4,17 +4,24 @@ ghost use Prim.Native.Nat.{_+_, _≤_};
 ghost use lib.ListN.{length};
 ghost use Rattle.protocol.specs.Memory.{rowAt, replicaWords, assign};
 ghost use Rattle.protocol.specs.Outcome.{outcome, outcomeBy};
-ghost use Rattle.protocol.specs.Calls.{opening as openingRule, block as blockRule};
-ghost use Rattle.opening.specs.Fresh.{freshRow, freshRows};
+ghost use Rattle.protocol.specs.Calls.{freshReplica, opening as openingRule, block as blockRule};
+ghost use Rattle.opening.specs.Fresh.{freshRows};
 use checks::accepted;
 use checks::refused;
 use layout::BLOCK_COUNT_AT;
+use layout::BOOT_AT;
 use layout::CERTIFICATE_COUNT_AT;
 use layout::DECIDED_BLOCK_AT;
 use layout::DECIDED_VIEW_AT;
 use layout::FAULT_BOUND_AT;
+use layout::FLAG_AT;
 use layout::LIVE;
-use layout::set_replica_word;
+use layout::LOWERED;
+use layout::MIN_VIEW_AT;
+use layout::STATUS_AT;
+use layout::STORED_BLOCK_AT;
+use layout::STORED_VIEW_AT;
+use layout::VIEW_LIMIT_AT;
 use protocol::Answer;
 use protocol::NO_ROOM;
 use protocol::OUT_OF_RANGE;
@@ -24,11 +31,21 @@ use protocol::WRONG_FORM;
 // A replica as opening leaves it.
 fn fresh_row(table: &mut [u32], replica: u32, limit: u32)
     requires { ⌜ rowAt replica + replicaWords ≤ length (now table) ⌝ }
-    ensures { λ _. ⌜ now (table .exit) ≡ assign (now (table .entry)) (rowAt replica) (freshRow limit) ⌝ }
+    ensures { λ _. ⌜ now (table .exit) ≡ assign (now (table .entry)) (rowAt replica) (freshReplica limit) ⌝ }
 {
-    records::start_replica(table, replica, LIVE, 0, 1, limit);
-    set_replica_word(table, replica, DECIDED_VIEW_AT, 0);
-    set_replica_word(table, replica, DECIDED_BLOCK_AT, 0);
+    let offsets = [
+        STATUS_AT,
+        BOOT_AT,
+        MIN_VIEW_AT,
+        VIEW_LIMIT_AT,
+        FLAG_AT,
+        STORED_VIEW_AT,
+        STORED_BLOCK_AT,
+        DECIDED_VIEW_AT,
+        DECIDED_BLOCK_AT,
+    ];
+    let values = [LIVE, 0, 1, limit, LOWERED, 0, 0, 0, 0];
+    records::set_words(table, replica, &offsets, &values);
 }
 
 // All replicas below a count.

@@ -1,5 +1,10 @@
--- The table of cases, by computation.
-use mathlib.Core.Path.{refl}
+-- The table of cases, by computation: a lemma for each row, so that the check names a row that is wrong.
+use Prim.Native.Nat.{ℕ}
+use mathlib.Core.Path.{_≡_, refl}
+use mathlib.Core.Bool.{Bool, true, false, _&&_}
+use mathlib.Core.List.{List, [], _∷_, map}
+use lib.Dec.{eqb}
+use Rattle.protocol.specs.declared.Answer.{Answer}
 use Rattle.protocol.specs.Memory.{update, appendCertificate, appendBlock}
 use Rattle.protocol.specs.Form.{allHold, allBelow, blockFormed, replicaFormed, certificateFormed, lengthsFit, countsFit}
 use Rattle.protocol.specs.Form.{wellFormed}
@@ -11,11 +16,136 @@ use Rattle.protocol.specs.Outcome.{firstRefusal, answered, follow}
 use Rattle.protocol.specs.Calls.{issuing, freshReplicas, opening, block, prepare, store, view, accumulate, decide, reboot}
 use Rattle.protocol.specs.Calls.{reserve, request, reply, recover}
 use Rattle.protocol.specs.Runs.{ruleOf, step, run, answers}
-use Rattle.protocol.specs.Cases.{cases, CasesHold}
+use Rattle.protocol.specs.Cases.{Case, cases, CasesHold, workedScript, recoveryAfterIt, repliesOfAnEarlierBoot, noFaults}
+use Rattle.protocol.specs.Cases.{faultsAboveTheMost, faultsBeforeLengths, oneFault, thirtyFaults, freshView63, freshView64}
+use Rattle.protocol.specs.Cases.{oneCommitTwice, commitsJustify, blockZeroProposed, secondProposalInAView, fullLog, counterEnds}
+use Rattle.protocol.proofs.Booleans.{tests, and-true}
 
-pub cases-hold : CasesHold
+isAnswer : Answer → Answer → Bool
+isAnswer a b = eqb (a .number) (b .number) && (eqb (a .first) (b .first) && eqb (a .second) (b .second))
+
+alike : {n n′ f f′ s s′ : ℕ} → n ≡ n′ → f ≡ f′ → s ≡ s′
+    → _≡_ {A = Answer} (record { number = n; first = f; second = s }) (record { number = n′; first = f′; second = s′ })
+alike n f s = rw (n, f, s) refl
+
+same-answer : (a b : Answer) → isAnswer a b ≡ true → a ≡ b
+unfolding isAnswer
+same-answer a b e =
+    let number = and-true (eqb (a .number) (b .number)) _ e in
+    let values = and-true (eqb (a .first) (b .first)) _ (number .1) in
+    alike (omega tests) (omega tests) (omega tests)
+
+areAnswers : List Answer → List Answer → Bool
+areAnswers [] [] = true
+areAnswers [] (b ∷ wanted) = false
+areAnswers (a ∷ given) [] = false
+areAnswers (a ∷ given) (b ∷ wanted) = isAnswer a b && areAnswers given wanted
+
+same-answers : (given wanted : List Answer) → areAnswers given wanted ≡ true → given ≡ wanted
+unfolding areAnswers
+same-answers [] [] e = refl
+same-answers [] (b ∷ wanted) e = cc
+same-answers (a ∷ given) [] e = cc
+same-answers (a ∷ given) (b ∷ wanted) e =
+    let both = and-true (isAnswer a b) (areAnswers given wanted) e in
+    rw (same-answer a b (both .0), same-answers given wanted (both .1)) refl
+
+-- A row's calls get the answers expected. Everything that the rules are made of opens with it.
+unfoldable holds : Case → Bool
 unfolding update appendCertificate appendBlock allHold allBelow blockFormed replicaFormed certificateFormed lengthsFit countsFit wellFormed
     firstBelow hasWords numberFor isFiled canFile file leads counterStep every contains distinct isCommitQuorum isNewViewQuorum
     isReplyQuorum greatestFrom firstRefusal answered follow issuing freshReplicas opening block prepare store view accumulate decide
-    reboot reserve request reply recover ruleOf step run answers cases CasesHold
-cases-hold = refl
+    reboot reserve request reply recover ruleOf step run answers isAnswer areAnswers
+holds c = areAnswers (answers (c .start) (c .calls)) (c .expected)
+
+row : (c : Case) → holds c ≡ true → answers (c .start) (c .calls) ≡ c .expected
+unfolding holds
+row c e = same-answers _ _ e
+
+-- ---- the rows
+
+worked-script : holds workedScript ≡ true
+unfolding holds workedScript
+worked-script = refl
+
+recovery-after-it : holds recoveryAfterIt ≡ true
+unfolding holds recoveryAfterIt
+recovery-after-it = refl
+
+replies-of-an-earlier-boot : holds repliesOfAnEarlierBoot ≡ true
+unfolding holds repliesOfAnEarlierBoot
+replies-of-an-earlier-boot = refl
+
+no-faults : holds noFaults ≡ true
+unfolding holds noFaults
+no-faults = refl
+
+faults-above-the-most : holds faultsAboveTheMost ≡ true
+unfolding holds faultsAboveTheMost
+faults-above-the-most = refl
+
+faults-before-lengths : holds faultsBeforeLengths ≡ true
+unfolding holds faultsBeforeLengths
+faults-before-lengths = refl
+
+one-fault : holds oneFault ≡ true
+unfolding holds oneFault
+one-fault = refl
+
+thirty-faults : holds thirtyFaults ≡ true
+unfolding holds thirtyFaults
+thirty-faults = refl
+
+fresh-view-63 : holds freshView63 ≡ true
+unfolding holds freshView63
+fresh-view-63 = refl
+
+fresh-view-64 : holds freshView64 ≡ true
+unfolding holds freshView64
+fresh-view-64 = refl
+
+one-commit-twice : holds oneCommitTwice ≡ true
+unfolding holds oneCommitTwice
+one-commit-twice = refl
+
+commits-justify : holds commitsJustify ≡ true
+unfolding holds commitsJustify
+commits-justify = refl
+
+block-zero-proposed : holds blockZeroProposed ≡ true
+unfolding holds blockZeroProposed
+block-zero-proposed = refl
+
+second-proposal-in-a-view : holds secondProposalInAView ≡ true
+unfolding holds secondProposalInAView
+second-proposal-in-a-view = refl
+
+full-log : holds fullLog ≡ true
+unfolding holds fullLog
+full-log = refl
+
+counter-ends : holds counterEnds ≡ true
+unfolding holds counterEnds
+counter-ends = refl
+
+pub cases-hold : CasesHold
+unfolding CasesHold cases
+cases-hold =
+    rw (
+      row workedScript worked-script,
+      row recoveryAfterIt recovery-after-it,
+      row repliesOfAnEarlierBoot replies-of-an-earlier-boot,
+      row noFaults no-faults,
+      row faultsAboveTheMost faults-above-the-most,
+      row faultsBeforeLengths faults-before-lengths,
+      row oneFault one-fault,
+      row thirtyFaults thirty-faults,
+      row freshView63 fresh-view-63,
+      row freshView64 fresh-view-64,
+      row oneCommitTwice one-commit-twice,
+      row commitsJustify commits-justify,
+      row blockZeroProposed block-zero-proposed,
+      row secondProposalInAView second-proposal-in-a-view,
+      row fullLog full-log,
+      row counterEnds counter-ends,
+    ) refl

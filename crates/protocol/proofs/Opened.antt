@@ -37,7 +37,7 @@ unfolding freshReplicas update
 fresh-lengths m zero = record { table = refl; log = refl; blocks = refl }
 fresh-lengths m (suc k) =
     let s = fresh-lengths m k in
-    let u = update-lengths (freshReplicas m k) k (freshReplica m) in
+    let u = update-lengths (freshReplicas m k) k (freshReplica (counterStep m 0)) in
     record { table = u .table ∙ s .table; log = s .log; blocks = s .blocks }
 
 pub fresh-log : (m : Memory) (k : ℕ) → freshReplicas m k .log ≡ m .log
@@ -53,7 +53,7 @@ fresh-blocks m (suc k) = fresh-blocks m k
 pub fresh-header : (m : Memory) (k j : ℕ) → j < rowStart → getD (freshReplicas m k .table) j 0 ≡ getD (m .table) j 0
 unfolding freshReplicas
 fresh-header m zero j h = refl
-fresh-header m (suc k) j h = update-header (freshReplicas m k) k (freshReplica m) refl j h ∙ fresh-header m k j h
+fresh-header m (suc k) j h = update-header (freshReplicas m k) k (freshReplica (counterStep m 0)) refl j h ∙ fresh-header m k j h
 
 pub fresh-row : (m : Memory) (k i : ℕ) → i < k → rowAt k ≤ length (m .table)
     → replica (freshReplicas m k) i ≡ fresh (counterStep m 0)
@@ -62,8 +62,8 @@ fresh-row m zero i h room = absurd (omega arith)
 fresh-row m (suc k) i h room =
     let s = fresh-lengths m k in
     by-test (eqb i k)
-    (λ e. let q : i ≡ k = omega tests in rw q (update-own (freshReplicas m k) k (freshReplica m) refl (omega arith)))
-    (λ e. update-other (freshReplicas m k) k (freshReplica m) refl i (omega tests) ∙ fresh-row m k i (omega tests) (omega arith))
+    (λ e. let q : i ≡ k = omega tests in rw q (update-own (freshReplicas m k) k (freshReplica (counterStep m 0)) refl (omega arith)))
+    (λ e. update-other (freshReplicas m k) k (freshReplica (counterStep m 0)) refl i (omega tests) ∙ fresh-row m k i (omega tests) (omega arith))
 
 -- ---- the header
 

@@ -244,7 +244,7 @@ module _ (m : Memory) (l b : List ℕ) (a : Alike m (twin m l b)) where
         log = λ k j. absurd (omega arith);
         blocks = λ k j. set-alike (m .blocks) b 0 0 k (a .blocksLength) (λ q. absurd (omega arith));
       }
-  fresh-alike f (suc k) fit = update-alike _ _ k (freshReplica m) refl (fresh-alike f k fit)
+  fresh-alike f (suc k) fit = update-alike _ _ k (freshReplica (counterStep m 0)) refl (fresh-alike f k fit)
 
   opening-same : (f : ℕ) → SameRule (opening m f) (opening (twin m l b) f)
   unfolding opening

@@ -39,12 +39,12 @@ issuing m needs i changes c =
     }
 
 -- "Open(f): boxes live, boot 0, low 1, bound 64, all else 0;" the bound is the step of boot 0
-abbrev pub freshReplica : Memory → List Assignment
-freshReplica m =
+abbrev pub freshReplica : ℕ → List Assignment
+freshReplica bound =
     statusAt becomes live
     ∷ bootAt becomes 0
     ∷ minViewAt becomes 1
-    ∷ viewLimitAt becomes counterStep m 0
+    ∷ viewLimitAt becomes bound
     ∷ flagAt becomes lowered
     ∷ storedViewAt becomes 0
     ∷ storedBlockAt becomes 0
@@ -54,7 +54,7 @@ freshReplica m =
 
 unfoldable pub freshReplicas : Memory → ℕ → Memory
 freshReplicas m zero = m
-freshReplicas m (suc i) = update (freshReplicas m i) i (freshReplica m)
+freshReplicas m (suc i) = update (freshReplicas m i) i (freshReplica (counterStep m 0))
 
 -- "one block, number 0, whose parent word becomes 0; no certificates. [..] The book and the other block words aren't touched."
 abbrev pub freshHeader : Memory → ℕ → Memory

@@ -19,30 +19,30 @@ pub record Case : Type 0 where
   pub expected : List Answer
 
 -- Zeros, with a table for f and so many slots for certificates and for blocks.
-zeros : ℕ → ℕ → ℕ → Memory
+abbrev zeros : ℕ → ℕ → ℕ → Memory
 zeros f certificates blocks =
     record { table = replicate (tableLength f) 0; log = replicate (certificateAt certificates) 0; blocks = replicate (blockAt blocks) 0 }
 
 -- The slots of the script program.
-blank : ℕ → Memory
+abbrev blank : ℕ → Memory
 blank f = zeros f 2048 1024
 
 -- A call without a list, and one with a list beside it.
-plain : Call → Invocation
+abbrev plain : Call → Invocation
 plain call = record { call = call; list = [] }
 
-_on_ : Call → List ℕ → Invocation
+abbrev _on_ : Call → List ℕ → Invocation
 call on list = record { call = call; list = list }
 
 infix 68 _on_
-accepted : ℕ → ℕ → Answer
+abbrev accepted : ℕ → ℕ → Answer
 accepted first second = record { number = 0; first = first; second = second }
 
-refused : ℕ → Answer
+abbrev refused : ℕ → Answer
 refused number = record { number = number; first = 0; second = 0 }
 
 -- "Input fields: `0 1 0`, `5 0 1`, `5 1 1`, `6 1 0 0 1`, `1 0 0`, `2 1 1 2`, `4 0 3`, `8 1 0`, `4 1 3`, `4 2 3`, `7 0 0 4 5`."
-script : List Invocation
+abbrev script : List Invocation
 script =
     plain (Open 1)
     ∷ plain (View 0 1)
@@ -57,7 +57,7 @@ script =
     ∷ Decide 0 on (4 ∷ 5 ∷ [])
     ∷ []
 
-scriptAnswers : List Answer
+abbrev scriptAnswers : List Answer
 scriptAnswers =
     accepted 3 0
     ∷ accepted 0 0
@@ -73,25 +73,26 @@ scriptAnswers =
     ∷ []
 
 -- The memory that a list of calls leaves, from zeros.
-from : List Invocation → Memory
+abbrev from : List Invocation → Memory
 from calls = run (blank 1) calls
 
-opened : Memory
+abbrev opened : Memory
 opened = from (plain (Open 1) ∷ [])
 
 -- f = 1, with an ACC of view 1 on block 0, number 2, and a block 1 on block 0
-accumulated : Memory
+abbrev accumulated : Memory
 accumulated =
     from (plain (Open 1) ∷ plain (View 0 1) ∷ plain (View 1 1) ∷ Accumulate 1 on (0 ∷ 1 ∷ []) ∷ plain (Block 0) ∷ [])
 
-unfoldable pub cases : List Case
-unfolding zeros blank plain _on_ accepted refused script scriptAnswers from opened accumulated
-cases =
-    -- "P: the script above."
-    record { start = blank 1; calls = script; expected = scriptAnswers }
-    -- "P: after it, request on 1 gives certificate 6, replies by 0 and 2 give 7 and 8, recover gives 64, 1. P: then View(0, 64) returns
-    -- 8; after reserve it passes."
-    ∷ record {
+-- "P: the script above."
+unfoldable pub workedScript : Case
+workedScript = record { start = blank 1; calls = script; expected = scriptAnswers }
+
+-- "P: after it, request on 1 gives certificate 6, replies by 0 and 2 give 7 and 8, recover gives 64, 1. P: then View(0, 64) returns
+-- 8; after reserve it passes."
+unfoldable pub recoveryAfterIt : Case
+recoveryAfterIt =
+    record {
       start = from script;
       calls =
           plain (Request 1)
@@ -112,56 +113,111 @@ cases =
           ∷ accepted 9 0
           ∷ [];
     }
-    -- "Mistakes to rule out: [..] replies taken from an earlier boot". The same replies, to a replica of the next boot that is recovering
-    -- at the same view: no list of calls leads there, so its boot is set by hand.
-    ∷ record {
+
+-- "Mistakes to rule out: [..] replies taken from an earlier boot". The same replies, to a replica of the next boot that is recovering
+-- at the same view: no list of calls leads there, so its boot is set by hand.
+unfoldable pub repliesOfAnEarlierBoot : Case
+repliesOfAnEarlierBoot =
+    record {
       start = update (run (from script) (plain (Request 1) ∷ plain (Reply 0 6) ∷ plain (Reply 2 6) ∷ [])) 1 (bootAt becomes 2 ∷ []);
       calls = Recover 1 on (7 ∷ 8 ∷ []) ∷ [];
       expected = refused wrongCertificate ∷ [];
     }
-    -- "P: f 0 and 31 return 2, 1 and 30 pass."
-    ∷ record { start = blank 0; calls = plain (Open 0) ∷ []; expected = refused outOfRange ∷ [] }
-    ∷ record { start = blank 31; calls = plain (Open 31) ∷ []; expected = refused outOfRange ∷ [] }
-    -- "Opening tests f before lengths."
-    ∷ record { start = blank 1; calls = plain (Open 31) ∷ plain (Open 2) ∷ []; expected = refused outOfRange ∷ refused wrongForm ∷ [] }
-    ∷ record { start = blank 1; calls = plain (Open 1) ∷ []; expected = accepted 3 0 ∷ [] }
-    ∷ record { start = blank 30; calls = plain (Open 30) ∷ []; expected = accepted 61 0 ∷ [] }
-    -- "P: fresh, View 63 passes, 64 returns 8."
-    ∷ record { start = opened; calls = plain (View 0 63) ∷ []; expected = accepted 0 0 ∷ [] }
-    ∷ record { start = opened; calls = plain (View 0 64) ∷ []; expected = refused counterLimit ∷ [] }
-    -- "P: a list naming one commit twice, 5."
-    ∷ record {
+
+-- "P: f 0 and 31 return 2, 1 and 30 pass."
+unfoldable pub noFaults : Case
+noFaults = record { start = blank 0; calls = plain (Open 0) ∷ []; expected = refused outOfRange ∷ [] }
+
+unfoldable pub faultsAboveTheMost : Case
+faultsAboveTheMost = record { start = blank 31; calls = plain (Open 31) ∷ []; expected = refused outOfRange ∷ [] }
+
+-- "Opening tests f before lengths."
+unfoldable pub faultsBeforeLengths : Case
+faultsBeforeLengths =
+    record { start = blank 1; calls = plain (Open 31) ∷ plain (Open 2) ∷ []; expected = refused outOfRange ∷ refused wrongForm ∷ [] }
+
+unfoldable pub oneFault : Case
+oneFault = record { start = blank 1; calls = plain (Open 1) ∷ []; expected = accepted 3 0 ∷ [] }
+
+unfoldable pub thirtyFaults : Case
+thirtyFaults = record { start = blank 30; calls = plain (Open 30) ∷ []; expected = accepted 61 0 ∷ [] }
+
+-- "P: fresh, View 63 passes, 64 returns 8."
+unfoldable pub freshView63 : Case
+freshView63 = record { start = opened; calls = plain (View 0 63) ∷ []; expected = accepted 0 0 ∷ [] }
+
+unfoldable pub freshView64 : Case
+freshView64 = record { start = opened; calls = plain (View 0 64) ∷ []; expected = refused counterLimit ∷ [] }
+
+-- "P: a list naming one commit twice, 5."
+unfoldable pub oneCommitTwice : Case
+oneCommitTwice =
+    record {
       start = from script;
       calls = Decide 0 on (4 ∷ 4 ∷ []) ∷ Prepare 2 1 (Commits 1 1) on (4 ∷ 4 ∷ []) ∷ [];
       expected = refused wrongCertificate ∷ refused wrongCertificate ∷ [];
     }
-    -- Commits justify a proposal of the view above theirs, once that is the leader's lowest view.
-    ∷ record {
+
+-- Commits justify a proposal of the view above theirs, once that is the leader's lowest view.
+unfoldable pub commitsJustify : Case
+commitsJustify =
+    record {
       start = from script;
       calls = plain (Block 1) ∷ Prepare 2 2 (Commits 1 1) on (4 ∷ 5 ∷ []) ∷ Prepare 2 2 (Commits 1 0) on (4 ∷ 5 ∷ []) ∷ [];
       expected = accepted 2 0 ∷ accepted 6 0 ∷ refused wrongCertificate ∷ [];
     }
-    -- "P: block 0 on a ground of block 0, 6."
-    ∷ record { start = accumulated; calls = plain (Prepare 1 0 (Acc 2)) ∷ []; expected = refused wrongBlock ∷ [] }
-    -- "P: second prepare in a view, 7."
-    ∷ record {
+
+-- "P: block 0 on a ground of block 0, 6."
+unfoldable pub blockZeroProposed : Case
+blockZeroProposed = record { start = accumulated; calls = plain (Prepare 1 0 (Acc 2)) ∷ []; expected = refused wrongBlock ∷ [] }
+
+-- "P: second prepare in a view, 7."
+unfoldable pub secondProposalInAView : Case
+secondProposalInAView =
+    record {
       start = accumulated;
       calls = plain (Prepare 1 1 (Acc 2)) ∷ plain (Prepare 1 1 (Acc 2)) ∷ plain (Block 0) ∷ plain (Prepare 1 2 (Acc 2)) ∷ [];
       expected = accepted 3 0 ∷ refused wrongView ∷ accepted 2 0 ∷ refused wrongView ∷ [];
     }
-    -- "P: a full book still answers a repeated View with its old number."
-    ∷ record {
+
+-- "P: a full book still answers a repeated View with its old number."
+unfoldable pub fullLog : Case
+fullLog =
+    record {
       start = zeros 1 1 1;
       calls = plain (Open 1) ∷ plain (View 2 5) ∷ plain (View 1 5) ∷ plain (View 2 5) ∷ [];
       expected = accepted 3 0 ∷ accepted 0 0 ∷ refused noRoom ∷ accepted 0 0 ∷ [];
     }
-    -- "P: at boot 0 and bound 999,936 a reserve gives 1,000,000, the next returns 8, a reboot then gives spent." A
-    -- reboot that retires answers the old boot and low; a retired replica's reboot answers them again, and its reserve 4.
-    ∷ record {
+
+-- "P: at boot 0 and bound 999,936 a reserve gives 1,000,000, the next returns 8, a reboot then gives spent." A
+-- reboot that retires answers the old boot and low; a retired replica's reboot answers them again, and its reserve 4.
+unfoldable pub counterEnds : Case
+counterEnds =
+    record {
       start = update opened 0 (viewLimitAt becomes 999936 ∷ []);
       calls = plain (Reserve 0) ∷ plain (Reserve 0) ∷ plain (Reboot 0) ∷ plain (Reboot 0) ∷ plain (Reserve 0) ∷ [];
       expected = accepted 1000000 0 ∷ refused counterLimit ∷ accepted 0 1 ∷ accepted 0 1 ∷ refused wrongStatus ∷ [];
     }
+
+-- The table.
+unfoldable pub cases : List Case
+cases =
+    workedScript
+    ∷ recoveryAfterIt
+    ∷ repliesOfAnEarlierBoot
+    ∷ noFaults
+    ∷ faultsAboveTheMost
+    ∷ faultsBeforeLengths
+    ∷ oneFault
+    ∷ thirtyFaults
+    ∷ freshView63
+    ∷ freshView64
+    ∷ oneCommitTwice
+    ∷ commitsJustify
+    ∷ blockZeroProposed
+    ∷ secondProposalInAView
+    ∷ fullLog
+    ∷ counterEnds
     ∷ []
 
 -- Every row's calls get the answers expected.

@@ -15,7 +15,6 @@ use Rattle.issuing.proofs.Issues.{issuable, start, issues}
 use Rattle.accumulator.proofs.accumulate.Statement.{statement}
 use Rattle.accumulator.proofs.accumulate.Tie as tie
 
-
 returns : tie.Need-returns
 unfolding accumulateRule
 returns c =

@@ -14,7 +14,6 @@ use Rattle.checks.proofs.Passing.{start, accepts, no-replica, replica-known, fo
 use Rattle.accumulator.proofs.decide.Statement.{statement}
 use Rattle.accumulator.proofs.decide.Tie as tie
 
-
 returns : tie.Need-returns
 unfolding decideRule
 returns c =

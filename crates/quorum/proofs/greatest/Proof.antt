@@ -8,7 +8,6 @@ use Rattle.quorum.proofs.Passes.{Best, best-start, best-taken, best-kep
 use Rattle.quorum.proofs.greatest.Statement.{statement}
 use Rattle.quorum.proofs.greatest.Tie as tie
 
-
 abbrev Inv-loop : tie.InvT-loop
 Inv-loop log list best₀ best-view₀ i₀ best best-view i = (i ≤ length list) × Best log list i best best-view
 

@@ -13,7 +13,6 @@ use Rattle.recovery.proofs.Views.{of-view-fits}
 use Rattle.recovery.proofs.recover.Statement.{statement}
 use Rattle.recovery.proofs.recover.Tie as tie
 
-
 returns : tie.Need-returns
 unfolding recoverRule
 returns c =

@@ -2,6 +2,7 @@
 use Prim.Native.Nat.{ℕ, zero, suc, _≤_, _<_}
 use mathlib.Core.Path.{_≡_, refl, ap, _∙_}
 use mathlib.Core.Bool.{true}
+use mathlib.Core.List.{List}
 use native.Mathlib.Omega.{arith}
 use lib.ListN.{length, getD, set, length-set}
 use lib.Seq.{getD-set-same, getD-set-other}
@@ -75,22 +76,27 @@ pub record Header (m : Memory) (f : ℕ) : Type 0 where
   pub certificates : certificateCount m ≡ 0
   pub blocks : blockCount m ≡ 1
 
+-- The three words, whatever is written there.
+header-words : (t : List ℕ) (f certificates blocks : ℕ) → blockCountAt < length t
+    → let t′ = set (set (set t faultBoundAt f) certificateCountAt certificates) blockCountAt blocks in
+    (getD t′ faultBoundAt 0 ≡ f) × (getD t′ certificateCountAt 0 ≡ certificates) × (getD t′ blockCountAt 0 ≡ blocks)
+header-words t f certificates blocks h =
+    let bounded = set t faultBoundAt f in
+    let counted = set bounded certificateCountAt certificates in (
+      getD-set-other counted blockCountAt faultBoundAt blocks 0 (omega arith)
+          ∙ getD-set-other bounded certificateCountAt faultBoundAt certificates 0 (omega arith)
+          ∙ getD-set-same t faultBoundAt f 0 (omega arith),
+      getD-set-other counted blockCountAt certificateCountAt blocks 0 (omega arith)
+          ∙ getD-set-same bounded certificateCountAt certificates 0 (simp length-set (omega arith)),
+      getD-set-same counted blockCountAt blocks 0 (simp length-set (omega arith)),
+    )
+
 pub header : (m : Memory) (f : ℕ) → lengthsFit m f ≡ true → Header (freshHeader m f) f
 unfolding lengthsFit
 header m f fit =
     let h = each _ fit in
-    let bounded = set (m .table) faultBoundAt f in
-    let counted = set bounded certificateCountAt 0 in
-    record {
-      faults =
-          getD-set-other counted blockCountAt faultBoundAt 1 0 (omega arith)
-          ∙ getD-set-other bounded certificateCountAt faultBoundAt 0 0 (omega arith)
-          ∙ getD-set-same (m .table) faultBoundAt f 0 (omega tests);
-      certificates =
-          getD-set-other counted blockCountAt certificateCountAt 1 0 (omega arith)
-          ∙ getD-set-same bounded certificateCountAt 0 0 (simp length-set (omega tests));
-      blocks = getD-set-same counted blockCountAt 1 0 (simp length-set (omega tests));
-    }
+    let w = header-words (m .table) f _ _ (omega tests) in
+    record { faults = w .0; certificates = w .1; blocks = w .2 }
 
 -- What opening leaves, named: everything that the form and the later argument about lists of calls need to know of it.
 pub record Opened (m : Memory) (f : ℕ) (o : Memory) : Type 0 where

@@ -5,8 +5,7 @@ use mathlib.Core.List.{List, [], _∷_}
 use lib.ListN.{getD}
 use Rattle.protocol.specs.Memory.{memory}
 use Rattle.codes.specs.declared.Coded.{Coded}
-use Rattle.codes.specs.declared.Coded.the-variants.{Unreadable}
-use Rattle.codes.specs.Codes.{claimedWord, codeTable, codedCall}
+use Rattle.codes.specs.Codes.{claimedWord, noCall, codeTable, codedCall}
 
 table-aside : (t l b : List ℕ) (replica number : ℕ) (list : List ℕ)
     → codeTable (memory t l []) replica number list ≡ codeTable (memory t l b) replica number list
@@ -17,4 +16,4 @@ table-aside t l b replica number (x ∷ xs) = refl
 pub coded-aside : (t l b : List ℕ) (code replica number : ℕ) (list : List ℕ)
     → codedCall (memory t l []) code replica number list ≡ codedCall (memory t l b) code replica number list
 coded-aside t l b code replica number list =
-    ap (λ (calls : List Coded). getD calls code Unreadable) (table-aside t l b replica number list)
+    ap (λ (calls : List Coded). getD calls code noCall) (table-aside t l b replica number list)

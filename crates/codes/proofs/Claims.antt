@@ -7,8 +7,7 @@ use lib.ListN.{length, getD, List·getD-eq-default}
 use Rattle.protocol.specs.Memory.{Memory, certificateCountAt, certificateCount, certificateAt, certificateWord}
 use Rattle.protocol.specs.Quorum.{isIssued}
 use Rattle.protocol.proofs.Booleans.{tests}
-use Rattle.codes.specs.Codes.{claimedWord, codeTable, codedCall}
-use Rattle.codes.specs.declared.Coded.the-variants.{Unreadable}
+use Rattle.codes.specs.Codes.{claimedWord, noCall, codeTable, codedCall}
 
 module _ (m : Memory) (k : ℕ) where
   pub no-list : (list : List ℕ) → length list ≡ 0 → 0 ≡ claimedWord m list k
@@ -51,7 +50,7 @@ none-below zero code h = omega tests
 none-below (suc k) code h = above k code (none-below k code (h .0)) (h .1)
 
 pub unknown-code : (m : Memory) (code replica number : ℕ) (list : List ℕ) → NoneBelow 13 code
-    → Unreadable ≡ codedCall m code replica number list
+    → noCall ≡ codedCall m code replica number list
 unfolding codeTable
 unknown-code m code replica number list h =
-    sym (List·getD-eq-default (codeTable m replica number list) Unreadable (none-below 13 code h))
+    sym (List·getD-eq-default (codeTable m replica number list) noCall (none-below 13 code h))

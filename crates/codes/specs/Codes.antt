@@ -9,9 +9,10 @@ use Rattle.protocol.specs.declared.Call.the-variants.{Open, Block, Prepare, Sto
 use Rattle.protocol.specs.declared.Call.the-variants.{Reply, Recover}
 use Rattle.protocol.specs.declared.Justification.the-variants.{Acc, Commits}
 use Rattle.protocol.specs.Memory.{Memory, certificateWord, viewAt, proposedBlockAt}
+use Rattle.protocol.specs.Outcome.{unreadable}
 use Rattle.protocol.specs.Quorum.{isIssued}
 use Rattle.codes.specs.declared.Coded.{Coded}
-use Rattle.codes.specs.declared.Coded.the-variants.{Of, Unreadable}
+use Rattle.codes.specs.declared.Coded.the-variants.{Of, Refused}
 
 abbrev pub maxList : ℕ
 maxList = 31
@@ -31,8 +32,12 @@ unfoldable pub claimedWord : Memory → List ℕ → ℕ → ℕ
 claimedWord m [] k = 0
 claimedWord m (number ∷ rest) k = cond (isIssued m number) (certificateWord m number k) 0
 
+-- "Anything else [..] returns 10."
+abbrev pub noCall : Coded
+noCall = Refused unreadable
+
 unfoldable pub when : Bool → Call → Coded
-when t call = cond t (Of call) Unreadable
+when t call = cond t (Of call) noCall
 
 -- "Codes: 0 open (f as box), 1 block, 2 prepare on ACC (block as number, ACC as the one list field), 3 prepare on commits, 4 store, 5 view,
 -- 6 accumulate, 7 decide, 8 reboot, 9 reserve, 10 request, 11 reply, 12 recover."
@@ -53,6 +58,10 @@ codeTable m replica number list =
     ∷ when (isShort number list) (Recover replica)  -- 12
     ∷ []
 
--- Any other code is unreadable.
+-- Any other code makes no call.
 abbrev pub codedCall : Memory → ℕ → ℕ → ℕ → List ℕ → Coded
-codedCall m code replica number list = getD (codeTable m replica number list) code Unreadable
+codedCall m code replica number list = getD (codeTable m replica number list) code noCall
+
+abbrev pub refusalOf : Coded → ℕ
+refusalOf (Of call) = 0
+refusalOf (Refused refusal) = refusal

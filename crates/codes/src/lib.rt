@@ -1,18 +1,21 @@
-// Call codes, as script lines and the C interface have them: a code, a replica, a number and a list give a call, or are unreadable.
+// Call codes, as script lines and the C interface have them: a code, a replica, a number and a list give a call, or are refused.
 ghost use mathlib.Core.Path.{_≡_};
 ghost use mathlib.Core.List.{[]};
 ghost use Prim.Native.Nat.{_<_};
 ghost use Rattle.protocol.specs.Memory.{memory, certificateWords};
-ghost use Rattle.codes.specs.Codes.{isPlain, isShort, claimedWord, when, codedCall};
+ghost use Rattle.codes.specs.Codes.{isPlain, isShort, claimedWord, when, codedCall, refusalOf};
+use protocol::ACCEPTED;
 use protocol::Call;
 use protocol::Justification;
+use protocol::UNREADABLE;
 
 // The most numbers that a list may have.
 const MAX_LIST: usize = 31;
 
+// The call of a code, or the refusal that a caller hands up.
 pub enum Coded {
     Of(Call),
-    Unreadable,
+    Refused(u32),
 }
 
 // A call without a list, whose unused argument is 0.
@@ -35,7 +38,7 @@ fn coded_when(test: bool, call: Call) -> Coded
     if test {
         Coded::Of(call)
     } else {
-        Coded::Unreadable
+        Coded::Refused(UNREADABLE)
     }
 }
 
@@ -79,7 +82,7 @@ pub fn coded_call(
             if list.len() == 1 {
                 Coded::Of(Call::Prepare(replica, number, Justification::Acc(list[0])))
             } else {
-                Coded::Unreadable
+                Coded::Refused(UNREADABLE)
             }
         }
         3 => {
@@ -99,6 +102,16 @@ pub fn coded_call(
         10 => coded_when(is_plain(number, list), Call::Request(replica)),
         11 => coded_when(is_plain(0, list), Call::Reply(replica, number)),
         12 => coded_when(is_short(number, list), Call::Recover(replica)),
-        _ => Coded::Unreadable,
+        _ => Coded::Refused(UNREADABLE),
+    }
+}
+
+// The refusal that a caller hands up.
+pub fn refusal_of(coded: Coded) -> u32
+    ensures { λ r. ⌜ r ≡ refusalOf coded ⌝ }
+{
+    match coded {
+        Coded::Of(_) => ACCEPTED,
+        Coded::Refused(refusal) => refusal,
     }
 }

@@ -13,20 +13,19 @@ use Rattle.protocol.specs.Runs.{step}
 use Rattle.protocol.proofs.Needs.{refusal, refuses}
 use Rattle.protocol.proofs.Rules.{no-form}
 use Rattle.codes.specs.declared.Coded.{Coded}
-use Rattle.codes.specs.declared.Coded.the-variants.{Of, Unreadable}
-use Rattle.codes.specs.Codes.{codedCall}
+use Rattle.codes.specs.declared.Coded.the-variants.{Of, Refused}
+use Rattle.codes.specs.Codes.{noCall, codedCall, refusalOf}
 use Rattle.codes.proofs.Aside.{coded-aside}
-use Rattle.codes.proofs.Readable.{unreadable-anywhere, no-opening}
+use Rattle.codes.proofs.Readable.{unreadable-anywhere, refused-unreadable, no-opening}
 use Rattle.ledger.specs.Called.{MakeCall, calledBy, called}
 
 module _ (t l b : List ℕ) (code replica number : ℕ) (list : List ℕ) (r : Coded)
     (e : r ≡ codedCall (memory t l []) code replica number list) where
-  pub not-called : {a : Answer} → r ≡ Unreadable → a ≡ record { number = unreadable; first = 0; second = 0 }
+  pub not-called : {refusal n : ℕ} {a : Answer} → r ≡ Refused refusal → n ≡ refusalOf r → a ≡ record { number = n; first = 0; second = 0 }
       → outcome a t l b ≡ called (memory t l b) code replica number list
   unfolding called calledBy
-  not-called u x =
-      ap (λ (y : Answer). outcome y t l b) x
-      ∙ ap (λ (y : Coded). calledBy y (memory t l b) list) (sym u ∙ e ∙ coded-aside t l b code replica number list)
+  not-called u x y =
+      rw (y, x, u) (ap (λ (c : Coded). calledBy c (memory t l b) list) (sym u ∙ e ∙ coded-aside t l b code replica number list))
 
   pub is-called : {call : Call} {o : Outcome} → r ≡ Of call → o ≡ step (memory t l b) call list
       → o ≡ called (memory t l b) code replica number list
@@ -36,7 +35,7 @@ module _ (t l b : List ℕ) (code replica number : ℕ) (list : List ℕ) (r : C
 
 -- What holds where there is no call, and of each call that there may be, holds of a call by its code.
 pub by-call : (P : Outcome → Type 0) (m : Memory) (code replica number : ℕ) (list : List ℕ)
-    → (codedCall m code replica number list ≡ Unreadable → P (refusal unreadable m))
+    → (codedCall m code replica number list ≡ noCall → P (refusal unreadable m))
     → ((call : Call) → codedCall m code replica number list ≡ Of call → P (step m call list))
     → P (called m code replica number list)
 unfolding called calledBy
@@ -44,7 +43,7 @@ by-call P m code replica number list none some = go (codedCall m code replica nu
   where
     go : (c : Coded) → codedCall m code replica number list ≡ c → P (calledBy c m list)
     go (Of call) e = some call e
-    go Unreadable e = none e
+    go (Refused n) e = let u = refused-unreadable replica number list m code e in rw u (none (rw u at e))
 
 -- A call other than an opening, on memory of wrong form.
 pub called-formless : (m m′ : Memory) (code replica number : ℕ) (list : List ℕ) → wellFormed m ≡ false → (code ≡ 0 → ⊥)

@@ -11,7 +11,6 @@ use codes::Coded;
 use layout::DECIDED_BLOCK_AT;
 use protocol::Answer;
 use protocol::Call;
-use protocol::UNREADABLE;
 
 // One of the twelve calls, with the list beside it.
 pub fn invoke(
@@ -63,7 +62,7 @@ pub fn call_by_code(
 {
     let coded = codes::coded_call(table, log, code, replica, number, list);
     let Coded::Of(call) = coded else {
-        return refused(UNREADABLE);
+        return refused(codes::refusal_of(coded));
     };
     invoke(table, log, blocks, call, list)
 }

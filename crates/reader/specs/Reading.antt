@@ -1,21 +1,36 @@
--- A field of a script line: its number, or the refusal of a line that cannot be read.
-use Prim.Native.Nat.{ℕ}
+-- A field of a script line: its number and the column after it, or the refusal of a line that cannot be read.
+use Prim.Native.Nat.{ℕ, _+_}
 use mathlib.Core.Bool.{cond}
 use mathlib.Core.List.{List}
-use lib.Dec.{leb}
+use lib.Dec.{leb, eqb}
 use lib.ListN.{take, drop}
+use denote.Ref.{now}
 use Rattle.protocol.specs.Outcome.{unreadable}
 use Rattle.field.specs.Field.{columns, maxNumber, readField}
+use Rattle.reader.specs.declared.Reader.{Reader}
 use Rattle.reader.specs.declared.Read.{Read}
-use Rattle.reader.specs.declared.Read.the-variants.{Number, Refused}
+use Rattle.reader.specs.declared.Read.the-variants.{To, Refused}
 
-unfoldable pub given : ℕ → Read
-given number = cond (leb number maxNumber) (Number number) (Refused unreadable)
+-- What is read from the eight columns from a column on: a number, or noNumber.
+abbrev pub numberFrom : List ℕ → ℕ → ℕ
+numberFrom line column = readField (take columns (drop column line))
 
--- The field that starts at a column: eight columns from there on.
+-- The column after the field that starts at a column; the same column where none starts there.
+unfoldable pub columnAfter : List ℕ → ℕ → ℕ
+columnAfter line column = cond (leb (numberFrom line column) maxNumber) (column + columns) column
+
+-- "The line reader carries the bytes of its line and the column reached."
+abbrev pub movedOn : Reader → Reader
+movedOn r = record { line = r .line; column = columnAfter (now (r .line)) (r .column) }
+
+-- What a reader says that went from one column to another.
+unfoldable pub stepOf : ℕ → ℕ → Read
+stepOf from to = cond (eqb to from) (Refused unreadable) (To to)
+
+-- What reading the field that starts at a column gives: the column after it, or the refusal.
 unfoldable pub fieldAt : List ℕ → ℕ → Read
-fieldAt line column = given (readField (take columns (drop column line)))
+fieldAt line column = cond (leb (numberFrom line column) maxNumber) (To (column + columns)) (Refused unreadable)
 
 abbrev pub refusalOf : Read → ℕ
-refusalOf (Number number) = 0
+refusalOf (To column) = 0
 refusalOf (Refused refusal) = refusal

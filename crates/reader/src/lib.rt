@@ -1,7 +1,9 @@
 // The line reader: the bytes of a line and the column reached (document 01, "Script program").
 ghost use mathlib.Core.Path.{_≡_};
-ghost use Rattle.reader.specs.Reading.{fieldAt, refusalOf};
+ghost use Rattle.reader.specs.Reading.{numberFrom, columnAfter, movedOn, stepOf, fieldAt, refusalOf};
+use field::COLUMNS;
 use field::MAX_NUMBER;
+use protocol::ACCEPTED;
 use protocol::UNREADABLE;
 
 pub struct Reader<'a> {
@@ -9,44 +11,62 @@ pub struct Reader<'a> {
     pub column: usize,
 }
 
-// What reading gives: a number, or the refusal that a caller hands up.
+// What reading gives: the column reached, or the refusal that a caller hands up.
 pub enum Read {
-    Number(u32),
+    To(usize),
     Refused(u32),
 }
 
-// The field that starts at a column of a line.
-fn field_at(line: &[u8], column: usize) -> Read
-    ensures { λ r. ⌜ r ≡ fieldAt (now (line .entry)) column ⌝ }
+// Reads the field that starts at a column of a line. Gives the column after it; the same column where none starts there.
+fn field_at(line: &[u8], column: usize, number: &mut u32) -> usize
+    ensures { λ r. ⌜ (r ≡ columnAfter (now (line .entry)) column) × (now (number .exit) ≡ numberFrom (now (line .entry)) column) ⌝ }
 {
-    let number = field::read_at(line, column);
-    if number <= MAX_NUMBER {
-        Read::Number(number)
+    let found = field::read_at(line, column);
+    *number = found;
+    if found <= MAX_NUMBER {
+        column + COLUMNS
     } else {
-        Read::Refused(UNREADABLE)
+        column
     }
 }
 
-// The field at the column reached.
-pub fn next<'a>(reader: Reader<'a>) -> Read
-    ensures { λ r. ⌜ r ≡ fieldAt (now (reader .entry .line)) (reader .entry .column) ⌝ }
+// Reads the field at the column reached, and comes back further on; where no field starts there, as it was.
+pub fn next<'a>(reader: Reader<'a>, number: &mut u32) -> Reader<'a>
+    ensures { λ r. ⌜ (r ≡ movedOn (reader .entry))
+        × (now (number .exit) ≡ numberFrom (now (reader .entry .line)) (reader .entry .column)) ⌝ }
 {
-    field_at(reader.line, reader.column)
+    let column = field_at(reader.line, reader.column, number);
+    Reader {
+        line: reader.line,
+        column,
+    }
+}
+
+// A reader that comes back as it was has read no field.
+fn step_of(from: usize, to: usize) -> Read
+    ensures { λ r. ⌜ r ≡ stepOf from to ⌝ }
+{
+    if to == from {
+        Read::Refused(UNREADABLE)
+    } else {
+        Read::To(to)
+    }
 }
 
 // The same for a line and a column. The proof of a function that makes a reader is written by hand, so callers use this one.
-pub fn read_field(line: &[u8], column: usize) -> Read
-    ensures { λ r. ⌜ r ≡ fieldAt (now (line .entry)) column ⌝ }
+pub fn read_field(line: &[u8], column: usize, number: &mut u32) -> Read
+    ensures { λ r. ⌜ (r ≡ fieldAt (now (line .entry)) column) × (now (number .exit) ≡ numberFrom (now (line .entry)) column) ⌝ }
 {
-    next(Reader { line, column })
+    let reader = next(Reader { line, column }, number);
+    step_of(column, reader.column)
 }
 
-// The refusal that a caller hands up, 0 where a number was read.
+// The refusal that a caller hands up.
 pub fn refusal_of(read: Read) -> u32
     ensures { λ r. ⌜ r ≡ refusalOf read ⌝ }
 {
     match read {
-        Read::Number(_) => 0,
+        Read::To(_) => ACCEPTED,
         Read::Refused(refusal) => refusal,
     }
 }

@@ -24,8 +24,8 @@ use Rattle.protocol.proofs.Rules.{needs-hold, refused-changes-nothing}
 use Rattle.protocol.proofs.Frame.{lengths-stay}
 use Rattle.protocol.proofs.Agreement.{agreement}
 use Rattle.codes.specs.declared.Coded.{Coded}
-use Rattle.codes.specs.declared.Coded.the-variants.{Of, Unreadable}
-use Rattle.codes.specs.Codes.{isPlain, when, codeTable, codedCall}
+use Rattle.codes.specs.declared.Coded.the-variants.{Of, Refused}
+use Rattle.codes.specs.Codes.{isPlain, noCall, when, codeTable, codedCall}
 use Rattle.script.specs.Session.{Session, lentLength, lent, codeIn, replicaIn, numberIn, listIn, openCode, Answered, unchanged}
 use Rattle.script.specs.Session.{answerLine}
 use Rattle.script.specs.Agreement.{numbersIn, eventTable, acceptedLine, lineEvent, lineHistory, sessionAfter}
@@ -38,7 +38,7 @@ use Rattle.script.proofs.Ways.{lineLeaves, put-back, lentFor, made, by-
 -- The call, if there is one, tells this event where it is accepted with this answer.
 abbrev Tells : Answer → Event → Coded → Type 0
 Tells a e (Of call) = acceptedEvent call a ≡ e
-Tells a e Unreadable = Unit {0}
+Tells a e (Refused refusal) = Unit {0}
 
 -- The same of a table of calls and a table of events; past the last event nothing is told.
 abbrev AllTell : Answer → List Event → List Coded → Type 0
@@ -52,7 +52,7 @@ tells a true call told = told
 tells a false call told = tt
 
 tells-at : (a : Answer) (events : List Event) (table : List Coded) (code : ℕ) → AllTell a events table
-    → Tells a (getD events code other) (getD table code Unreadable)
+    → Tells a (getD events code other) (getD table code noCall)
 tells-at a events [] code h = tt
 tells-at a [] (coded ∷ rest) zero h = h .0
 tells-at a [] (coded ∷ rest) (suc code) h = tells-at a [] rest code (h .1)

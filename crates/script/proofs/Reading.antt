@@ -11,14 +11,14 @@ use Rattle.protocol.specs.Form.{allBelow}
 use Rattle.protocol.specs.Outcome.{unreadable}
 use Rattle.field.specs.Field.{columns}
 use Rattle.reader.specs.declared.Read.{Read}
-use Rattle.reader.specs.declared.Read.the-variants.{Number, Refused}
-use Rattle.reader.specs.Reading.{given, fieldAt}
-use Rattle.script.specs.Lines.{minFields, maxFields, fieldCount, numberAt, numbers, isNumber, hasNumbers, countOf}
+use Rattle.reader.specs.declared.Read.the-variants.{To, Refused}
+use Rattle.reader.specs.Reading.{numberFrom, fieldAt}
+use Rattle.script.specs.Lines.{minFields, maxFields, fieldCount, numberAt, numbers, isNumber, hasNumbers, lineRead}
 
-pub clash : {n x : ℕ} → Number n ≡ Refused x → ⊥
+pub clash : {n x : ℕ} → To n ≡ Refused x → ⊥
 clash e = let no : _≡_ {A = ℕ} 0 1 = cc in omega (tests, no)
 
-pub same : {n x : ℕ} → Number n ≡ Number x → n ≡ x
+pub same : {n x : ℕ} → To n ≡ To x → n ≡ x
 same e = cc
 
 no-such : true ≡ false → ⊥
@@ -42,24 +42,27 @@ module _ (line : List ℕ) where
   is-readable r = all-hold _ (omega (tests, r .whole), (omega (tests, r .enough), (omega (tests, r .few), (r .all, tt))))
 
   -- A line that fails a test.
-  pub not-read : {A : Type 0} → (Readable → ⊥) → (Refused unreadable ≡ countOf line) × (hasNumbers line ≡ true → A)
-  unfolding countOf
+  pub not-read : {A : Type 0} → (Readable → ⊥) → (Refused unreadable ≡ lineRead line) × (hasNumbers line ≡ true → A)
+  unfolding lineRead
   not-read n = (by-test (hasNumbers line) (λ t. absurd (n (readable t))) (λ e. rw e refl), λ t. absurd (n (readable t)))
 
-  -- A field that is no number.
-  pub refused-at : (i : ℕ) {r : Read} {refusal : ℕ} → i < fieldCount line → r ≡ fieldAt line (columns * i) → r ≡ Refused refusal
-      → {A : Type 0} → (r ≡ countOf line) × (hasNumbers line ≡ true → A)
-  unfolding fieldAt given
-  refused-at i {r} {refusal} h e u =
-      by-test (isNumber line i) (λ t. absurd (clash (rw t at (sym e ∙ u))))
-      (λ f. let no = not-read (λ (d : Readable). no-such (sym (at-below _ _ (d .all) i h) ∙ f)) in ((rw f at e) ∙ no .0, no .1))
+  -- The field at index i, read from its column.
+  module _ (i : ℕ) {column : ℕ} (c : column ≡ columns * i) {r : Read} (e : r ≡ fieldAt line column) where
+    -- It is no number.
+    pub refused-at : {refusal : ℕ} → i < fieldCount line → r ≡ Refused refusal → {A : Type 0}
+        → (r ≡ lineRead line) × (hasNumbers line ≡ true → A)
+    unfolding fieldAt
+    refused-at h u =
+        by-test (isNumber line i) (λ t. absurd (clash (rw (c, t) at (sym e ∙ u))))
+        (λ f. let no = not-read (λ (d : Readable). no-such (sym (at-below _ _ (d .all) i h) ∙ f)) in ((rw (c, f) at e) ∙ no .0, no .1))
 
-  -- A field that is one.
-  pub number-at : (i : ℕ) {r : Read} {n : ℕ} → r ≡ fieldAt line (columns * i) → r ≡ Number n
-      → (isNumber line i ≡ true) × (n ≡ numberAt line i)
-  unfolding fieldAt given
-  number-at i {r} {n} e u =
-      by-test (isNumber line i) (λ t. (t, same (sym u ∙ rw t at e))) (λ f. absurd (clash (sym u ∙ rw f at e)))
+    -- It is one, and the next starts after it.
+    pub number-at : {next n : ℕ} → r ≡ To next → n ≡ numberFrom line column
+        → (isNumber line i ≡ true) × (n ≡ numberAt line i) × (next ≡ columns * (i + 1))
+    unfolding fieldAt
+    number-at u x =
+        by-test (isNumber line i) (λ t. (t, rw c at x, omega (tests, same (sym u ∙ rw (c, t) at e))))
+        (λ f. absurd (clash (sym u ∙ rw (c, f) at e)))
 
   pub one-more : (held : List ℕ) (i n : ℕ) → i < length held → n ≡ numberAt line i → take i held ≡ numbers line i
       → take (i + 1) (set held i n) ≡ numbers line (i + 1)
@@ -68,8 +71,7 @@ module _ (line : List ℕ) where
       simp (unary-clauses, e) (take-suc-set held i (numberAt line i) h ∙ ap (λ (l : List ℕ). l ++ (numberAt line i ∷ [])) u)
 
   -- Every field has a number.
-  pub all-read : (held : List ℕ) {i : ℕ} → i ≡ fieldCount line → Readable
-      → take i held ≡ numbers line i
-      → (Number (fieldCount line) ≡ countOf line) × (hasNumbers line ≡ true → take (fieldCount line) held ≡ numbers line (fieldCount line))
-  unfolding countOf
-  all-read held e r u = (rw (is-readable r) refl, λ t. rw e at u)
+  pub all-read : (held : List ℕ) {i column : ℕ} → i ≡ fieldCount line → column ≡ length line → Readable → take i held ≡ numbers line i
+      → (To column ≡ lineRead line) × (hasNumbers line ≡ true → take (fieldCount line) held ≡ numbers line (fieldCount line))
+  unfolding lineRead
+  all-read held e c r u = (rw (is-readable r, c) refl, λ t. rw e at u)

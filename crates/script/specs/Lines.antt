@@ -3,12 +3,13 @@ use Prim.Native.Nat.{ℕ, zero, suc, _*_, _/_}
 use mathlib.Core.Bool.{Bool, cond}
 use mathlib.Core.List.{List, [], _∷_, _++_}
 use lib.Dec.{leb, eqb}
-use lib.ListN.{length, take, drop}
+use lib.ListN.{length}
 use Rattle.protocol.specs.Form.{allHold, allBelow}
 use Rattle.protocol.specs.Outcome.{unreadable}
-use Rattle.field.specs.Field.{columns, maxNumber, readField}
+use Rattle.field.specs.Field.{columns, maxNumber}
 use Rattle.reader.specs.declared.Read.{Read}
-use Rattle.reader.specs.declared.Read.the-variants.{Number, Refused}
+use Rattle.reader.specs.declared.Read.the-variants.{To, Refused}
+use Rattle.reader.specs.Reading.{numberFrom}
 
 -- "A line has 3 to 34 fields"
 abbrev pub minFields : ℕ
@@ -22,7 +23,7 @@ fieldCount line = length line / columns
 
 -- What is read from a field of a line: its number, or noNumber. Fields are counted from 0.
 abbrev pub numberAt : List ℕ → ℕ → ℕ
-numberAt line i = readField (take columns (drop (columns * i) line))
+numberAt line i = numberFrom line (columns * i)
 
 -- What is read from the first fields of a line.
 unfoldable pub numbers : List ℕ → ℕ → List ℕ
@@ -42,6 +43,6 @@ hasNumbers line =
     ∷ allBelow (fieldCount line) (isNumber line)
     ∷ [])
 
--- How many numbers are read, or the refusal.
-unfoldable pub countOf : List ℕ → Read
-countOf line = cond (hasNumbers line) (Number (fieldCount line)) (Refused unreadable)
+-- The column that reading a line's numbers reaches, which is its end, or the refusal.
+unfoldable pub lineRead : List ℕ → Read
+lineRead line = cond (hasNumbers line) (To (length line)) (Refused unreadable)

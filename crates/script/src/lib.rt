@@ -7,7 +7,7 @@ ghost use lib.ListN.{length, take};
 ghost use Rattle.protocol.specs.Memory.{memory};
 ghost use Rattle.protocol.specs.Outcome.{outcome};
 ghost use Rattle.field.specs.Field.{columns, maxNumber, fieldOf};
-ghost use Rattle.script.specs.Lines.{minFields, maxFields, fieldCount, numbers, hasNumbers, countOf};
+ghost use Rattle.script.specs.Lines.{minFields, maxFields, fieldCount, numbers, hasNumbers, lineRead};
 ghost use Rattle.script.specs.Session.{
   session,
   leaves,
@@ -21,6 +21,7 @@ ghost use Rattle.script.specs.Session.{
 ghost use Rattle.script.specs.Text.{answerText, answerBytes, Printable};
 use checks::refused;
 use field::COLUMNS;
+use protocol::ACCEPTED;
 use protocol::Answer;
 use protocol::UNREADABLE;
 use reader::Read;
@@ -46,10 +47,10 @@ pub const LINE_FEED: u8 = 10;
 // Four fields and a line feed.
 pub const ANSWER_BYTES: usize = 4 * COLUMNS + 1;
 
-// Reads the numbers of a line; gives how many there are, or the refusal.
+// Reads the numbers of a line, field after field; gives the column reached, the line's end, or the refusal.
 fn read_numbers(line: &[u8], given: &mut [u32]) -> Read
     requires { ⌜ length (now given) ≡ maxFields ⌝ }
-    ensures { λ r. ⌜ r ≡ countOf (now (line .entry)) ⌝ }
+    ensures { λ r. ⌜ r ≡ lineRead (now (line .entry)) ⌝ }
     ensures { λ r. ⌜ (hasNumbers (now (line .entry)) ≡ true
         → take (fieldCount (now (line .entry))) (now (given .exit)) ≡ numbers (now (line .entry)) (fieldCount (now (line .entry)))) ⌝ }
 {
@@ -63,16 +64,20 @@ fn read_numbers(line: &[u8], given: &mut [u32]) -> Read
     if MAX_FIELDS < count {
         return Read::Refused(UNREADABLE);
     }
+    let mut column = 0;
     let mut i = 0;
-    while i < count {
-        let read = reader::read_field(line, COLUMNS * i);
-        let Read::Number(number) = read else {
+    // The last field ends where the line does. By this test the compiler knows the column after the loop, which `<` would not tell it.
+    while column != line.len() {
+        let mut number = 0;
+        let read = reader::read_field(line, column, &mut number);
+        let Read::To(next) = read else {
             return read;
         };
         given[i] = number;
         i += 1;
+        column = next;
     }
-    Read::Number(count as u32)
+    Read::To(column)
 }
 
 // How many words of the table are lent for f.
@@ -132,7 +137,7 @@ fn answer_numbers(
 {
     let f = fault_bound_for(*fault_bound, given[CODE_FIELD], given[REPLICA_FIELD]);
     let answer = call_lent(table, log, blocks, f, given);
-    if answer.number == 0 {
+    if answer.number == ACCEPTED {
         *fault_bound = f;
     }
     answer
@@ -153,11 +158,11 @@ pub fn answer_line(
 {
     let mut given = [0u32; MAX_FIELDS];
     let read = read_numbers(line, &mut given);
-    let Read::Number(count) = read else {
+    let Read::To(column) = read else {
         return refused(reader::refusal_of(read));
     };
-    let end = count as usize;
-    answer_numbers(table, log, blocks, fault_bound, &given[..end])
+    let count = column / COLUMNS;
+    answer_numbers(table, log, blocks, fault_bound, &given[..count])
 }
 
 // Writes a number's eight columns.

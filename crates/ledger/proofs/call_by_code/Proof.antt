@@ -1,4 +1,4 @@
--- The code gives a call, or none.
+-- The code gives a call, or a refusal to hand up.
 use borrow.Author.Needs.{needs}
 use Rattle.ledger.proofs.Calling.{not-called, is-called}
 use Rattle.ledger.proofs.call_by_code.Statement.{statement}
@@ -6,7 +6,9 @@ use Rattle.ledger.proofs.call_by_code.Tie as tie
 
 returns : tie.Need-returns
 returns c =
-    not-called _ _ _ _ _ _ _ _ (c .before .before .before .coded-call .ensures) (c .before .enum-told .given .1) (c .refused .ensures)
+    let told = c .before .before in
+    not-called _ _ _ _ _ _ _ _ (told .before .before .coded-call .ensures) (told .enum-told .given .1) (c .before .refusal-of .ensures)
+    (c .refused .ensures)
 
 returns-2 : tie.Need-returns-2
 returns-2 c =
@@ -19,5 +21,6 @@ returns-2 c =
 pub call-by-code-spec : {M : Type 1} → statement M
 call-by-code-spec =
     tie.close
-    (tie.spec (λ c κs. search needs) (λ c. search needs) (λ c. search needs) (λ c κs. search needs) (λ c. search needs)
-    (λ c. search needs) returns (λ c κs. search needs) (λ c. search needs) (λ c. search needs) (λ c. search needs) returns-2)
+    (tie.spec (λ c κs. search needs) (λ c. search needs) (λ c. search needs) (λ c κs. search needs) (λ c κs. search needs)
+    (λ c. search needs) (λ c. search needs) returns (λ c κs. search needs) (λ c. search needs) (λ c. search needs) (λ c. search needs)
+    returns-2)

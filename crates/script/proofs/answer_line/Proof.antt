@@ -1,7 +1,9 @@
 -- The numbers are read, or there is a refusal to hand up.
 use mathlib.Core.Path.{sym}
+use Prim.Native.Nat.{_/_}
 use native.Mathlib.Omega.{arith}
 use lib.Seq.{length-take-le}
+use Rattle.field.specs.Field.{columns}
 use Rattle.script.proofs.Answering.{count, line-refused, line-answered}
 use borrow.Author.Needs.{needs}
 use Rattle.script.proofs.answer_line.Statement.{statement}
@@ -29,7 +31,8 @@ answer-numbers-requires c κs =
     let told = c .before .before .before .before .before .before in
     let read = told .before .before .before .read-numbers in
     let n = count _ (read .ensures .0) (told .read .given .1) in
-    let long = length-take-le (told .read .given .0 .0) (read .last .1 .0) (omega (arith, n, told .before .before .given2 .given)) in
+    let fields = told .read .given .0 .0 / columns in
+    let long = length-take-le fields (read .last .1 .0) (omega (arith, n, told .before .before .given2 .given)) in
     (told .before .before .before .before .before .before .before .before .before .pre, omega (arith, n, long))
 
 returns-2 : tie.Need-returns-2
@@ -43,6 +46,6 @@ pub answer-line-spec : {M : Type 1} → statement M
 answer-line-spec =
     tie.close
     (tie.spec (λ c. search needs) (λ c κs. search needs) (λ c. search needs) (λ c. search needs)
-    (λ c κs. search needs) (λ c κs. search needs) returns (λ c. search needs) array-share-prefix-given
+    (λ c κs. search needs) (λ c κs. search needs) returns array-share-prefix-given
     slice-aggregate-answer-numbers answer-numbers-requires (λ c. search needs) (λ c. search needs)
     (λ c. search needs) returns-2)

@@ -4,7 +4,7 @@ use crate::call::*;
 use crate::driver::{script_text, Driver, Line};
 use crate::generate::damage::damage;
 use crate::generate::progress::progress;
-use crate::generate::scripts::{script, Script};
+use crate::generate::scripts::script;
 use crate::mistake::Correct;
 use crate::random::Random;
 use crate::script::{BLOCK_SLOTS, CERTIFICATE_SLOTS};
@@ -14,18 +14,16 @@ pub fn rows(seed: u64, lines: usize) -> Vec<(&'static str, Vec<u8>)> {
     vec![("mixed", mixed(seed, lines)), ("full log", full_log(lines)), ("f = 30", repeated_progress(seed, 30, lines))]
 }
 
-/// Scripts of all sorts, one after the other, but for those that are mostly long unreadable lines.
+/// Scripts of all sorts, one after the other.
 fn mixed(seed: u64, lines: usize) -> Vec<u8> {
     let mut text = Vec::new();
     let (mut next, mut count) = (seed, 0);
     while count < lines {
-        let Script { sort, text: mut part } = script(next);
+        let mut part = script(next).text;
         next += 1;
-        if sort != "block ends" {
-            part.push(b'\n');
-            count += part.iter().filter(|&&byte| byte == b'\n').count();
-            text.extend(part);
-        }
+        part.push(b'\n');
+        count += part.iter().filter(|&&byte| byte == b'\n').count();
+        text.extend(part);
     }
     text
 }

@@ -87,7 +87,7 @@ fn checker() -> Box<dyn Checker> {
 fn compare_scripts(one: Run, other: Run, seed: u64, time: Duration) -> Result<(), String> {
     let start = Instant::now();
     let (mut scripts, mut lines) = (0, 0);
-    while start.elapsed() < time {
+    while scripts == 0 || start.elapsed() < time {
         let (script, arrival) = (script(seed + scripts), Arrival::of(seed + scripts));
         let at = |error: String| format!("seed {}: {error}", seed + scripts);
         let (left, right) = (one(&script.text, arrival).map_err(at)?, other(&script.text, arrival).map_err(at)?);
@@ -141,7 +141,7 @@ fn compare_memories(checker: &dyn Checker, seed: u64, time: Duration) -> Result<
     let start = Instant::now();
     let library = Library(Correct);
     let mut count = 0;
-    while count % 256 != 0 || start.elapsed() < time {
+    while count == 0 || count % 256 != 0 || start.elapsed() < time {
         if let Some((told, sample)) = difference(checker, &library, seed + count) {
             println!("seed {}: {told}", seed + count);
             if let Some(sample) = sample {
@@ -164,6 +164,9 @@ fn compare_scenarios(directory: &str, programs: &[&str]) -> Result<(), String> {
     let mut paths: Vec<_> = listing.filter_map(|entry| Some(entry.ok()?.path())).collect();
     paths.retain(|path| path.extension().is_some_and(|extension| extension == "txt"));
     paths.sort();
+    if paths.is_empty() {
+        return Err(format!("{directory}: no scenarios"));
+    }
     for path in &paths {
         let read = |path: &std::path::Path| std::fs::read(path).map_err(|error| format!("{}: {error}", path.display()));
         let (input, expected) = (read(path)?, read(&path.with_extension("out"))?);

@@ -41,15 +41,17 @@ pub fn full_log(mut random: Random, f: u32) -> Vec<Line> {
 fn fill_log(driver: &mut Driver<Correct>, left: u32) -> u32 {
     let most = CERTIFICATE_SLOTS as u32 - left;
     let mut view = (0..driver.n()).map(|replica| driver.replica(replica).min_view).max().unwrap_or(1);
-    let mut issued = None;
-    while issued != Some(driver.issued()) {
-        issued = Some(driver.issued());
+    for _ in 0..=most {
+        let issued = driver.issued();
         for replica in 0..driver.n() {
             if driver.issued() < most && driver.replica(replica).status == LIVE {
                 driver.enter(replica, view);
             }
         }
         view += 1;
+        if driver.issued() == issued {
+            break;
+        }
     }
     view
 }
@@ -79,9 +81,7 @@ pub fn counter_by_cuts(mut random: Random, f: u32) -> Vec<Line> {
     for _ in 0..reserves {
         hosts.driver.call(RESERVE, replica, 0, &[]);
     }
-    while hosts.driver.replica(replica).view_limit + 1024 < CEILING {
-        hosts.driver.call(REBOOT, replica, 0, &[]);
-    }
+    hosts.driver.raise_limit(REBOOT, replica, CEILING - 1024);
     let last = hosts.random.pick(&[REBOOT, RESERVE]);
     hosts.driver.call(last, replica, 0, &[]);
     at_the_end(&mut hosts, replica);
@@ -92,9 +92,7 @@ pub fn counter_by_cuts(mut random: Random, f: u32) -> Vec<Line> {
 pub fn counter_by_reserves(random: Random, f: u32) -> Vec<Line> {
     let mut hosts = explorer(random, f);
     let replica = hosts.random.below(hosts.driver.n());
-    while hosts.driver.replica(replica).view_limit < CEILING {
-        hosts.driver.call(RESERVE, replica, 0, &[]);
-    }
+    hosts.driver.raise_limit(RESERVE, replica, CEILING);
     at_the_end(&mut hosts, replica);
     hosts.driver.lines()
 }

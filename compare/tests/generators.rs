@@ -2,16 +2,14 @@
 
 use judge::call::{REBOOT, RESERVE};
 use judge::driver::Driver;
-use judge::memory::{CEILING, COUNTER_STEPS, RETIRED};
+use judge::memory::{CEILING, FIRST_LIMIT, LAST_STEP, RETIRED};
 use judge::mistake::Mistake;
-
-const FIRST: u32 = COUNTER_STEPS[0];
 
 #[test]
 fn raising_a_limit_ends_where_a_call_is_refused() {
     let (strict, all) = (Some(Mistake::ReserveStrict), Some(Mistake::RefuseAll));
-    let below = (CEILING - 1) / FIRST * FIRST;
-    for (mistake, code, limit) in [(strict, RESERVE, below), (all, RESERVE, FIRST), (all, REBOOT, FIRST)] {
+    let below = (CEILING - 1) / FIRST_LIMIT * FIRST_LIMIT;
+    for (mistake, code, limit) in [(strict, RESERVE, below), (all, RESERVE, FIRST_LIMIT), (all, REBOOT, FIRST_LIMIT)] {
         let mut driver = Driver::open(mistake, 1, 1, 1);
         driver.raise_limit(code, 0, CEILING);
         assert_eq!(driver.replica(0).view_limit, limit, "{mistake:?}");
@@ -23,5 +21,5 @@ fn raising_a_limit_ends_where_a_cut_retires() {
     let mut driver = Driver::open(None::<Mistake>, 1, 1, 1);
     driver.raise_limit(REBOOT, 0, CEILING);
     let limit = driver.replica(0).view_limit;
-    assert!(CEILING - limit < *COUNTER_STEPS.last().unwrap() && driver.replica(0).status == RETIRED);
+    assert!(CEILING - limit < LAST_STEP && driver.replica(0).status == RETIRED);
 }

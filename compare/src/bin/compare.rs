@@ -12,10 +12,11 @@ use judge::comparison::programs::{first_difference, output, Arrival};
 use judge::comparison::samples::{call_difference, difference, panel_difference};
 use judge::comparison::shrink::{sample_text, shrink_sample, shrink_script};
 use judge::comparison::{coverage, mistakes};
+use judge::field::COLUMNS;
 use judge::generate::scripts::script;
 use judge::mistake::{Correct, Mistake};
 use judge::options::Options;
-use judge::script::run;
+use judge::script::{run, ANSWER_BYTES, MAX_LINE_BYTES};
 use std::io::Write;
 use std::process::ExitCode;
 use std::time::{Duration, Instant};
@@ -97,7 +98,7 @@ fn compare_scripts(one: Run, other: Run, seed: u64, time: Duration) -> Result<()
             return Err("scripts differ".to_string());
         }
         scripts += 1;
-        lines += left.len() / 33;
+        lines += left.len() / ANSWER_BYTES;
     }
     println!("{scripts} scripts, {lines} lines, no difference (seeds {seed} to {})", seed + scripts - 1);
     Ok(())
@@ -127,7 +128,7 @@ fn is_feed(byte: &u8) -> bool {
 
 /// A line for a person to read: odd bytes by their escapes, the middle of a long line left out, a missing line feed told.
 fn shown(line: &[u8], tell_missing: bool) -> String {
-    const MOST: usize = 280;
+    const MOST: usize = MAX_LINE_BYTES + COLUMNS;
     let columns = line.strip_suffix(b"\n").unwrap_or(line);
     let text = match columns.len() {
         0..=MOST => columns.escape_ascii().to_string(),

@@ -1,5 +1,5 @@
-//! The cases that document 01 marks P, and the one it marks "run only". Codes, numbers and answers are literal, as the
-//! document has them: derived from the library's constants they would hold for any others too.
+//! The cases that document 01 marks P, the one it marks "run only", and the lengths it allows. Codes, numbers and
+//! answers are literal, as the document has them: derived from the library's constants they would hold for any others.
 
 use judge::call::{call, Outcome};
 use judge::memory::{replica_word, table_length, Memory, CERTIFICATE_WORDS, HEADER, MAX_F};
@@ -73,6 +73,15 @@ fn opening_tests_f_before_lengths() {
     let mut yard = Yard { table: vec![1; 5], log: vec![1; 5], blocks: vec![] };
     assert_eq!(yard.call(0, 31, 0, &[]), (2, 0, 0));
     assert_eq!(yard.call(0, 1, 0, &[]), (1, 0, 0));
+}
+
+#[test]
+fn lengths() {
+    let lent = [(0, 1, 0), (7 * 4096, 4096, 0), (7 * 4097, 1, 1), (6, 1, 1), (0, 0, 1), (0, 4097, 1)];
+    for (log, blocks, answer) in lent {
+        let mut yard = Yard { table: vec![7; 3 + 9 * 3], log: vec![7; log], blocks: vec![7; blocks] };
+        assert_eq!(yard.call(0, 1, 0, &[]).0, answer, "{log} words of log, {blocks} blocks");
+    }
 }
 
 #[test]

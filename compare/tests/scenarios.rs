@@ -8,15 +8,18 @@ use std::path::Path;
 #[test]
 fn stored_scenarios() {
     let directory = Path::new(env!("CARGO_MANIFEST_DIR")).join("../scenarios");
-    let mut count = 0;
+    let (mut count, mut wrong) = (0, Vec::new());
     for entry in std::fs::read_dir(directory).unwrap() {
         let path = entry.unwrap().path();
         if path.extension().is_some_and(|extension| extension == "txt") {
             let expected = std::fs::read(path.with_extension("out")).unwrap();
-            assert!(run(Correct, &std::fs::read(&path).unwrap()) == expected, "{}", path.display());
+            if run(Correct, &std::fs::read(&path).unwrap()) != expected {
+                wrong.push(path);
+            }
             count += 1;
         }
     }
+    assert!(wrong.is_empty(), "another output: {wrong:?}");
     assert!(count >= 15, "only {count} scenarios");
 }
 

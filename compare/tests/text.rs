@@ -71,6 +71,13 @@ fn line_feeds() {
 }
 
 #[test]
+fn room_for_1024_blocks() {
+    let given = answers(&(line(&[0, 1, 0]) + &line(&[1, 0, 0]).repeat(1024)));
+    assert_eq!(given.iter().position(|&answer| answer != 0), Some(1024));
+    assert_eq!(given[1024], 9);
+}
+
+#[test]
 fn blocks_of_any_size() {
     let script = line(&[0, 1, 0]) + &line(&[5, 0, 1]) + &line(&[6, 1, 0, 0, 1]) + "\n" + &line(&[8, 2, 0]);
     let whole = run(Correct, script.as_bytes());

@@ -2,20 +2,21 @@
 
 use crate::certificate::{Certificate, ACC, NEWVIEW};
 use crate::form::well_formed;
-use crate::memory::{need, Answer, Memory, LIVE, RECOVERING};
+use crate::memory::{Memory, LIVE, RECOVERING};
 use crate::mistake::{Mistake, Rules};
+use crate::refusal::*;
 
 pub fn accumulate<R: Rules>(rules: R, m: &mut Memory, replica: u32, list: &[u32]) -> Answer {
-    need(well_formed(rules, m), 1)?;
-    need(m.is_replica(replica) && m.is_list_length(rules, list), 2)?;
-    need(m.all_issued(list), 3)?;
+    need(well_formed(rules, m), WRONG_FORM)?;
+    need(m.is_replica(replica) && m.is_list_length(rules, list), OUT_OF_RANGE)?;
+    need(m.all_issued(list), UNKNOWN_NUMBER)?;
     let status = m.replica(replica).status;
     let let_in = rules.has(Mistake::AccumulateRecovering) && status == RECOVERING;
-    need(status == LIVE || let_in, 4)?;
+    need(status == LIVE || let_in, WRONG_STATUS)?;
     let view = m.certificate(list[0]).view;
     let one_view = |c: Certificate| c.view == view || rules.has(Mistake::AccumulateMixedViews);
     let different = rules.has(Mistake::AccumulateSignerTwice) || m.different_signers(list);
-    need(m.all(list, |c| c.kind == NEWVIEW && one_view(c)) && different, 5)?;
+    need(m.all(list, |c| c.kind == NEWVIEW && one_view(c)) && different, WRONG_CERTIFICATE)?;
     let latest = if rules.has(Mistake::AccumulateTakesLast) {
         m.certificate(list[list.len() - 1])
     } else {

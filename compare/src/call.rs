@@ -2,9 +2,10 @@
 
 use crate::accumulator::accumulate;
 use crate::checker::{block, decide, open, prepare, store, view, Justification};
-use crate::memory::{Answer, Memory};
+use crate::memory::{Memory, MAX_F};
 use crate::mistake::{Mistake, Rules};
 use crate::recovery::{reboot, recover, reply, request, reserve};
+use crate::refusal::{Answer, ACCEPTED, UNREADABLE, WRONG_STATUS};
 
 pub const OPEN: u32 = 0;
 pub const BLOCK: u32 = 1;
@@ -19,9 +20,10 @@ pub const RESERVE: u32 = 9;
 pub const REQUEST: u32 = 10;
 pub const REPLY_TO: u32 = 11;
 pub const RECOVER: u32 = 12;
+pub const LAST_CODE: u32 = RECOVER;
 
-/// Most numbers of a list in a script line.
-pub const MAX_LIST: usize = 31;
+/// Most numbers of a list in a script line: f+1 for the greatest f.
+pub const MAX_LIST: usize = MAX_F as usize + 1;
 
 /// Number returned and both values.
 #[derive(Clone, Copy, PartialEq, Eq, Debug)]
@@ -31,16 +33,22 @@ pub struct Outcome {
     pub second: u32,
 }
 
+impl Outcome {
+    pub fn is_accepted(&self) -> bool {
+        self.answer == ACCEPTED
+    }
+}
+
 impl From<Answer> for Outcome {
     fn from(answer: Answer) -> Outcome {
         match answer {
-            Ok((first, second)) => Outcome { answer: 0, first, second },
+            Ok((first, second)) => Outcome { answer: ACCEPTED, first, second },
             Err(answer) => Outcome { answer, first: 0, second: 0 },
         }
     }
 }
 
-/// Whether the numbers make a call: a code up to 12, unused numbers 0, a list only where the call has one.
+/// Whether the numbers make a call: a code that there is, unused numbers 0, a list only where the call has one.
 pub fn is_call<R: Rules>(rules: R, code: u32, replica: u32, number: u32, list: &[u32]) -> bool {
     let list_fits = match code {
         PREPARE_ACC => list.len() == 1,
@@ -52,16 +60,16 @@ pub fn is_call<R: Rules>(rules: R, code: u32, replica: u32, number: u32, list: &
         OPEN | ACCUMULATE | DECIDE | REBOOT | RESERVE | REQUEST | RECOVER => number,
         _ => 0,
     };
-    code <= RECOVER && list_fits && (unused == 0 || rules.has(Mistake::TextUnused))
+    code <= LAST_CODE && list_fits && (unused == 0 || rules.has(Mistake::TextUnused))
 }
 
-/// One call by its code; 10 where the numbers make no call.
+/// One call by its code; `UNREADABLE` where the numbers make no call.
 pub fn call<R: Rules>(rules: R, m: &mut Memory, code: u32, replica: u32, number: u32, list: &[u32]) -> Outcome {
     if !is_call(rules, code, replica, number, list) {
-        return Outcome::from(Err(10));
+        return Outcome::from(Err(UNREADABLE));
     }
     if rules.has(Mistake::RefuseAll) && code != OPEN {
-        return Outcome::from(Err(4));
+        return Outcome::from(Err(WRONG_STATUS));
     }
     let answer = match code {
         OPEN => open(rules, m, replica),

@@ -1,7 +1,8 @@
 //! Certificates, and filing them in the certificate log (document 01, "Kinds" and the sentence on equal ones).
 
-use crate::memory::{Memory, CERTIFICATE_WORDS};
+use crate::memory::{header, Memory, CERTIFICATE_WORDS};
 use crate::mistake::{Mistake, Rules};
+use crate::refusal::NO_ROOM;
 
 pub const PROP: u32 = 1;
 pub const COMMIT: u32 = 2;
@@ -9,8 +10,21 @@ pub const NEWVIEW: u32 = 3;
 pub const ACC: u32 = 4;
 pub const REQ: u32 = 5;
 pub const REPLY: u32 = 6;
+pub const FIRST_KIND: u32 = PROP;
+pub const LAST_KIND: u32 = REPLY;
 
-/// Seven words. Fields that a kind does not name are 0.
+/// Where a certificate has each of its words.
+pub mod certificate_word {
+    pub const KIND: usize = 0;
+    pub const SIGNER: usize = 1;
+    pub const VIEW: usize = 2;
+    pub const BLOCK: usize = 3;
+    pub const OF_VIEW: usize = 4;
+    pub const SUBJECT: usize = 5;
+    pub const BOOT: usize = 6;
+}
+
+/// Fields that a kind does not name are 0.
 #[derive(Clone, Copy, PartialEq, Eq, Debug, Default)]
 pub struct Certificate {
     pub kind: u32,
@@ -24,11 +38,27 @@ pub struct Certificate {
 
 impl Certificate {
     pub fn from_words(w: &[u32]) -> Certificate {
-        Certificate { kind: w[0], signer: w[1], view: w[2], block: w[3], of_view: w[4], subject: w[5], boot: w[6] }
+        Certificate {
+            kind: w[certificate_word::KIND],
+            signer: w[certificate_word::SIGNER],
+            view: w[certificate_word::VIEW],
+            block: w[certificate_word::BLOCK],
+            of_view: w[certificate_word::OF_VIEW],
+            subject: w[certificate_word::SUBJECT],
+            boot: w[certificate_word::BOOT],
+        }
     }
 
     pub fn words(&self) -> [u32; CERTIFICATE_WORDS] {
-        [self.kind, self.signer, self.view, self.block, self.of_view, self.subject, self.boot]
+        let mut w = [0; CERTIFICATE_WORDS];
+        w[certificate_word::KIND] = self.kind;
+        w[certificate_word::SIGNER] = self.signer;
+        w[certificate_word::VIEW] = self.view;
+        w[certificate_word::BLOCK] = self.block;
+        w[certificate_word::OF_VIEW] = self.of_view;
+        w[certificate_word::SUBJECT] = self.subject;
+        w[certificate_word::BOOT] = self.boot;
+        w
     }
 }
 
@@ -46,7 +76,7 @@ impl Memory<'_> {
         slots.nth(number as usize).map_or(Certificate::default(), Certificate::from_words)
     }
 
-    /// The first equal certificate's number, else a free slot, else 9.
+    /// The first equal certificate's number, else a free slot, else `NO_ROOM`.
     pub fn slot_for<R: Rules>(&self, rules: R, certificate: Certificate) -> Result<Slot, u32> {
         let words = certificate.words();
         let issued = self.issued() as usize;
@@ -57,7 +87,7 @@ impl Memory<'_> {
         match found {
             Some(number) if !unheeded => Ok(Slot::Found(number as u32)),
             _ if issued + usize::from(rules.has(Mistake::NineTooEarly)) < capacity => Ok(Slot::Free(issued as u32)),
-            _ => Err(9),
+            _ => Err(NO_ROOM),
         }
     }
 
@@ -69,7 +99,7 @@ impl Memory<'_> {
                 let start = CERTIFICATE_WORDS * number as usize;
                 self.log[start..start + CERTIFICATE_WORDS].copy_from_slice(&certificate.words());
                 if !rules.has(Mistake::CountStays) {
-                    self.table[1] += 1;
+                    self.table[header::ISSUED] += 1;
                 }
                 number
             }

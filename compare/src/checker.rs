@@ -4,6 +4,7 @@ use crate::certificate::{Certificate, ACC, COMMIT, NEWVIEW, PROP};
 use crate::form::{blocks_length_fits, log_length_fits, well_formed};
 use crate::memory::*;
 use crate::mistake::{Mistake, Rules};
+use crate::refusal::*;
 
 /// What lets a leader propose (document 01: ground): an ACC's number, or a list of matching commits.
 #[derive(Clone, Copy, Debug)]
@@ -13,72 +14,71 @@ pub enum Justification<'a> {
 }
 
 pub fn open<R: Rules>(rules: R, m: &mut Memory, f: u32) -> Answer {
-    need((1..=MAX_F).contains(&f), 2)?;
+    need((1..=MAX_F).contains(&f), OUT_OF_RANGE)?;
     let lengths =
         m.table.len() as u64 == table_length(f) && log_length_fits(m.log.len()) && blocks_length_fits(m.blocks.len());
-    need(lengths, 1)?;
-    m.table[0] = f;
-    m.table[1] = 0;
-    m.table[2] = 1;
+    need(lengths, WRONG_FORM)?;
+    m.table[header::F] = f;
+    m.table[header::ISSUED] = 0;
+    m.table[header::ADDED] = 1;
     m.blocks[0] = 0;
     if rules.has(Mistake::OpenClearsLog) {
         m.log.fill(0);
     }
-    let fresh = Replica { min_view: 1, view_limit: COUNTER_STEPS[0], ..Replica::from_words(&[0; REPLICA_WORDS]) };
     for replica in 0..m.replicas() {
-        m.set_replica(replica, fresh);
+        m.set_replica(replica, Replica::FRESH);
     }
     Ok((m.replicas(), 0))
 }
 
 pub fn block<R: Rules>(rules: R, m: &mut Memory, parent: u32) -> Answer {
-    need(well_formed(rules, m), 1)?;
-    need(m.is_added(parent), 3)?;
+    need(well_formed(rules, m), WRONG_FORM)?;
+    need(m.is_added(parent), UNKNOWN_NUMBER)?;
     let number = m.added();
     let kept = u64::from(rules.has(Mistake::NineBlocksEarly));
-    need(u64::from(number) + kept < m.blocks.len() as u64, 9)?;
+    need(u64::from(number) + kept < m.blocks.len() as u64, NO_ROOM)?;
     m.blocks[number as usize] = parent;
     if !rules.has(Mistake::BlockCountStays) {
-        m.table[2] += 1;
+        m.table[header::ADDED] += 1;
     }
     Ok((number, 0))
 }
 
-/// The view to propose in and the block to build on, by a justification, or 5.
+/// The view to propose in and the block to build on, by a justification.
 fn justified<R: Rules>(rules: R, m: &Memory, replica: u32, j: Justification) -> Result<(u32, u32), u32> {
     match j {
         Justification::Acc(number) => {
             let acc = m.certificate(number);
             let own = acc.signer == replica || rules.has(Mistake::PrepareOtherAcc);
-            need(acc.kind == ACC && own, 5)?;
+            need(acc.kind == ACC && own, WRONG_CERTIFICATE)?;
             Ok((acc.view, acc.block))
         }
         Justification::Commits(list) => {
-            let (view, block) = m.commit_quorum(rules, list).ok_or(5u32)?;
+            let (view, block) = m.commit_quorum(rules, list).ok_or(WRONG_CERTIFICATE)?;
             Ok((view.saturating_add(1), block))
         }
     }
 }
 
 pub fn prepare<R: Rules>(rules: R, m: &mut Memory, replica: u32, block: u32, j: Justification) -> Answer {
-    need(well_formed(rules, m), 1)?;
+    need(well_formed(rules, m), WRONG_FORM)?;
     let (list_fits, issued) = match j {
         Justification::Acc(number) => (true, m.is_issued(number)),
         Justification::Commits(list) => (m.is_list_length(rules, list), m.all_issued(list)),
     };
-    need(m.is_replica(replica) && list_fits, 2)?;
-    need(issued && m.is_added(block), 3)?;
+    need(m.is_replica(replica) && list_fits, OUT_OF_RANGE)?;
+    need(issued && m.is_added(block), UNKNOWN_NUMBER)?;
     let mut r = m.replica(replica);
     let let_in = rules.has(Mistake::PrepareRecovering) && r.status == RECOVERING;
-    need(r.status == LIVE || let_in, 4)?;
+    need(r.status == LIVE || let_in, WRONG_STATUS)?;
     let (w, base) = justified(rules, m, replica, j)?;
     let any_leader = rules.has(Mistake::PrepareAnyLeader) || rules.has(Mistake::LeaderNowhere);
-    need(m.leads(replica, w) || any_leader, 5)?;
-    need(block != 0 || rules.has(Mistake::PrepareBlockZero), 6)?;
-    need(m.parent(block) == base || rules.has(Mistake::PrepareAnyParent), 6)?;
-    need(r.min_view == w || rules.has(Mistake::PrepareAboveMinView) && r.min_view < w, 7)?;
-    need(r.flag == 0 || rules.has(Mistake::PrepareIgnoresFlag), 7)?;
-    need(below_limit(w, r, rules.has(Mistake::PrepareLimitInclusive)), 8)?;
+    need(m.leads(replica, w) || any_leader, WRONG_CERTIFICATE)?;
+    need(block != 0 || rules.has(Mistake::PrepareBlockZero), WRONG_BLOCK)?;
+    need(m.parent(block) == base || rules.has(Mistake::PrepareAnyParent), WRONG_BLOCK)?;
+    need(r.min_view == w || rules.has(Mistake::PrepareAboveMinView) && r.min_view < w, WRONG_VIEW)?;
+    need(r.flag == 0 || rules.has(Mistake::PrepareIgnoresFlag), WRONG_VIEW)?;
+    need(below_limit(w, r, rules.has(Mistake::PrepareLimitInclusive)), COUNTER_LIMIT)?;
     let prop = Certificate { kind: PROP, signer: replica, view: w, block, ..Certificate::default() };
     let slot = m.slot_for(rules, prop)?;
     r.flag = 1;
@@ -91,18 +91,18 @@ fn below_limit(view: u32, r: Replica, inclusive: bool) -> bool {
 }
 
 pub fn store<R: Rules>(rules: R, m: &mut Memory, replica: u32, number: u32) -> Answer {
-    need(well_formed(rules, m), 1)?;
-    need(m.is_replica(replica), 2)?;
-    need(m.is_issued(number), 3)?;
+    need(well_formed(rules, m), WRONG_FORM)?;
+    need(m.is_replica(replica), OUT_OF_RANGE)?;
+    need(m.is_issued(number), UNKNOWN_NUMBER)?;
     let mut r = m.replica(replica);
     let let_in = rules.has(Mistake::StoreRecovering) && r.status == RECOVERING;
-    need(r.status == LIVE || let_in, 4)?;
+    need(r.status == LIVE || let_in, WRONG_STATUS)?;
     let Certificate { kind, signer, view, block, .. } = m.certificate(number);
-    need(kind == PROP, 5)?;
+    need(kind == PROP, WRONG_CERTIFICATE)?;
     let any_leader = rules.has(Mistake::StoreAnyLeader) || rules.has(Mistake::LeaderNowhere);
-    need(m.leads(signer, view) || any_leader, 5)?;
-    need(view >= r.min_view || rules.has(Mistake::StoreBelowMinView), 7)?;
-    need(below_limit(view, r, rules.has(Mistake::StoreLimitInclusive)), 8)?;
+    need(m.leads(signer, view) || any_leader, WRONG_CERTIFICATE)?;
+    need(view >= r.min_view || rules.has(Mistake::StoreBelowMinView), WRONG_VIEW)?;
+    need(below_limit(view, r, rules.has(Mistake::StoreLimitInclusive)), COUNTER_LIMIT)?;
     let commit = Certificate { kind: COMMIT, signer: replica, view, block, ..Certificate::default() };
     let slot = m.slot_for(rules, commit)?;
     if !rules.has(Mistake::StoreChangesNothing) {
@@ -116,14 +116,14 @@ pub fn store<R: Rules>(rules: R, m: &mut Memory, replica: u32, number: u32) -> A
 }
 
 pub fn view<R: Rules>(rules: R, m: &mut Memory, replica: u32, w: u32) -> Answer {
-    need(well_formed(rules, m), 1)?;
+    need(well_formed(rules, m), WRONG_FORM)?;
     let in_range = 1 <= w && (w <= CEILING || rules.has(Mistake::ViewPastCeiling));
-    need(m.is_replica(replica) && in_range, 2)?;
+    need(m.is_replica(replica) && in_range, OUT_OF_RANGE)?;
     let mut r = m.replica(replica);
     let let_in = rules.has(Mistake::ViewRecovering) && r.status == RECOVERING;
-    need(r.status == LIVE || let_in, 4)?;
-    need(w >= r.min_view || rules.has(Mistake::ViewBelowMinView), 7)?;
-    need(below_limit(w, r, rules.has(Mistake::ViewLimitInclusive)), 8)?;
+    need(r.status == LIVE || let_in, WRONG_STATUS)?;
+    need(w >= r.min_view || rules.has(Mistake::ViewBelowMinView), WRONG_VIEW)?;
+    need(below_limit(w, r, rules.has(Mistake::ViewLimitInclusive)), COUNTER_LIMIT)?;
     let newview = Certificate {
         kind: NEWVIEW,
         signer: replica,
@@ -142,10 +142,10 @@ pub fn view<R: Rules>(rules: R, m: &mut Memory, replica: u32, w: u32) -> Answer 
 }
 
 pub fn decide<R: Rules>(rules: R, m: &mut Memory, replica: u32, list: &[u32]) -> Answer {
-    need(well_formed(rules, m), 1)?;
-    need(m.is_replica(replica) && m.is_list_length(rules, list), 2)?;
-    need(m.all_issued(list), 3)?;
-    let (view, quorum_block) = m.commit_quorum(rules, list).ok_or(5u32)?;
+    need(well_formed(rules, m), WRONG_FORM)?;
+    need(m.is_replica(replica) && m.is_list_length(rules, list), OUT_OF_RANGE)?;
+    need(m.all_issued(list), UNKNOWN_NUMBER)?;
+    let (view, quorum_block) = m.commit_quorum(rules, list).ok_or(WRONG_CERTIFICATE)?;
     let block = if rules.has(Mistake::DecideBlockZero) { 0 } else { quorum_block };
     let mut r = m.replica(replica);
     let equal = rules.has(Mistake::DecideShowsEqual) && view == r.decided_view;

@@ -2,7 +2,8 @@
 
 use crate::call::*;
 use crate::certificate::Certificate;
-use crate::memory::{table_length, Memory, Replica, CERTIFICATE_WORDS};
+use crate::field::field_text;
+use crate::memory::{header, replica_count, table_length, Memory, Replica, CERTIFICATE_WORDS};
 use crate::mistake::Rules;
 
 /// A script line's numbers.
@@ -21,11 +22,8 @@ impl Line {
 
     /// The line as yard reads it, without its line feed.
     pub fn text(&self) -> String {
-        let mut text = format!("{:8}{:8}{:8}", self.code, self.replica, self.number);
-        for number in &self.list {
-            text += &format!("{number:8}");
-        }
-        text
+        let numbers = [self.code, self.replica, self.number].into_iter().chain(self.list.iter().copied());
+        numbers.map(field_text).collect()
     }
 }
 
@@ -76,23 +74,23 @@ impl<R: Rules> Driver<R> {
     /// The first value of an accepted call.
     pub fn accepted(&mut self, code: u32, replica: u32, number: u32, list: &[u32]) -> Option<u32> {
         let outcome = self.call(code, replica, number, list);
-        (outcome.answer == 0).then_some(outcome.first)
+        outcome.is_accepted().then_some(outcome.first)
     }
 
     pub fn f(&self) -> u32 {
-        self.table[0]
+        self.table[header::F]
     }
 
     pub fn n(&self) -> u32 {
-        2 * self.f() + 1
+        replica_count(self.f())
     }
 
     pub fn issued(&self) -> u32 {
-        self.table[1]
+        self.table[header::ISSUED]
     }
 
     pub fn added(&self) -> u32 {
-        self.table[2]
+        self.table[header::ADDED]
     }
 
     pub fn replica(&mut self, replica: u32) -> Replica {

@@ -3,8 +3,24 @@
 use crate::call::*;
 use crate::certificate::*;
 use crate::driver::Driver;
+use crate::field::MAX_NUMBER;
+use crate::memory::{CEILING, FIRST_LIMIT, RECOVERING};
 use crate::mistake::Rules;
 use crate::random::Random;
+
+/// Numbers around a fresh replica's limit, the next one, the ceiling and the last that a field holds.
+const EDGES: &[u32] = &[
+    0,
+    1,
+    FIRST_LIMIT - 1,
+    FIRST_LIMIT,
+    FIRST_LIMIT + 1,
+    2 * FIRST_LIMIT - 1,
+    2 * FIRST_LIMIT,
+    CEILING,
+    CEILING + 1,
+    MAX_NUMBER,
+];
 
 pub struct Explorer<R: Rules> {
     pub driver: Driver<R>,
@@ -157,8 +173,7 @@ impl<R: Rules> Explorer<R> {
     /// A recovering replica, if there is one, or else any.
     fn recovering(&mut self) -> u32 {
         let n = self.driver.n();
-        let waiting: Vec<u32> =
-            (0..n).filter(|&r| self.driver.replica(r).status == crate::memory::RECOVERING).collect();
+        let waiting: Vec<u32> = (0..n).filter(|&r| self.driver.replica(r).status == RECOVERING).collect();
         if waiting.is_empty() {
             self.any_replica()
         } else {
@@ -191,15 +206,15 @@ impl<R: Rules> Explorer<R> {
     /// Numbers at random: mostly refused, and never the same way twice.
     fn any_call(&mut self) {
         let (f, n) = (self.driver.f(), self.driver.n());
-        let code = self.random.within(1, 12);
+        let code = self.random.within(BLOCK, LAST_CODE);
         let replica = self.random.below(n + 1);
         let number = match self.random.below(4) {
             0 => self.random.below(self.driver.issued() + 2),
             1 => self.random.below(self.driver.added() + 2),
-            2 => self.random.pick(&[0, 1, 63, 64, 65, 127, 128, 1_000_000, 1_000_001, 99_999_999]),
+            2 => self.random.pick(EDGES),
             _ => self.random.below(8),
         };
-        let length = if self.random.once_in(4) { self.random.below(32) } else { f + 1 };
+        let length = if self.random.once_in(4) { self.random.below(MAX_LIST as u32 + 1) } else { f + 1 };
         let issued = self.driver.issued() + 1;
         let list: Vec<u32> = (0..length).map(|_| self.random.below(issued)).collect();
         match code {

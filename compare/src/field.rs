@@ -1,9 +1,11 @@
-//! One eight-column number: blanks, then a decimal without leading zeros.
+//! One number in its columns: blanks, then a decimal without leading zeros.
 
 use crate::mistake::{Mistake, Rules};
+use crate::refusal::{ACCEPTED, UNREADABLE};
 
 pub const COLUMNS: usize = 8;
-pub const MAX_NUMBER: u32 = 99_999_999;
+/// As many nines as there are columns.
+pub const MAX_NUMBER: u32 = 10u32.pow(COLUMNS as u32) - 1;
 /// What reading gives for bytes that are no such field.
 pub const NO_NUMBER: u32 = u32::MAX;
 
@@ -30,10 +32,10 @@ pub fn read_number<R: Rules>(rules: R, bytes: &[u8]) -> u32 {
     number
 }
 
-/// 0, or 10 with the bytes untouched where the length is not eight or the number too large.
+/// `ACCEPTED`, or `UNREADABLE` with the bytes untouched where the length is wrong or the number too large.
 pub fn write_number(number: u32, bytes: &mut [u8]) -> u32 {
     if bytes.len() != COLUMNS || number > MAX_NUMBER {
-        return 10;
+        return UNREADABLE;
     }
     bytes.fill(b' ');
     let mut rest = number;
@@ -44,5 +46,10 @@ pub fn write_number(number: u32, bytes: &mut [u8]) -> u32 {
             break;
         }
     }
-    0
+    ACCEPTED
+}
+
+/// A number in its columns; a greater one takes more of them.
+pub fn field_text(number: u32) -> String {
+    format!("{number:COLUMNS$}")
 }

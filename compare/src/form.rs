@@ -1,15 +1,16 @@
 //! The form that every call but opening tests (document 01, "Form").
 
+use crate::certificate::{certificate_word, FIRST_KIND, LAST_KIND};
 use crate::memory::*;
 use crate::mistake::{Mistake, Rules};
 
-/// A log of this many words: whole slots, at most 4,096 of them.
+/// A log of this many words: whole slots, and not too many.
 pub fn log_length_fits(words: usize) -> bool {
-    words.is_multiple_of(CERTIFICATE_WORDS) && words / CERTIFICATE_WORDS <= MAX_SLOTS
+    words.is_multiple_of(CERTIFICATE_WORDS) && words / CERTIFICATE_WORDS <= MAX_CERTIFICATES
 }
 
 pub fn blocks_length_fits(words: usize) -> bool {
-    (1..=MAX_SLOTS).contains(&words)
+    (1..=MAX_BLOCKS).contains(&words)
 }
 
 /// Lengths, f, counts, blocks, replicas and certificates are all as document 01 says.
@@ -28,9 +29,9 @@ fn lengths_fit<R: Rules>(rules: R, m: &Memory) -> bool {
         && (rules.has(Mistake::FormF) || (1..=MAX_F).contains(&m.f()))
         && (words == table_length(m.f()) || rules.has(Mistake::FormTableLonger) && words > table_length(m.f()))
         && (rules.has(Mistake::FormLogSeven) || m.log.len().is_multiple_of(CERTIFICATE_WORDS))
-        && (rules.has(Mistake::FormLogLong) || slots <= MAX_SLOTS)
+        && (rules.has(Mistake::FormLogLong) || slots <= MAX_CERTIFICATES)
         && !m.blocks.is_empty()
-        && (rules.has(Mistake::FormBlocksLong) || m.blocks.len() <= MAX_SLOTS)
+        && (rules.has(Mistake::FormBlocksLong) || m.blocks.len() <= MAX_BLOCKS)
 }
 
 fn counts_fit<R: Rules>(rules: R, m: &Memory) -> bool {
@@ -77,13 +78,16 @@ fn certificates_fit<R: Rules>(rules: R, m: &Memory) -> bool {
     m.log.chunks_exact(CERTIFICATE_WORDS).take(tested).all(|words| certificate_fits(rules, m, words))
 }
 
-/// Words: kind, signer, view, block, of-view, subject, boot.
 fn certificate_fits<R: Rules>(rules: R, m: &Memory, w: &[u32]) -> bool {
-    (rules.has(Mistake::FormKind) || (1..=6).contains(&w[0]) || rules.has(Mistake::FormKindZero) && w[0] == 0)
-        && (rules.has(Mistake::FormSigner) || w[1] < m.replicas())
-        && (rules.has(Mistake::FormView) || w[2] <= CEILING)
-        && (rules.has(Mistake::FormBlock) || w[3] < m.added())
-        && (rules.has(Mistake::FormOfView) || w[4] <= CEILING)
-        && (rules.has(Mistake::FormSubject) || w[5] < m.replicas())
-        && (rules.has(Mistake::FormCertificateBoot) || w[6] <= CEILING)
+    (rules.has(Mistake::FormKind) || kind_fits(rules, w[certificate_word::KIND]))
+        && (rules.has(Mistake::FormSigner) || w[certificate_word::SIGNER] < m.replicas())
+        && (rules.has(Mistake::FormView) || w[certificate_word::VIEW] <= CEILING)
+        && (rules.has(Mistake::FormBlock) || w[certificate_word::BLOCK] < m.added())
+        && (rules.has(Mistake::FormOfView) || w[certificate_word::OF_VIEW] <= CEILING)
+        && (rules.has(Mistake::FormSubject) || w[certificate_word::SUBJECT] < m.replicas())
+        && (rules.has(Mistake::FormCertificateBoot) || w[certificate_word::BOOT] <= CEILING)
+}
+
+fn kind_fits<R: Rules>(rules: R, kind: u32) -> bool {
+    (FIRST_KIND..=LAST_KIND).contains(&kind) || rules.has(Mistake::FormKindZero) && kind == 0
 }

@@ -19,6 +19,19 @@ impl<R: Rules> Driver<R> {
         None
     }
 
+    /// Cuts or reserves of a replica until its limit is at least `least`, or one of them leaves the limit where it was.
+    pub fn raise_limit(&mut self, code: u32, replica: u32, least: u32) {
+        let mut limit = self.replica(replica).view_limit;
+        while limit < least {
+            self.call(code, replica, 0, &[]);
+            let raised = self.replica(replica).view_limit;
+            if raised <= limit {
+                return;
+            }
+            limit = raised;
+        }
+    }
+
     /// A NEWVIEW of view w.
     pub fn enter(&mut self, replica: u32, w: u32) -> Option<u32> {
         self.reserve_past(replica, w)?;

@@ -24,5 +24,6 @@ pub mod panel;
 pub mod quorum;
 pub mod random;
 pub mod recovery;
+pub mod refusal;
 pub mod script;
 pub mod script_file;

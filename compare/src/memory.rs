@@ -1,13 +1,35 @@
-//! The three lent slices and a replica's nine words (document 01, "Memory").
+//! The three lent slices and a replica's words (document 01, "Memory").
 
 /// Views, boots and the counter never pass this.
 pub const CEILING: u32 = 1_000_000;
 pub const MAX_F: u32 = 30;
-/// Most slots of the certificate log, and of the blocks.
-pub const MAX_SLOTS: usize = 4096;
+pub const MAX_REPLICAS: u32 = replica_count(MAX_F);
+/// Most slots of the certificate log.
+pub const MAX_CERTIFICATES: usize = 4096;
+pub const MAX_BLOCKS: usize = 4096;
 pub const HEADER: usize = 3;
 pub const REPLICA_WORDS: usize = 9;
 pub const CERTIFICATE_WORDS: usize = 7;
+
+/// Where the table has its header's words.
+pub mod header {
+    pub const F: usize = 0;
+    pub const ISSUED: usize = 1;
+    pub const ADDED: usize = 2;
+}
+
+/// Where a replica has each of its words.
+pub mod replica_word {
+    pub const STATUS: usize = 0;
+    pub const BOOT: usize = 1;
+    pub const MIN_VIEW: usize = 2;
+    pub const VIEW_LIMIT: usize = 3;
+    pub const FLAG: usize = 4;
+    pub const STORED_VIEW: usize = 5;
+    pub const STORED_BLOCK: usize = 6;
+    pub const DECIDED_VIEW: usize = 7;
+    pub const DECIDED_BLOCK: usize = 8;
+}
 
 pub const LIVE: u32 = 0;
 /// Document 01: waiting.
@@ -17,20 +39,18 @@ pub const RETIRED: u32 = 2;
 
 /// Steps of the counter (document 01: meter) by boot; later boots use the last.
 pub const COUNTER_STEPS: [u32; 8] = [64, 64, 128, 128, 256, 256, 512, 1024];
+/// A fresh replica's limit.
+pub const FIRST_LIMIT: u32 = COUNTER_STEPS[0];
+/// The boot from which on the step stays.
+pub const LAST_STEP_BOOT: u32 = COUNTER_STEPS.len() as u32 - 1;
+pub const LAST_STEP: u32 = COUNTER_STEPS[LAST_STEP_BOOT as usize];
 
-/// What a call gives: two values, or the number of the refusal.
-pub type Answer = Result<(u32, u32), u32>;
-
-/// Passes if `holds`, else refuses with `number`.
-pub fn need(holds: bool, number: u32) -> Result<(), u32> {
-    if holds {
-        Ok(())
-    } else {
-        Err(number)
-    }
+/// n = 2f + 1 replicas.
+pub const fn replica_count(f: u32) -> u32 {
+    2 * f + 1
 }
 
-/// Words of a table for `f`: 3 + 9n with n = 2f + 1.
+/// Words of a table for any `f`: the header's and n = 2f + 1 replicas'.
 pub fn table_length(f: u32) -> u64 {
     HEADER as u64 + REPLICA_WORDS as u64 * (2 * u64::from(f) + 1)
 }
@@ -42,7 +62,7 @@ pub struct Memory<'a> {
     pub blocks: &'a mut [u32],
 }
 
-/// A replica's (document 01: box's) nine words.
+/// A replica's (document 01: box's) words.
 #[derive(Clone, Copy, PartialEq, Eq, Debug)]
 pub struct Replica {
     pub status: u32,
@@ -60,51 +80,63 @@ pub struct Replica {
 }
 
 impl Replica {
+    /// As an opening leaves it.
+    pub const FRESH: Replica = Replica {
+        status: LIVE,
+        boot: 0,
+        min_view: 1,
+        view_limit: FIRST_LIMIT,
+        flag: 0,
+        stored_view: 0,
+        stored_block: 0,
+        decided_view: 0,
+        decided_block: 0,
+    };
+
     pub fn from_words(w: &[u32]) -> Replica {
         Replica {
-            status: w[0],
-            boot: w[1],
-            min_view: w[2],
-            view_limit: w[3],
-            flag: w[4],
-            stored_view: w[5],
-            stored_block: w[6],
-            decided_view: w[7],
-            decided_block: w[8],
+            status: w[replica_word::STATUS],
+            boot: w[replica_word::BOOT],
+            min_view: w[replica_word::MIN_VIEW],
+            view_limit: w[replica_word::VIEW_LIMIT],
+            flag: w[replica_word::FLAG],
+            stored_view: w[replica_word::STORED_VIEW],
+            stored_block: w[replica_word::STORED_BLOCK],
+            decided_view: w[replica_word::DECIDED_VIEW],
+            decided_block: w[replica_word::DECIDED_BLOCK],
         }
     }
 
     pub fn words(&self) -> [u32; REPLICA_WORDS] {
-        [
-            self.status,
-            self.boot,
-            self.min_view,
-            self.view_limit,
-            self.flag,
-            self.stored_view,
-            self.stored_block,
-            self.decided_view,
-            self.decided_block,
-        ]
+        let mut w = [0; REPLICA_WORDS];
+        w[replica_word::STATUS] = self.status;
+        w[replica_word::BOOT] = self.boot;
+        w[replica_word::MIN_VIEW] = self.min_view;
+        w[replica_word::VIEW_LIMIT] = self.view_limit;
+        w[replica_word::FLAG] = self.flag;
+        w[replica_word::STORED_VIEW] = self.stored_view;
+        w[replica_word::STORED_BLOCK] = self.stored_block;
+        w[replica_word::DECIDED_VIEW] = self.decided_view;
+        w[replica_word::DECIDED_BLOCK] = self.decided_block;
+        w
     }
 }
 
 impl Memory<'_> {
     pub fn f(&self) -> u32 {
-        self.table[0]
+        self.table[header::F]
     }
 
-    /// n = 2f + 1 replicas.
     pub fn replicas(&self) -> u32 {
-        2 * self.f() + 1
+        replica_count(self.f())
     }
 
     pub fn issued(&self) -> u32 {
-        self.table[1]
+        self.table[header::ISSUED]
     }
 
     pub fn added(&self) -> u32 {
-        self.table[2]
+        self.table[header::ADDED]
     }
 
     pub fn is_replica(&self, replica: u32) -> bool {

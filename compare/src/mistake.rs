@@ -53,9 +53,9 @@ mistakes! {
     RebootKeepsStored "reboot-keeps-stored" "reboot leaves the stored words" "nothing reads them before recover overwrites them";
     RebootClearsDecided "reboot-clears-decided" "reboot clears the decided words" "";
     RebootOldStep "reboot-old-step" "the limit grows by the old boot's step" "safety needs no certain step";
-    RebootRetiresAtLimit "reboot-retires-at-limit" "a limit of just 1,000,000 retires" "refuses more";
-    StepsCappedEarly "steps-capped-early" "boots past 6 use the step of boot 6" "safety needs no certain step";
-    ReserveStrict "reserve-strict" "reserve up to just 1,000,000 is refused" "refuses more";
+    RebootRetiresAtLimit "reboot-retires-at-limit" "a limit of just the ceiling retires" "refuses more";
+    StepsCappedEarly "steps-capped-early" "the last step is not used: later boots use the one before" "safety needs no certain step";
+    ReserveStrict "reserve-strict" "reserve up to just the ceiling is refused" "refuses more";
     ReserveRetired "reserve-retired" "a retired replica may reserve" "a retired replica signs nothing";
     RequestLive "request-live" "a live replica may request" "recover still asks for a recovering replica";
     ReplyKeepsMinView "reply-keeps-min-view" "a reply does not raise the replier's min_view" "";
@@ -94,7 +94,7 @@ mistakes! {
     ViewClearsFlag "view-clears-flag" "view clears the flag at an equal view" "";
     ViewBelowMinView "view-below-min-view" "view may go below min_view" "";
     ViewRecovering "view-recovering" "a recovering replica may ask for a view" "";
-    ViewPastCeiling "view-past-ceiling" "view 1,000,001 and above give 8, not 2" "refused in any case";
+    ViewPastCeiling "view-past-ceiling" "a view above the ceiling is refused by the limit, not as out of range" "refused in any case";
     // Lists.
     AccumulateTakesLast "accumulate-takes-last" "accumulate takes the last message instead of the greatest of-view" "";
     AccumulateTieLast "accumulate-tie-last" "accumulate takes the last of equal of-views" "equal of-views name one block";
@@ -111,9 +111,9 @@ mistakes! {
     DecideShowsEqual "decide-shows-equal" "decide shows an equal view's block again" "one view's commits name one block";
     // Certificate log and blocks.
     RefuseAll "refuse-all" "every call but opening is refused" "refuses more";
-    NineTooEarly "nine-too-early" "9 with one slot of the log free" "refuses more";
-    NineWhereFound "nine-where-found" "9 in a full log for a certificate already issued" "refuses more";
-    NineBlocksEarly "nine-blocks-early" "9 with one slot of the blocks free" "refuses more";
+    NineTooEarly "nine-too-early" "no room with one slot of the log free" "refuses more";
+    NineWhereFound "nine-where-found" "no room in a full log for a certificate already issued" "refuses more";
+    NineBlocksEarly "nine-blocks-early" "no room with one slot of the blocks free" "refuses more";
     CountStays "count-stays" "the issued count does not grow" "no certificate can be handed in";
     BlockCountStays "block-count-stays" "the block count does not grow" "no block but 0 can be named";
     FiledAgain "filed-again" "an equal certificate is added again" "a copy says nothing new";
@@ -122,8 +122,8 @@ mistakes! {
     // stored block is added), and 1 <= min_view (the stored view is below it).
     FormTableLonger "form-table-longer" "a longer table has sound form" "no list of calls reaches it";
     FormLogSeven "form-log-seven" "a log of any length has sound form" "no list of calls reaches it";
-    FormLogLong "form-log-long" "a log of more than 4,096 slots has sound form" "no list of calls reaches it";
-    FormBlocksLong "form-blocks-long" "blocks of more than 4,096 slots have sound form" "no list of calls reaches it";
+    FormLogLong "form-log-long" "a log of too many slots has sound form" "no list of calls reaches it";
+    FormBlocksLong "form-blocks-long" "blocks of too many slots have sound form" "no list of calls reaches it";
     FormF "form-f" "f is not tested" "no list of calls reaches it";
     FormIssued "form-issued" "the issued count is not tested" "no list of calls reaches it";
     FormAdded "form-added" "the block count is not tested" "no list of calls reaches it";
@@ -155,7 +155,7 @@ mistakes! {
     TextUnused "text-unused" "unused fields are not looked at" "a matter of text";
     TextLastLine "text-last-line" "a last line without its line feed is lost" "a matter of text";
     TextHeldLost "text-held-lost" "of a line over a block's end only the last part is read" "a matter of text";
-    TextLongLineCut "text-long-line-cut" "of a line of more than 34 fields the first 34 are read" "a matter of text";
+    TextLongLineCut "text-long-line-cut" "of a line of too many fields the first are read" "a matter of text";
     TextCarriageReturn "text-carriage-return" "a carriage return before the line feed is dropped" "a matter of text";
 }
 

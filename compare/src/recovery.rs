@@ -4,15 +4,16 @@ use crate::certificate::{Certificate, REPLY, REQ};
 use crate::form::well_formed;
 use crate::memory::*;
 use crate::mistake::{Mistake, Rules};
+use crate::refusal::*;
 
 fn counter_step<R: Rules>(rules: R, boot: u32) -> u32 {
-    let last = if rules.has(Mistake::StepsCappedEarly) { 6 } else { 7 };
+    let last = LAST_STEP_BOOT - u32::from(rules.has(Mistake::StepsCappedEarly));
     COUNTER_STEPS[boot.min(last) as usize]
 }
 
 pub fn reboot<R: Rules>(rules: R, m: &mut Memory, replica: u32) -> Answer {
-    need(well_formed(rules, m), 1)?;
-    need(m.is_replica(replica), 2)?;
+    need(well_formed(rules, m), WRONG_FORM)?;
+    need(m.is_replica(replica), OUT_OF_RANGE)?;
     let mut r = m.replica(replica);
     let boot = r.boot.saturating_add(1);
     let stepped = if rules.has(Mistake::RebootOldStep) { r.boot } else { boot };
@@ -51,23 +52,23 @@ fn restarted<R: Rules>(rules: R, old: Replica, boot: u32, view_limit: u32) -> Re
 }
 
 pub fn reserve<R: Rules>(rules: R, m: &mut Memory, replica: u32) -> Answer {
-    need(well_formed(rules, m), 1)?;
-    need(m.is_replica(replica), 2)?;
+    need(well_formed(rules, m), WRONG_FORM)?;
+    need(m.is_replica(replica), OUT_OF_RANGE)?;
     let mut r = m.replica(replica);
-    need(r.status != RETIRED || rules.has(Mistake::ReserveRetired), 4)?;
+    need(r.status != RETIRED || rules.has(Mistake::ReserveRetired), WRONG_STATUS)?;
     let view_limit = r.view_limit.saturating_add(counter_step(rules, r.boot));
-    need(view_limit <= CEILING - u32::from(rules.has(Mistake::ReserveStrict)), 8)?;
+    need(view_limit <= CEILING - u32::from(rules.has(Mistake::ReserveStrict)), COUNTER_LIMIT)?;
     r.view_limit = view_limit;
     m.set_replica(replica, r);
     Ok((view_limit, 0))
 }
 
 pub fn request<R: Rules>(rules: R, m: &mut Memory, replica: u32) -> Answer {
-    need(well_formed(rules, m), 1)?;
-    need(m.is_replica(replica), 2)?;
+    need(well_formed(rules, m), WRONG_FORM)?;
+    need(m.is_replica(replica), OUT_OF_RANGE)?;
     let r = m.replica(replica);
     let let_in = rules.has(Mistake::RequestLive) && r.status == LIVE;
-    need(r.status == RECOVERING || let_in, 4)?;
+    need(r.status == RECOVERING || let_in, WRONG_STATUS)?;
     let req = Certificate {
         kind: REQ,
         signer: replica,
@@ -81,17 +82,17 @@ pub fn request<R: Rules>(rules: R, m: &mut Memory, replica: u32) -> Answer {
 }
 
 pub fn reply<R: Rules>(rules: R, m: &mut Memory, replica: u32, number: u32) -> Answer {
-    need(well_formed(rules, m), 1)?;
-    need(m.is_replica(replica), 2)?;
-    need(m.is_issued(number), 3)?;
+    need(well_formed(rules, m), WRONG_FORM)?;
+    need(m.is_replica(replica), OUT_OF_RANGE)?;
+    need(m.is_issued(number), UNKNOWN_NUMBER)?;
     let r = m.replica(replica);
     let let_in = rules.has(Mistake::ReplyRecovering) && r.status == RECOVERING;
-    need(r.status == LIVE || let_in, 4)?;
+    need(r.status == LIVE || let_in, WRONG_STATUS)?;
     let req = m.certificate(number);
-    need(req.kind == REQ, 5)?;
-    need(req.signer != replica || rules.has(Mistake::ReplySelf), 5)?;
+    need(req.kind == REQ, WRONG_CERTIFICATE)?;
+    need(req.signer != replica || rules.has(Mistake::ReplySelf), WRONG_CERTIFICATE)?;
     let equal = !rules.has(Mistake::ReplyLimitStrict) && req.view == r.view_limit;
-    need(req.view < r.view_limit || equal || rules.has(Mistake::ReplyNoLimit), 8)?;
+    need(req.view < r.view_limit || equal || rules.has(Mistake::ReplyNoLimit), COUNTER_LIMIT)?;
     let reply = Certificate {
         kind: REPLY,
         signer: replica,
@@ -132,18 +133,18 @@ fn takes<R: Rules>(rules: R, replica: u32, r: Replica, c: Certificate) -> bool {
 }
 
 pub fn recover<R: Rules>(rules: R, m: &mut Memory, replica: u32, list: &[u32]) -> Answer {
-    need(well_formed(rules, m), 1)?;
-    need(m.is_replica(replica) && m.is_list_length(rules, list), 2)?;
-    need(m.all_issued(list), 3)?;
+    need(well_formed(rules, m), WRONG_FORM)?;
+    need(m.is_replica(replica) && m.is_list_length(rules, list), OUT_OF_RANGE)?;
+    need(m.all_issued(list), UNKNOWN_NUMBER)?;
     let mut r = m.replica(replica);
-    need(r.status == RECOVERING, 4)?;
+    need(r.status == RECOVERING, WRONG_STATUS)?;
     let different = rules.has(Mistake::RecoverSignerTwice) || m.different_signers(list);
-    need(m.all(list, |c| takes(rules, replica, r, c)) && different, 5)?;
+    need(m.all(list, |c| takes(rules, replica, r, c)) && different, WRONG_CERTIFICATE)?;
     let heeded = if rules.has(Mistake::RecoverFirstReply) { &list[..1] } else { list };
     let latest = m.greatest(heeded, rules.has(Mistake::RecoverTieLast));
     let raised = latest.of_view.saturating_add(1);
     let min_view = if rules.has(Mistake::RecoverNoRaise) { r.min_view } else { r.min_view.max(raised) };
-    need(min_view <= r.view_limit || rules.has(Mistake::RecoverNoLimit), 8)?;
+    need(min_view <= r.view_limit || rules.has(Mistake::RecoverNoLimit), COUNTER_LIMIT)?;
     r.stored_view = latest.of_view;
     r.stored_block = latest.block;
     r.min_view = min_view;

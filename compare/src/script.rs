@@ -1,16 +1,24 @@
-//! The script program: lines of eight-column fields in, line number, answer and both values out.
+//! The script program: lines of fields in, line number, answer and both values out.
 
-use crate::call::{call, is_call, Outcome, OPEN};
+use crate::call::{call, is_call, Outcome, MAX_LIST, OPEN};
 use crate::field::{read_number, write_number, COLUMNS, MAX_NUMBER, NO_NUMBER};
 use crate::memory::{table_length, Memory, CERTIFICATE_WORDS, MAX_F};
 use crate::mistake::{Mistake, Rules};
+use crate::refusal::UNREADABLE;
 
 pub const CERTIFICATE_SLOTS: usize = 2048;
 pub const BLOCK_SLOTS: usize = 1024;
-pub const MAX_FIELDS: usize = 34;
+/// Call code, replica and number; a list may follow.
+pub const MIN_FIELDS: usize = 3;
+pub const MAX_FIELDS: usize = MIN_FIELDS + MAX_LIST;
+/// Bytes of the longest line that can be read, without its line feed.
+pub const MAX_LINE_BYTES: usize = MAX_FIELDS * COLUMNS;
+/// The last line that is answered: a field can hold no greater number.
+pub const MAX_LINES: u32 = MAX_NUMBER;
+/// Line number, answer and both values, and the line feed.
+pub const ANSWER_BYTES: usize = 4 * COLUMNS + 1;
 /// The bytes that yard asks for at once.
 pub const INPUT_CHUNK: usize = 8192;
-const MAX_BYTES: usize = MAX_FIELDS * COLUMNS;
 
 /// The ledger, the line so far and the number of lines answered. Bytes may come in chunks of any size.
 pub struct Program<R: Rules> {
@@ -33,14 +41,14 @@ impl<R: Rules> Program<R> {
             log: vec![0; CERTIFICATE_SLOTS * CERTIFICATE_WORDS],
             blocks: vec![0; BLOCK_SLOTS],
             f: 0,
-            line: Vec::with_capacity(MAX_BYTES + 1),
+            line: Vec::with_capacity(MAX_LINE_BYTES + 1),
             lines: 0,
         }
     }
 
-    /// Reading stops after line 99,999,999.
+    /// Reading stops after the last line.
     pub fn is_done(&self) -> bool {
-        self.lines == MAX_NUMBER
+        self.lines == MAX_LINES
     }
 
     /// Counts lines as answered already, so that a test can come near the last one.
@@ -52,7 +60,7 @@ impl<R: Rules> Program<R> {
         if self.rules.has(Mistake::TextHeldLost) {
             self.line.clear();
         }
-        let most = MAX_BYTES + usize::from(!self.rules.has(Mistake::TextLongLineCut));
+        let most = MAX_LINE_BYTES + usize::from(!self.rules.has(Mistake::TextLongLineCut));
         for piece in input.split_inclusive(|&byte| byte == b'\n') {
             if self.is_done() {
                 return;
@@ -83,7 +91,7 @@ impl<R: Rules> Program<R> {
         let mut fields = [0; MAX_FIELDS];
         let outcome = match read_fields(self.rules, &self.line, &mut fields) {
             Some(count) => self.answer(&fields[..count]),
-            None => Outcome::from(Err(10)),
+            None => Outcome::from(Err(UNREADABLE)),
         };
         self.line.clear();
         self.lines += 1;
@@ -92,26 +100,26 @@ impl<R: Rules> Program<R> {
 
     /// Lends a table of the length for the f being opened, or else of the one last opened.
     fn answer(&mut self, fields: &[u32]) -> Outcome {
-        let (code, replica, number, list) = (fields[0], fields[1], fields[2], &fields[3..]);
+        let (code, replica, number, list) = (fields[0], fields[1], fields[2], &fields[MIN_FIELDS..]);
         if !is_call(self.rules, code, replica, number, list) {
-            return Outcome::from(Err(10));
+            return Outcome::from(Err(UNREADABLE));
         }
         let opening = code == OPEN && (1..=MAX_F).contains(&replica);
         let f = if opening { replica } else { self.f };
         let lent = if f == 0 { 0 } else { table_length(f) as usize };
         let mut memory = Memory { table: &mut self.table[..lent], log: &mut self.log, blocks: &mut self.blocks };
         let outcome = call(self.rules, &mut memory, code, replica, number, list);
-        if opening && outcome.answer == 0 {
+        if opening && outcome.is_accepted() {
             self.f = f;
         }
         outcome
     }
 }
 
-/// The line's numbers: 3 to 34 fields of eight columns, or none if it is no such line.
+/// The line's numbers, or none if it is no line of fields.
 fn read_fields<R: Rules>(rules: R, line: &[u8], fields: &mut [u32; MAX_FIELDS]) -> Option<usize> {
     let count = line.len() / COLUMNS;
-    if !line.len().is_multiple_of(COLUMNS) || !(3..=MAX_FIELDS).contains(&count) {
+    if !line.len().is_multiple_of(COLUMNS) || !(MIN_FIELDS..=MAX_FIELDS).contains(&count) {
         return None;
     }
     for (field, bytes) in fields.iter_mut().zip(line.chunks_exact(COLUMNS)) {
@@ -123,7 +131,7 @@ fn read_fields<R: Rules>(rules: R, line: &[u8], fields: &mut [u32; MAX_FIELDS]) 
     Some(count)
 }
 
-/// Line number, answer and both values in eight columns each.
+/// Line number, answer and both values in their columns.
 pub fn write_line(line: u32, outcome: Outcome, out: &mut Vec<u8>) {
     for number in [line, outcome.answer, outcome.first, outcome.second] {
         let mut bytes = [b' '; COLUMNS];

@@ -1,7 +1,8 @@
-//! The cases that document 01 marks P, and the one it marks "run only".
+//! The cases that document 01 marks P, the one it marks "run only", and the lengths it allows. Codes, numbers and
+//! answers are literal, as the document has them: derived from the library's constants they would hold for any others.
 
 use judge::call::{call, Outcome};
-use judge::memory::{table_length, Memory, HEADER};
+use judge::memory::{replica_word, table_length, Memory, CERTIFICATE_WORDS, HEADER, MAX_F};
 use judge::mistake::Correct;
 
 struct Yard {
@@ -13,7 +14,7 @@ struct Yard {
 impl Yard {
     fn with_slots(f: u32, certificates: usize, blocks: usize) -> Yard {
         let table = vec![9; table_length(f) as usize];
-        let mut yard = Yard { table, log: vec![9; 7 * certificates], blocks: vec![9; blocks] };
+        let mut yard = Yard { table, log: vec![9; CERTIFICATE_WORDS * certificates], blocks: vec![9; blocks] };
         assert_eq!(yard.call(0, f, 0, &[]), (0, 2 * f + 1, 0));
         yard
     }
@@ -60,7 +61,7 @@ fn the_script_and_its_continuation() {
 #[test]
 fn f_from_1_to_30() {
     for (f, answer) in [(0, 2), (1, 0), (30, 0), (31, 2), (99_999_999, 2), (u32::MAX, 2)] {
-        let mut yard = Yard { table: vec![7; table_length(f.clamp(1, 30)) as usize], log: vec![], blocks: vec![5] };
+        let mut yard = Yard { table: vec![7; table_length(f.clamp(1, MAX_F)) as usize], log: vec![], blocks: vec![5] };
         let given = yard.call(0, f, 0, &[]);
         assert_eq!(given.0, answer);
         assert_eq!(yard.blocks[0], if answer == 0 { 0 } else { 5 });
@@ -72,6 +73,15 @@ fn opening_tests_f_before_lengths() {
     let mut yard = Yard { table: vec![1; 5], log: vec![1; 5], blocks: vec![] };
     assert_eq!(yard.call(0, 31, 0, &[]), (2, 0, 0));
     assert_eq!(yard.call(0, 1, 0, &[]), (1, 0, 0));
+}
+
+#[test]
+fn lengths() {
+    let lent = [(0, 1, 0), (7 * 4096, 4096, 0), (7 * 4097, 1, 1), (6, 1, 1), (0, 0, 1), (0, 4097, 1)];
+    for (log, blocks, answer) in lent {
+        let mut yard = Yard { table: vec![7; 3 + 9 * 3], log: vec![7; log], blocks: vec![7; blocks] };
+        assert_eq!(yard.call(0, 1, 0, &[]).0, answer, "{log} words of log, {blocks} blocks");
+    }
 }
 
 #[test]
@@ -123,12 +133,12 @@ fn a_full_log_answers_a_repeated_view() {
 #[test]
 fn the_counter_ends_at_a_million() {
     let mut yard = Yard::new(1);
-    yard.table[HEADER + 3] = 999_936;
+    yard.table[HEADER + replica_word::VIEW_LIMIT] = 999_936;
     assert_eq!(yard.call(9, 0, 0, &[]), (0, 1_000_000, 0));
     assert_eq!(yard.call(9, 0, 0, &[]), (8, 0, 0));
     let before = yard.table.clone();
     assert_eq!(yard.call(8, 0, 0, &[]), (0, 0, 1));
-    assert_eq!(yard.table[HEADER], 2);
+    assert_eq!(yard.table[HEADER + replica_word::STATUS], 2);
     assert_eq!(yard.table[..HEADER], before[..HEADER]);
     assert_eq!(yard.table[HEADER + 1..], before[HEADER + 1..]);
     assert_eq!(yard.call(9, 0, 0, &[]), (4, 0, 0));

@@ -1,10 +1,10 @@
 //! The program `second` on pipes: prompt answers, bytes in any pieces, closed input and output. The program `text`.
 
 use judge::benchmark::inputs::text_only;
-use judge::comparison::programs::{output, pieces, Arrival};
+use judge::comparison::programs::{output, pieces, Arrival, MAX_PIECE};
 use judge::generate::scripts::script;
 use judge::mistake::Correct;
-use judge::script::run;
+use judge::script::{run, ANSWER_BYTES};
 use std::io::{BufRead, BufReader, Write};
 use std::process::{Child, Command, Stdio};
 
@@ -68,7 +68,7 @@ fn pieces_are_the_input() {
     for seed in 0..8 {
         let pieces = pieces(&text, seed);
         assert!(pieces.concat() == text);
-        assert!(pieces.iter().all(|piece| (1..=4096).contains(&piece.len())));
+        assert!(pieces.iter().all(|piece| (1..=MAX_PIECE as usize).contains(&piece.len())));
     }
 }
 
@@ -76,7 +76,7 @@ fn pieces_are_the_input() {
 fn the_transcription_on_text_alone() {
     let script = text_only(1, 3000);
     let expected = run(Correct, &script);
-    assert_eq!(expected.len(), 33 * 3000);
+    assert_eq!(expected.len(), ANSWER_BYTES * 3000);
     for arrival in [Arrival::File, Arrival::Pieces(1), Arrival::Pieces(2)] {
         assert!(output(env!("CARGO_BIN_EXE_text"), &script, arrival).unwrap() == expected, "{arrival:?}");
     }

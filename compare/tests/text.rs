@@ -1,24 +1,25 @@
 //! The script program's text: fields, unreadable lines, blocks of any size, the last line.
 
-use judge::field::{read_number, write_number, NO_NUMBER};
+use judge::field::{field_text, read_number, write_number, COLUMNS, MAX_NUMBER, NO_NUMBER};
+use judge::memory::MAX_F;
 use judge::mistake::Correct;
-use judge::script::{run, Program};
+use judge::script::{run, Program, MAX_FIELDS, MAX_LINES};
 
 fn line(fields: &[u32]) -> String {
-    fields.iter().map(|field| format!("{field:8}")).collect::<String>() + "\n"
+    fields.iter().copied().map(field_text).collect::<String>() + "\n"
 }
 
 /// The answers of a script, without their line numbers.
 fn answers(script: &str) -> Vec<u32> {
     let out = String::from_utf8(run(Correct, script.as_bytes())).unwrap();
-    out.lines().map(|line| line[8..16].trim().parse().unwrap()).collect()
+    out.lines().map(|line| line[COLUMNS..2 * COLUMNS].trim().parse().unwrap()).collect()
 }
 
 #[test]
 fn fields() {
     for (text, number) in [("       0", 0), ("      10", 10), ("99999999", 99_999_999), ("       7", 7)] {
         assert_eq!(read_number(Correct, text.as_bytes()), number);
-        let mut bytes = [b'x'; 8];
+        let mut bytes = [b'x'; COLUMNS];
         assert_eq!(write_number(number, &mut bytes), 0);
         assert_eq!(bytes, text.as_bytes());
     }
@@ -26,10 +27,10 @@ fn fields() {
         assert_eq!(read_number(Correct, text.as_bytes()), NO_NUMBER, "{text:?}");
     }
     assert_eq!(read_number(Correct, b"        1"), NO_NUMBER);
-    let mut bytes = [b'x'; 8];
-    assert_eq!(write_number(100_000_000, &mut bytes), 10);
-    assert_eq!(write_number(1, &mut bytes[..7]), 10);
-    assert_eq!(bytes, [b'x'; 8]);
+    let mut bytes = [b'x'; COLUMNS];
+    assert_eq!(write_number(MAX_NUMBER + 1, &mut bytes), 10);
+    assert_eq!(write_number(1, &mut bytes[1..]), 10);
+    assert_eq!(bytes, [b'x'; COLUMNS]);
 }
 
 #[test]
@@ -45,19 +46,19 @@ fn unreadable_lines() {
         line(&[2, 1, 1, 0, 0]),
         line(&[4, 0, 0, 0]),
         line(&[6, 0, 1, 0, 0]),
-        line(&[7; 35]),
+        line(&[7; MAX_FIELDS + 1]),
         "       5       0       1\r\n".to_string(),
         format!(" {}", line(&[5, 0, 1])),
     ] {
         assert_eq!(answers(&format!("{bad}{open}{bad}")), [10, 0, 10], "{bad:?}");
     }
-    assert_eq!(answers(&(open + &line(&[7, 0, 0]) + &line(&[12; 34]))), [0, 2, 10]);
+    assert_eq!(answers(&(open + &line(&[7, 0, 0]) + &line(&[12; MAX_FIELDS]))), [0, 2, 10]);
 }
 
 #[test]
 fn before_the_first_opening() {
-    assert_eq!(answers(&(line(&[5, 0, 1]) + &line(&[0, 31, 0]) + &line(&[8, 99, 0]))), [1, 2, 1]);
-    let refused = line(&[0, 2, 0]) + &line(&[5, 4, 1]) + &line(&[0, 99_999_999, 0]) + &line(&[5, 4, 1]);
+    assert_eq!(answers(&(line(&[5, 0, 1]) + &line(&[0, MAX_F + 1, 0]) + &line(&[8, 99, 0]))), [1, 2, 1]);
+    let refused = line(&[0, 2, 0]) + &line(&[5, 4, 1]) + &line(&[0, MAX_NUMBER, 0]) + &line(&[5, 4, 1]);
     assert_eq!(answers(&refused), [0, 0, 2, 0]);
 }
 
@@ -67,6 +68,13 @@ fn line_feeds() {
     assert_eq!(run(Correct, b"\n"), b"       1      10       0       0\n");
     assert_eq!(run(Correct, b"       0       1       0"), b"       1       0       3       0\n");
     assert_eq!(answers(&("x".repeat(100_000) + "\n" + &line(&[0, 1, 0]))), [10, 0]);
+}
+
+#[test]
+fn room_for_1024_blocks() {
+    let given = answers(&(line(&[0, 1, 0]) + &line(&[1, 0, 0]).repeat(1024)));
+    assert_eq!(given.iter().position(|&answer| answer != 0), Some(1024));
+    assert_eq!(given[1024], 9);
 }
 
 #[test]
@@ -85,7 +93,7 @@ fn blocks_of_any_size() {
 #[test]
 fn the_last_line_number() {
     let mut program = Program::new(Correct);
-    program.skip_lines(99_999_998);
+    program.skip_lines(MAX_LINES - 1);
     let mut out = Vec::new();
     program.feed(b"\n\n\nx", &mut out);
     program.finish(&mut out);

@@ -1,24 +1,25 @@
 //! The form test of a full memory beside a bare sum of the same words, in one process.
 
 use super::timing::best_own;
-use crate::call::BLOCK;
+use crate::call::{BLOCK, OPEN};
 use crate::comparison::checkers::{Checker, Library};
 use crate::driver::{Driver, Line};
 use crate::generate::memory::Sample;
+use crate::memory::{MAX_F, MAX_REPLICAS};
 use crate::mistake::Correct;
 use crate::script::{BLOCK_SLOTS, CERTIFICATE_SLOTS};
 use std::hint::black_box;
 
-/// f = 30, 2,048 certificates, 1,024 blocks, all of sound form.
+/// The greatest f, a full log and all blocks, of sound form.
 fn full_memory() -> Sample {
-    let mut driver = Driver::open(Correct, 30, CERTIFICATE_SLOTS, BLOCK_SLOTS);
+    let mut driver = Driver::open(Correct, MAX_F, CERTIFICATE_SLOTS, BLOCK_SLOTS);
     for block in 0..BLOCK_SLOTS as u32 - 1 {
         driver.call(BLOCK, 0, block, &[]);
     }
     for number in 0..CERTIFICATE_SLOTS as u32 {
-        driver.enter(number % 61, number / 61 + 1);
+        driver.enter(number % MAX_REPLICAS, number / MAX_REPLICAS + 1);
     }
-    Sample { table: driver.table, log: driver.log, blocks: driver.blocks, line: Line::new(0, 0, 0, &[]) }
+    Sample { table: driver.table, log: driver.log, blocks: driver.blocks, line: Line::new(OPEN, 0, 0, &[]) }
 }
 
 fn sum(sample: &Sample) -> u32 {

@@ -2,30 +2,34 @@
 
 use crate::call::*;
 use crate::driver::{script_text, Driver, Line};
+use crate::field::field_text;
 use crate::generate::damage::damage;
 use crate::generate::progress::progress;
-use crate::generate::scripts::{script, Script};
+use crate::generate::scripts::script;
+use crate::memory::{CEILING, MAX_F, MAX_REPLICAS};
 use crate::mistake::Correct;
 use crate::random::Random;
 use crate::script::{BLOCK_SLOTS, CERTIFICATE_SLOTS};
 
 /// Name and text of each row's script, of some `lines` lines.
-pub fn rows(seed: u64, lines: usize) -> Vec<(&'static str, Vec<u8>)> {
-    vec![("mixed", mixed(seed, lines)), ("full log", full_log(lines)), ("f = 30", repeated_progress(seed, 30, lines))]
+pub fn rows(seed: u64, lines: usize) -> Vec<(String, Vec<u8>)> {
+    vec![
+        ("mixed".to_string(), mixed(seed, lines)),
+        ("full log".to_string(), full_log(lines)),
+        (format!("f = {MAX_F}"), repeated_progress(seed, MAX_F, lines)),
+    ]
 }
 
-/// Scripts of all sorts, one after the other, but for those that are mostly long unreadable lines.
+/// Scripts of all sorts, one after the other.
 fn mixed(seed: u64, lines: usize) -> Vec<u8> {
     let mut text = Vec::new();
     let (mut next, mut count) = (seed, 0);
     while count < lines {
-        let Script { sort, text: mut part } = script(next);
+        let mut part = script(next).text;
         next += 1;
-        if sort != "block ends" {
-            part.push(b'\n');
-            count += part.iter().filter(|&&byte| byte == b'\n').count();
-            text.extend(part);
-        }
+        part.push(b'\n');
+        count += part.iter().filter(|&&byte| byte == b'\n').count();
+        text.extend(part);
     }
     text
 }
@@ -53,7 +57,7 @@ fn filled(f: u32, certificates: usize) -> (Driver<Correct>, Line) {
     }
     let last = (certificates as u32).saturating_sub(1);
     // With no certificate to find, a view that is refused after the form test.
-    let view = if certificates == 0 { 1_000_000 } else { last / n + 1 };
+    let view = if certificates == 0 { CEILING } else { last / n + 1 };
     (driver, Line::new(VIEW, last % n, view, &[]))
 }
 
@@ -73,17 +77,20 @@ pub fn growth(f: u32, certificates: usize, calls: usize) -> (Vec<u8>, Vec<u8>) {
     (without, script_text(&lines))
 }
 
-/// Two scripts of the same lines on f = 30 and full memory: some calls before the opening, where they meet no memory,
+/// Two scripts of the same lines on the greatest f and full memory: some calls before the opening, where they meet no memory,
 /// and after the last certificate, where the form test passes and their replica is out of range.
 pub fn form_test(calls: usize) -> (Vec<u8>, Vec<u8>) {
-    let (driver, _) = filled(30, CERTIFICATE_SLOTS);
+    let (driver, _) = filled(MAX_F, CERTIFICATE_SLOTS);
     let filling = script_text(&driver.lines());
-    let calls = script_text(&vec![Line::new(VIEW, 99, 1, &[]); calls]);
+    let calls = script_text(&vec![Line::new(VIEW, MAX_REPLICAS, 1, &[]); calls]);
     ([&calls[..], &filling].concat(), [&filling[..], &calls].concat())
 }
 
+/// Bytes of a very long line.
+pub const LONG_LINE: usize = 70_000;
+
 /// Just so many lines, all of them text work: calls before any opening and, as often, lines with damage. The last two
-/// have 70,000 bytes.
+/// are very long.
 pub fn text_only(seed: u64, lines: usize) -> Vec<u8> {
     let mut random = Random::new(seed);
     let mut text = Vec::new();
@@ -92,20 +99,20 @@ pub fn text_only(seed: u64, lines: usize) -> Vec<u8> {
         let line = text_line(&mut random);
         // No line may open a ledger. Damage can make two lines of one, none, or a very long one.
         let is_one = line.iter().position(|&byte| byte == b'\n').map(|place| place + 1) == Some(line.len());
-        if is_one && line.len() < 1000 && !line.starts_with(b"       0") {
+        if is_one && line.len() < 1000 && !line.starts_with(field_text(OPEN).as_bytes()) {
             text.extend(line);
             count += 1;
         }
     }
-    let long = [vec![b'x'; 70_000], vec![b'\n']].concat();
+    let long = [vec![b'x'; LONG_LINE], vec![b'\n']].concat();
     text.extend([long.clone(), long].concat());
     text
 }
 
 /// A call, damaged half the time.
 fn text_line(random: &mut Random) -> Vec<u8> {
-    let list: Vec<u32> = (0..random.below(8)).map(|_| random.below(2048)).collect();
-    let line = Line::new(random.pick(&[ACCUMULATE, DECIDE, RECOVER]), random.below(61), 0, &list);
+    let list: Vec<u32> = (0..random.below(8)).map(|_| random.below(CERTIFICATE_SLOTS as u32)).collect();
+    let line = Line::new(random.pick(&[ACCUMULATE, DECIDE, RECOVER]), random.below(MAX_REPLICAS), 0, &list);
     let mut text = script_text(&[line]);
     if random.once_in(2) {
         damage(random, &mut text);

@@ -6,6 +6,8 @@ use super::timing::best;
 use super::{form_test, inputs};
 use crate::comparison::checkers::Checker;
 use crate::comparison::programs::{output, Arrival};
+use crate::memory::MAX_F;
+use crate::script::{ANSWER_BYTES, CERTIFICATE_SLOTS};
 use crate::script_file::ScriptFile;
 
 /// What is run and how often.
@@ -29,7 +31,7 @@ impl Bench<'_> {
             "| Script | Lines | Bytes a line | yard, ms | second, ms | Ratio (goal 0.70) |\n|---|---|---|---|---|---|\n"
                 .to_string();
         for (name, script) in inputs::rows(self.seed, self.lines) {
-            let row = self.row(name, &script, &[self.yard, self.second])?;
+            let row = self.row(&name, &script, &[self.yard, self.second])?;
             ratios += &format!("{} {} |\n", row.head, columns(&row.times));
         }
         let script = inputs::text_only(self.seed, self.text_lines);
@@ -49,7 +51,7 @@ impl Bench<'_> {
                 return Err(format!("{program} and {} differ on {name}", programs[0]));
             }
         }
-        let lines = expected.len() / 33;
+        let lines = expected.len() / ANSWER_BYTES;
         let head = format!("| {name} | {} | {:.1} |", thousands(lines), script.len() as f64 / lines as f64);
         Ok(Row { head, times: self.times(programs, script)? })
     }
@@ -66,13 +68,13 @@ impl Bench<'_> {
         Ok([0, 1].map(|place| (more[place] - less[place]) * 1e6 / self.calls as f64))
     }
 
-    /// A repeated call on f = 30, 1,024 blocks and more and more certificates: a table, and the points.
+    /// A repeated call on the greatest f, all blocks and more and more certificates: a table, and the points.
     pub fn growth(&self) -> Result<(String, Vec<Series>), String> {
         let mut table =
             "| Certificates | yard, microseconds a call | second | Ratio |\n|---|---|---|---|\n".to_string();
         let mut series = ["yard", "second"].map(|name| Series { name: name.to_string(), points: Vec::new() });
-        for certificates in (0..=2048).step_by(256) {
-            let times = self.each_call(&inputs::growth(30, certificates, self.calls))?;
+        for certificates in (0..=CERTIFICATE_SLOTS).step_by(CERTIFICATE_SLOTS / 8) {
+            let times = self.each_call(&inputs::growth(MAX_F, certificates, self.calls))?;
             for (one, time) in series.iter_mut().zip(times) {
                 one.points.push((certificates as f64, time));
             }

@@ -4,11 +4,14 @@
 //!       [--runs N] [--lines N] [--text-lines N] [--calls N] [--seed N]
 //! Run in compare/. Without paths: ../target/bin/yard, the programs beside this one, ../docs/benchmark.svg, and no page.
 
+use judge::benchmark::inputs::LONG_LINE;
 use judge::benchmark::machine;
 use judge::benchmark::plot::svg;
 use judge::benchmark::tables::{fit, thousands, Bench};
 use judge::comparison::checkers::Checker;
+use judge::memory::{MAX_F, MAX_REPLICAS};
 use judge::options::Options;
+use judge::script::{BLOCK_SLOTS, CERTIFICATE_SLOTS};
 use std::process::ExitCode;
 
 fn main() -> ExitCode {
@@ -46,6 +49,11 @@ fn work(options: &Options) -> Result<(), String> {
         ("form", bench.form(firmware())?),
         ("runs", bench.runs.to_string()),
         ("calls", thousands(bench.calls)),
+        ("f", MAX_F.to_string()),
+        ("replicas", MAX_REPLICAS.to_string()),
+        ("certificates", thousands(CERTIFICATE_SLOTS)),
+        ("blocks", thousands(BLOCK_SLOTS)),
+        ("long", thousands(LONG_LINE)),
     ];
     parts[..6].iter().for_each(|(_, part)| println!("{}\n", part.trim_end()));
     write(options.text("svg").unwrap_or("../docs/benchmark.svg"), &svg(&series))?;

@@ -12,10 +12,11 @@ use judge::comparison::programs::{first_difference, output, Arrival};
 use judge::comparison::samples::{call_difference, difference, panel_difference};
 use judge::comparison::shrink::{sample_text, shrink_sample, shrink_script};
 use judge::comparison::{coverage, mistakes};
+use judge::field::COLUMNS;
 use judge::generate::scripts::script;
 use judge::mistake::{Correct, Mistake};
 use judge::options::Options;
-use judge::script::run;
+use judge::script::{run, ANSWER_BYTES, MAX_LINE_BYTES};
 use std::io::Write;
 use std::process::ExitCode;
 use std::time::{Duration, Instant};
@@ -87,7 +88,7 @@ fn checker() -> Box<dyn Checker> {
 fn compare_scripts(one: Run, other: Run, seed: u64, time: Duration) -> Result<(), String> {
     let start = Instant::now();
     let (mut scripts, mut lines) = (0, 0);
-    while start.elapsed() < time {
+    while scripts == 0 || start.elapsed() < time {
         let (script, arrival) = (script(seed + scripts), Arrival::of(seed + scripts));
         let at = |error: String| format!("seed {}: {error}", seed + scripts);
         let (left, right) = (one(&script.text, arrival).map_err(at)?, other(&script.text, arrival).map_err(at)?);
@@ -97,7 +98,7 @@ fn compare_scripts(one: Run, other: Run, seed: u64, time: Duration) -> Result<()
             return Err("scripts differ".to_string());
         }
         scripts += 1;
-        lines += left.len() / 33;
+        lines += left.len() / ANSWER_BYTES;
     }
     println!("{scripts} scripts, {lines} lines, no difference (seeds {seed} to {})", seed + scripts - 1);
     Ok(())
@@ -127,7 +128,7 @@ fn is_feed(byte: &u8) -> bool {
 
 /// A line for a person to read: odd bytes by their escapes, the middle of a long line left out, a missing line feed told.
 fn shown(line: &[u8], tell_missing: bool) -> String {
-    const MOST: usize = 280;
+    const MOST: usize = MAX_LINE_BYTES + COLUMNS;
     let columns = line.strip_suffix(b"\n").unwrap_or(line);
     let text = match columns.len() {
         0..=MOST => columns.escape_ascii().to_string(),
@@ -141,7 +142,7 @@ fn compare_memories(checker: &dyn Checker, seed: u64, time: Duration) -> Result<
     let start = Instant::now();
     let library = Library(Correct);
     let mut count = 0;
-    while count % 256 != 0 || start.elapsed() < time {
+    while count == 0 || count % 256 != 0 || start.elapsed() < time {
         if let Some((told, sample)) = difference(checker, &library, seed + count) {
             println!("seed {}: {told}", seed + count);
             if let Some(sample) = sample {
@@ -164,6 +165,9 @@ fn compare_scenarios(directory: &str, programs: &[&str]) -> Result<(), String> {
     let mut paths: Vec<_> = listing.filter_map(|entry| Some(entry.ok()?.path())).collect();
     paths.retain(|path| path.extension().is_some_and(|extension| extension == "txt"));
     paths.sort();
+    if paths.is_empty() {
+        return Err(format!("{directory}: no scenarios"));
+    }
     for path in &paths {
         let read = |path: &std::path::Path| std::fs::read(path).map_err(|error| format!("{}: {error}", path.display()));
         let (input, expected) = (read(path)?, read(&path.with_extension("out"))?);

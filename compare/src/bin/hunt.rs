@@ -3,6 +3,7 @@
 //! hunt [--mistake NAME | --none | --all] [--seconds N] [--seed N] [--quiet]
 //! Without a choice: every mistake that demand 3 can see, then no mistake at all.
 
+use judge::field::field_text;
 use judge::hunt::search::{search, Found, Progress};
 use judge::mistake::Mistake;
 use judge::options::Options;
@@ -90,7 +91,8 @@ fn tell_found(name: &str, found: &Found, progress: &Progress, quiet: bool) {
         return;
     }
     for (line, outcome) in &found.trace {
-        println!("{:<56} -> {:8}{:8}{:8}", line.text(), outcome.answer, outcome.first, outcome.second);
+        let answer: String = [outcome.answer, outcome.first, outcome.second].map(field_text).concat();
+        println!("{:<56} -> {answer}", line.text());
     }
 }
 

@@ -4,21 +4,16 @@
 //! It is for timing only and judges nothing. It opens no ledger: a line of numbers is called as before any opening.
 
 use judge::call::{call, Outcome};
+use judge::field::{COLUMNS, MAX_NUMBER, NO_NUMBER};
 use judge::memory::Memory;
 use judge::mistake::Correct;
+use judge::refusal::UNREADABLE;
+use judge::script::{ANSWER_BYTES, INPUT_CHUNK, MAX_FIELDS, MAX_LINES, MAX_LINE_BYTES, MIN_FIELDS};
 use std::io::{Read, Write};
 
-const INPUT_CHUNK: usize = 8192;
-const COLUMNS: usize = 8;
-const MIN_FIELDS: usize = 3;
-const MAX_FIELDS: usize = 34;
-const MAX_NUMBER: u32 = 99_999_999;
-const NO_NUMBER: u32 = u32::MAX;
-const UNREADABLE: u32 = 10;
 const FEED_STEP: usize = 16;
 /// One more byte than a readable line can have.
-const HELD_PLACES: usize = COLUMNS * MAX_FIELDS + 1;
-const ANSWER_BYTES: usize = 4 * COLUMNS + 1;
+const HELD_PLACES: usize = MAX_LINE_BYTES + 1;
 
 /// The line that goes on in the next chunk, and the number of lines answered.
 struct Progress {
@@ -32,7 +27,7 @@ fn main() -> std::io::Result<()> {
     let mut chunk = [0; INPUT_CHUNK];
     let mut out = [0; (INPUT_CHUNK + 1) * ANSWER_BYTES];
     let mut progress = Progress { line: [0; HELD_PLACES], held: 0, lines: 0 };
-    while progress.lines < MAX_NUMBER {
+    while progress.lines < MAX_LINES {
         let count = input.read(&mut chunk)?;
         let written =
             if count == 0 { finish(&mut progress, &mut out) } else { feed(&mut progress, &chunk[..count], &mut out) };
@@ -48,7 +43,7 @@ fn main() -> std::io::Result<()> {
 fn feed(progress: &mut Progress, chunk: &[u8], out: &mut [u8]) -> usize {
     let (mut at, mut written) = (0, 0);
     while at < chunk.len() {
-        if progress.lines == MAX_NUMBER {
+        if progress.lines == MAX_LINES {
             return written;
         }
         let end = line_end(chunk, at);
@@ -162,7 +157,7 @@ fn put_answer(text: &mut [u8], line: u32, outcome: Outcome) {
 
 /// Blanks, then the digits over them from the last column on. Most numbers have one digit.
 fn put_number(field: &mut [u8], number: u32) {
-    field.copy_from_slice(b"        ");
+    field.copy_from_slice(&[b' '; COLUMNS]);
     if number < 10 {
         field[COLUMNS - 1] = b'0' + number as u8;
         return;

@@ -5,6 +5,7 @@ use crate::field::{read_number, write_number};
 use crate::generate::memory::Sample;
 use crate::mistake::Rules;
 use crate::panel::panel;
+use crate::refusal::ACCEPTED;
 
 /// The four functions of the C interface.
 pub trait Checker {
@@ -25,7 +26,7 @@ impl<R: Rules> Checker for Library<R> {
 
     fn panel(&self, sample: &mut Sample, replica: u32) -> (u32, u32) {
         match panel(self.0, &sample.memory(), replica) {
-            Ok(height) => (0, height),
+            Ok(height) => (ACCEPTED, height),
             Err(refusal) => (refusal, 0),
         }
     }

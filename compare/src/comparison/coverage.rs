@@ -2,14 +2,17 @@
 //! comparison is meant to hit.
 
 use super::marks::{seen_lines, Seen, MARKS};
-use crate::call::OPEN;
+use crate::call::{LAST_CODE, OPEN};
 use crate::generate::memory::sample;
 use crate::generate::scripts::{script, Script, SORTS};
 use crate::memory::MAX_F;
 use crate::mistake::Correct;
+use crate::refusal::{ACCEPTED, UNREADABLE};
 
-/// Rows: call codes, and any other in the last. Columns: answers 0 to 10.
-type Counts = [[u64; 11]; 14];
+/// Rows: call codes, and any other in the last. Columns: answers.
+type Counts = [[u64; UNREADABLE as usize + 1]; OTHER_CODE as usize + 1];
+
+const OTHER_CODE: u32 = LAST_CODE + 1;
 
 /// Prints it all; what is not reached at all is an error.
 pub fn tell(seed: u64, scripts: u64, memories: u64) -> Result<(), String> {
@@ -31,11 +34,11 @@ pub fn tell(seed: u64, scripts: u64, memories: u64) -> Result<(), String> {
 }
 
 fn count(counts: &mut Counts, code: u32, answer: u32) {
-    counts[code.min(13) as usize][answer.min(10) as usize] += 1;
+    counts[code.min(OTHER_CODE) as usize][answer.min(UNREADABLE) as usize] += 1;
 }
 
 fn print(what: &str, counts: &Counts) {
-    println!("{what}: answers 0 to 10 by call code (13: any other)");
+    println!("{what}: answers 0 to {UNREADABLE} by call code ({OTHER_CODE}: any other)");
     for (code, row) in counts.iter().enumerate() {
         let cells: String = row.iter().map(|count| format!("{count:9}")).collect();
         println!("{code:4}{cells}");
@@ -62,7 +65,7 @@ impl Reached {
 
     fn add_line(&mut self, seen: &Seen) {
         count(&mut self.counts, seen.code, seen.outcome.answer);
-        if seen.is(OPEN, 0) {
+        if seen.is(OPEN, ACCEPTED) {
             self.opened[seen.outcome.first as usize / 2 - 1] += 1;
         }
         for (count, (_, holds)) in self.marks.iter_mut().zip(MARKS) {

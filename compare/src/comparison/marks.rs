@@ -2,11 +2,10 @@
 
 use crate::call::*;
 use crate::field::{read_number, COLUMNS, NO_NUMBER};
-use crate::memory::CEILING;
+use crate::memory::{CEILING, LAST_STEP_BOOT};
 use crate::mistake::Correct;
-use crate::script::{run, INPUT_CHUNK, MAX_FIELDS};
-
-const LONGEST: usize = MAX_FIELDS * COLUMNS;
+use crate::refusal::*;
+use crate::script::{run, ANSWER_BYTES, INPUT_CHUNK, MAX_LINE_BYTES};
 
 /// A line and what it gives.
 pub struct Seen<'a> {
@@ -25,7 +24,7 @@ impl Seen<'_> {
     }
 
     fn is_long(&self) -> bool {
-        self.text.len() > LONGEST
+        self.text.len() > MAX_LINE_BYTES
     }
 
     /// Where its line feed is, or would be.
@@ -39,44 +38,47 @@ impl Seen<'_> {
     }
 
     fn wrong_list(&self) -> bool {
-        [PREPARE_COMMITS, ACCUMULATE, DECIDE, RECOVER].contains(&self.code) && [2, 3, 5].contains(&self.outcome.answer)
+        [PREPARE_COMMITS, ACCUMULATE, DECIDE, RECOVER].contains(&self.code)
+            && [OUT_OF_RANGE, UNKNOWN_NUMBER, WRONG_CERTIFICATE].contains(&self.outcome.answer)
     }
 }
 
 type Mark = (&'static str, fn(&Seen) -> bool);
 
 pub const MARKS: &[Mark] = &[
-    ("decisions", |seen| seen.is(DECIDE, 0)),
-    ("proposals on commits", |seen| seen.is(PREPARE_COMMITS, 0)),
-    ("power cuts", |seen| seen.is(REBOOT, 0)),
-    ("recoveries", |seen| seen.is(RECOVER, 0)),
+    ("decisions", |seen| seen.is(DECIDE, ACCEPTED)),
+    ("proposals on commits", |seen| seen.is(PREPARE_COMMITS, ACCEPTED)),
+    ("power cuts", |seen| seen.is(REBOOT, ACCEPTED)),
+    ("recoveries", |seen| seen.is(RECOVER, ACCEPTED)),
     ("wrong lists", |seen| seen.wrong_list()),
-    ("old certificates: a proposal below the lowest view", |seen| seen.is(STORE, 7)),
-    ("boots past 7", |seen| seen.is(REBOOT, 0) && seen.outcome.first > 7),
-    ("a limit of 1,000,000", |seen| seen.is(RESERVE, 0) && seen.outcome.first == CEILING),
-    ("reserves past 1,000,000", |seen| seen.is(RESERVE, 8)),
-    ("retired replicas that reserve", |seen| seen.is(RESERVE, 4)),
-    ("full log: view", |seen| seen.is(VIEW, 9)),
-    ("full log: store", |seen| seen.is(STORE, 9)),
-    ("full log: accumulate", |seen| seen.is(ACCUMULATE, 9)),
-    ("full log: prepare", |seen| seen.is(PREPARE_ACC, 9) || seen.is(PREPARE_COMMITS, 9)),
-    ("full log: request", |seen| seen.is(REQUEST, 9)),
-    ("full log: reply", |seen| seen.is(REPLY_TO, 9)),
-    ("full blocks", |seen| seen.is(BLOCK, 9)),
-    ("calls before any opening", |seen| seen.code != OPEN && seen.outcome.answer == 1),
+    ("old certificates: a proposal below the lowest view", |seen| seen.is(STORE, WRONG_VIEW)),
+    ("boots past the last step", |seen| seen.is(REBOOT, ACCEPTED) && seen.outcome.first > LAST_STEP_BOOT),
+    ("a limit of just the ceiling", |seen| seen.is(RESERVE, ACCEPTED) && seen.outcome.first == CEILING),
+    ("reserves past the ceiling", |seen| seen.is(RESERVE, COUNTER_LIMIT)),
+    ("retired replicas that reserve", |seen| seen.is(RESERVE, WRONG_STATUS)),
+    ("full log: view", |seen| seen.is(VIEW, NO_ROOM)),
+    ("full log: store", |seen| seen.is(STORE, NO_ROOM)),
+    ("full log: accumulate", |seen| seen.is(ACCUMULATE, NO_ROOM)),
+    ("full log: prepare", |seen| seen.is(PREPARE_ACC, NO_ROOM) || seen.is(PREPARE_COMMITS, NO_ROOM)),
+    ("full log: request", |seen| seen.is(REQUEST, NO_ROOM)),
+    ("full log: reply", |seen| seen.is(REPLY_TO, NO_ROOM)),
+    ("full blocks", |seen| seen.is(BLOCK, NO_ROOM)),
+    ("calls before any opening", |seen| seen.code != OPEN && seen.outcome.answer == WRONG_FORM),
     ("last lines without a line feed", |seen| !seen.fed),
     ("empty lines", |seen| seen.text.is_empty()),
-    ("readable lines of 34 fields", |seen| seen.text.len() == LONGEST && seen.outcome.answer != 10),
-    ("lines of 273 bytes", |seen| seen.text.len() == LONGEST + 1),
-    ("lines longer than 273 bytes", |seen| seen.text.len() > LONGEST + 1),
+    ("readable lines of the most fields", |seen| {
+        seen.text.len() == MAX_LINE_BYTES && seen.outcome.answer != UNREADABLE
+    }),
+    ("lines of one byte too many", |seen| seen.text.len() == MAX_LINE_BYTES + 1),
+    ("lines of several bytes too many", |seen| seen.text.len() > MAX_LINE_BYTES + 1),
     ("lines over a chunk's end", |seen| seen.goes_on()),
-    ("accepted lines over a chunk's end", |seen| seen.goes_on() && seen.outcome.answer == 0),
-    ("accepted lines of 34 fields over a chunk's end", |seen| {
-        seen.goes_on() && seen.text.len() == LONGEST && seen.outcome.answer == 0
+    ("accepted lines over a chunk's end", |seen| seen.goes_on() && seen.outcome.is_accepted()),
+    ("accepted lines of the most fields over a chunk's end", |seen| {
+        seen.goes_on() && seen.text.len() == MAX_LINE_BYTES && seen.outcome.is_accepted()
     }),
     ("lines too long over a chunk's end", |seen| seen.goes_on() && seen.is_long()),
     ("lines too long, with fewer bytes after a chunk's end", |seen| {
-        seen.goes_on() && seen.is_long() && seen.end() % INPUT_CHUNK <= LONGEST
+        seen.goes_on() && seen.is_long() && seen.end() % INPUT_CHUNK <= MAX_LINE_BYTES
     }),
     ("lines that fill a chunk or more", |seen| seen.text.len() >= INPUT_CHUNK),
     ("line feeds that end a chunk", |seen| seen.fed && seen.end() % INPUT_CHUNK == INPUT_CHUNK - 1),
@@ -87,7 +89,7 @@ pub const MARKS: &[Mark] = &[
 pub fn seen_lines(script: &[u8], mut show: impl FnMut(Seen)) {
     let out = run(Correct, script);
     let mut start = 0;
-    for (line, answer) in script.split_inclusive(|&byte| byte == b'\n').zip(out.chunks(33)) {
+    for (line, answer) in script.split_inclusive(|&byte| byte == b'\n').zip(out.chunks(ANSWER_BYTES)) {
         let text = line.strip_suffix(b"\n").unwrap_or(line);
         let fed = text.len() < line.len();
         let number = |field: usize| read_number(Correct, &answer[COLUMNS * field..COLUMNS * (field + 1)]);

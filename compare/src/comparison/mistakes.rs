@@ -4,7 +4,7 @@ use super::checkers::Library;
 use super::samples::difference;
 use crate::generate::scripts::{script, Script};
 use crate::mistake::{Correct, Mistake};
-use crate::script::run;
+use crate::script::{run, ANSWER_BYTES};
 
 /// Scripts with the output that the rules give.
 pub struct Scripts(Vec<(Script, Vec<u8>)>);
@@ -16,7 +16,7 @@ impl Scripts {
     }
 
     pub fn lines(&self) -> usize {
-        self.0.iter().map(|(_, out)| out.len() / 33).sum()
+        self.0.iter().map(|(_, out)| out.len() / ANSWER_BYTES).sum()
     }
 
     /// The first script that tells the mistake apart: its place from 1 and its sort.

@@ -1,6 +1,7 @@
 //! Two programs on one script, byte for byte, however its bytes arrive.
 
 use crate::random::Random;
+use crate::script::INPUT_CHUNK;
 use crate::script_file::ScriptFile;
 use std::io::Write;
 use std::os::fd::OwnedFd;
@@ -79,11 +80,13 @@ fn send_pieces(socket: &UnixDatagram, input: &[u8], seed: u64) -> std::io::Resul
     pieces(input, seed).into_iter().chain(ends).try_for_each(|piece| socket.send(piece).map(drop))
 }
 
-/// The input in pieces of 1 to at most 4,096 bytes, which is no more than a program asks for at once. Long inputs get
-/// larger pieces, so that there are some 500 of them at most.
+/// Most bytes of a piece, which is less than a program asks for at once.
+pub const MAX_PIECE: u32 = INPUT_CHUNK as u32 / 2;
+
+/// The input in pieces. Long inputs get larger ones, so that there are some 500 of them at most.
 pub fn pieces(input: &[u8], seed: u64) -> Vec<&[u8]> {
     let mut random = Random::new(seed);
-    let most = random.pick(&[2, 30, 300, 4096]).max(input.len() as u32 / 250).min(4096);
+    let most = random.pick(&[2, 30, 300, MAX_PIECE]).max(input.len() as u32 / 250).min(MAX_PIECE);
     let mut all = Vec::new();
     let mut rest = input;
     while !rest.is_empty() {

@@ -3,9 +3,11 @@
 
 use crate::call::*;
 use crate::driver::{Driver, Line};
-use crate::field::{read_number, MAX_NUMBER, NO_NUMBER};
+use crate::field::{read_number, COLUMNS, MAX_NUMBER, NO_NUMBER};
+use crate::memory::MAX_F;
 use crate::mistake::Correct;
-use crate::script::{BLOCK_SLOTS, CERTIFICATE_SLOTS};
+use crate::refusal::UNREADABLE;
+use crate::script::{BLOCK_SLOTS, CERTIFICATE_SLOTS, MAX_FIELDS, MIN_FIELDS};
 
 /// A script's lines; those that make no call have their bytes alone.
 pub struct Lines {
@@ -57,7 +59,7 @@ impl Lines {
             };
             let line = self.renumbered(place, line, &made);
             let outcome = step(&mut driver, &line);
-            made[place] = (outcome.answer == 0).then_some(outcome.first);
+            made[place] = outcome.is_accepted().then_some(outcome.first);
             script.extend(line.text().into_bytes());
             script.push(b'\n');
         }
@@ -91,7 +93,7 @@ impl Makers {
     }
 
     fn note(&mut self, line: &Line, outcome: Outcome, place: usize) {
-        if outcome.answer != 0 {
+        if !outcome.is_accepted() {
             return;
         }
         match line.code {
@@ -114,21 +116,21 @@ fn unopened() -> Driver<Correct> {
 }
 
 fn step(driver: &mut Driver<Correct>, line: &Line) -> Outcome {
-    if line.code == OPEN && (1..=30).contains(&line.replica) {
+    if line.code == OPEN && (1..=MAX_F).contains(&line.replica) {
         driver.reopen(line.replica);
     } else {
         driver.call(line.code, line.replica, line.number, &line.list);
     }
-    driver.trace.last().map_or(Outcome::from(Err(10)), |(_, outcome)| *outcome)
+    driver.trace.last().map_or(Outcome::from(Err(UNREADABLE)), |(_, outcome)| *outcome)
 }
 
-/// The call of a whole line; none where the program would answer 10.
+/// The call of a whole line; none where the program could not read it.
 fn read_call(text: &[u8]) -> Option<Line> {
     let columns = text.strip_suffix(b"\n")?;
-    let fields: Vec<u32> = columns.chunks(8).map(|field| read_number(Correct, field)).collect();
-    if fields.contains(&NO_NUMBER) || !(3..=34).contains(&fields.len()) {
+    let fields: Vec<u32> = columns.chunks(COLUMNS).map(|field| read_number(Correct, field)).collect();
+    if fields.contains(&NO_NUMBER) || !(MIN_FIELDS..=MAX_FIELDS).contains(&fields.len()) {
         return None;
     }
-    let line = Line::new(fields[0], fields[1], fields[2], &fields[3..]);
+    let line = Line::new(fields[0], fields[1], fields[2], &fields[MIN_FIELDS..]);
     is_call(Correct, line.code, line.replica, line.number, &line.list).then_some(line)
 }

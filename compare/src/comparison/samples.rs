@@ -2,7 +2,7 @@
 
 use super::checkers::Checker;
 use crate::call::Outcome;
-use crate::field::COLUMNS;
+use crate::field::{COLUMNS, MAX_NUMBER};
 use crate::generate::memory::{sample, Sample};
 use crate::random::Random;
 
@@ -45,14 +45,15 @@ pub fn number_difference(one: &dyn Checker, other: &dyn Checker, seed: u64) -> O
         return Some(format!("{:?} reads {read} and {expected}", String::from_utf8_lossy(&text)));
     }
     let bits = random.below(33);
-    let number = if random.once_in(8) { 100_000_000 - random.below(2) } else { (random.bits() >> 32 >> bits) as u32 };
+    let number =
+        if random.once_in(8) { MAX_NUMBER + 1 - random.below(2) } else { (random.bits() >> 32 >> bits) as u32 };
     let (mut left, mut right) = (text.clone(), text);
     let (wrote, expected) = (one.write_number(number, &mut left), other.write_number(number, &mut right));
     ((wrote, &left) != (expected, &right)).then(|| format!("{number} in {} bytes: {wrote} and {expected}", left.len()))
 }
 
 fn any_text(random: &mut Random) -> Vec<u8> {
-    let length = if random.once_in(8) { random.below(12) } else { COLUMNS as u32 };
+    let length = if random.once_in(8) { random.below(COLUMNS as u32 + 4) } else { COLUMNS as u32 };
     let digits = random.below(length + 1);
     let mut text: Vec<u8> =
         (0..length).map(|place| if place + digits < length { b' ' } else { b'0' + random.below(10) as u8 }).collect();

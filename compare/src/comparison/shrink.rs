@@ -2,7 +2,7 @@
 
 use super::renumber::Lines;
 use crate::generate::memory::Sample;
-use crate::memory::{CERTIFICATE_WORDS, HEADER};
+use crate::memory::{header, Replica, CERTIFICATE_WORDS, HEADER, REPLICA_WORDS};
 use std::time::{Duration, Instant};
 
 const TIME: Duration = Duration::from_secs(20);
@@ -96,10 +96,10 @@ fn candidates(sample: &Sample) -> Vec<Sample> {
     };
     let kept = sample.log.len().saturating_sub(CERTIFICATE_WORDS);
     add(&|next| next.log.truncate(kept));
-    if sample.table.len() >= HEADER && sample.table[1] > 0 {
-        add(&|next| next.table[1] -= 1);
+    if sample.table.len() >= HEADER && sample.table[header::ISSUED] > 0 {
+        add(&|next| next.table[header::ISSUED] -= 1);
         add(&|next| {
-            next.table[1] -= 1;
+            next.table[header::ISSUED] -= 1;
             next.log.truncate(kept);
         });
     }
@@ -107,7 +107,7 @@ fn candidates(sample: &Sample) -> Vec<Sample> {
         add(&|next| next.blocks.truncate(sample.blocks.len() - 1));
     }
     for word in HEADER..sample.table.len() {
-        let fresh = [0, 0, 1, 64, 0, 0, 0, 0, 0][(word - HEADER) % 9];
+        let fresh = Replica::FRESH.words()[(word - HEADER) % REPLICA_WORDS];
         if sample.table[word] != fresh {
             add(&|next| next.table[word] = fresh);
         }
@@ -129,7 +129,7 @@ pub fn sample_text(sample: &Sample) -> String {
     format!(
         "  call {}\n  table {head:?}\n{}  log, {} words\n{}  blocks {:?}\n",
         sample.line.text(),
-        rows(replicas, 9),
+        rows(replicas, REPLICA_WORDS),
         sample.log.len(),
         rows(&sample.log, CERTIFICATE_WORDS),
         sample.blocks

@@ -1,9 +1,11 @@
-//! Scripts at the edges: a full log, full blocks, the counter's end, boots past 7, retired replicas, openings again.
+//! Scripts at the edges: a full log, full blocks, the counter's end, boots past the last step, retired replicas, openings
+//! again.
 
 use crate::call::*;
 use crate::driver::{Driver, Line};
 use crate::explore::Explorer;
-use crate::memory::{CEILING, LIVE};
+use crate::field::MAX_NUMBER;
+use crate::memory::{CEILING, COUNTER_STEPS, FIRST_LIMIT, LAST_STEP, LIVE, MAX_F};
 use crate::mistake::Correct;
 use crate::random::Random;
 use crate::script::{BLOCK_SLOTS, CERTIFICATE_SLOTS};
@@ -41,15 +43,17 @@ pub fn full_log(mut random: Random, f: u32) -> Vec<Line> {
 fn fill_log(driver: &mut Driver<Correct>, left: u32) -> u32 {
     let most = CERTIFICATE_SLOTS as u32 - left;
     let mut view = (0..driver.n()).map(|replica| driver.replica(replica).min_view).max().unwrap_or(1);
-    let mut issued = None;
-    while issued != Some(driver.issued()) {
-        issued = Some(driver.issued());
+    for _ in 0..=most {
+        let issued = driver.issued();
         for replica in 0..driver.n() {
             if driver.issued() < most && driver.replica(replica).status == LIVE {
                 driver.enter(replica, view);
             }
         }
         view += 1;
+        if driver.issued() == issued {
+            break;
+        }
     }
     view
 }
@@ -71,30 +75,33 @@ pub fn full_blocks(random: Random, f: u32) -> Vec<Line> {
     hosts.driver.lines()
 }
 
-/// Three reserves of 64 and 981 cuts bring the limit to just 1,000,000; other numbers pass it by.
+/// So many reserves of a fresh replica let its cuts end as near to the ceiling as its steps allow.
+fn even_reserves() -> u32 {
+    let by_cuts: u32 = COUNTER_STEPS[1..].iter().sum();
+    (CEILING - FIRST_LIMIT - by_cuts) % LAST_STEP / COUNTER_STEPS[0]
+}
+
+/// Reserves and then cuts that bring the limit to just the ceiling; other numbers of reserves pass it by.
 pub fn counter_by_cuts(mut random: Random, f: u32) -> Vec<Line> {
-    let reserves = random.pick(&[3, 3, 3, 2, 4]);
+    let even = even_reserves();
+    let reserves = random.pick(&[even, even, even, even.saturating_sub(1), even + 1]);
     let mut hosts = explorer(random, f);
     let replica = hosts.random.below(hosts.driver.n());
     for _ in 0..reserves {
         hosts.driver.call(RESERVE, replica, 0, &[]);
     }
-    while hosts.driver.replica(replica).view_limit + 1024 < CEILING {
-        hosts.driver.call(REBOOT, replica, 0, &[]);
-    }
+    hosts.driver.raise_limit(REBOOT, replica, CEILING - LAST_STEP);
     let last = hosts.random.pick(&[REBOOT, RESERVE]);
     hosts.driver.call(last, replica, 0, &[]);
     at_the_end(&mut hosts, replica);
     hosts.driver.lines()
 }
 
-/// Reserves of 64 alone, up to 1,000,000.
+/// Reserves alone, up to the ceiling.
 pub fn counter_by_reserves(random: Random, f: u32) -> Vec<Line> {
     let mut hosts = explorer(random, f);
     let replica = hosts.random.below(hosts.driver.n());
-    while hosts.driver.replica(replica).view_limit < CEILING {
-        hosts.driver.call(RESERVE, replica, 0, &[]);
-    }
+    hosts.driver.raise_limit(RESERVE, replica, CEILING);
     at_the_end(&mut hosts, replica);
     hosts.driver.lines()
 }
@@ -138,12 +145,12 @@ pub fn many_boots(random: Random, f: u32) -> Vec<Line> {
 pub fn openings(random: Random) -> Vec<Line> {
     let mut hosts = explorer(random, 1);
     for _ in 0..hosts.random.within(2, 5) {
-        let f = hosts.random.within(1, 30);
+        let f = hosts.random.within(1, MAX_F);
         hosts.driver.reopen(f);
         for _ in 0..hosts.random.within(1, 60) {
             hosts.step();
         }
-        let refused = hosts.random.pick(&[0, 31, 32, 1000, 99_999_999]);
+        let refused = hosts.random.pick(&[0, MAX_F + 1, MAX_F + 2, 1000, MAX_NUMBER]);
         hosts.driver.call(OPEN, refused, 0, &[]);
         for _ in 0..hosts.random.within(1, 20) {
             hosts.step();

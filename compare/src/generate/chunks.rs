@@ -1,7 +1,8 @@
 //! Scripts whose lines lie over the ends of the chunks in which a program reads its input.
 
+use crate::field::{field_text, COLUMNS};
 use crate::random::Random;
-use crate::script::INPUT_CHUNK;
+use crate::script::{INPUT_CHUNK, MAX_LINE_BYTES};
 
 /// A script's lines among unreadable ones, so that the ends of chunks cut the lines at any column: before the first
 /// byte, before and after the line feed too. Some lines stand there a second time, too long to be read.
@@ -21,7 +22,7 @@ pub fn over_chunk_ends(random: &mut Random, script: &[u8]) -> Vec<u8> {
 fn put(random: &mut Random, out: &mut Vec<u8>, line: &[u8]) {
     let room = INPUT_CHUNK - out.len() % INPUT_CHUNK;
     let before = cut(random, line.len());
-    let times = if line.len() > 272 { 4 } else { 16 };
+    let times = if line.len() > MAX_LINE_BYTES { 4 } else { 16 };
     if before < room && (room <= line.len() || random.once_in(times)) {
         fill(random, out, room - before);
     }
@@ -43,10 +44,12 @@ fn fill(random: &mut Random, out: &mut Vec<u8>, count: usize) {
 
 /// Fields or bytes more than a line can have: just one byte, one field, or more than a block.
 fn lengthened(random: &mut Random, line: &[u8]) -> Vec<u8> {
-    let length = random.pick(&[273, 274, 280, 544, 546, 8191, 8192, 20_000]);
+    const MOST: usize = MAX_LINE_BYTES;
+    let lengths = [MOST + 1, MOST + 2, MOST + COLUMNS, 2 * MOST, 2 * MOST + 2, INPUT_CHUNK - 1, INPUT_CHUNK, 20_000];
+    let length = random.pick(&lengths);
     let mut line = line.strip_suffix(b"\n").unwrap_or(line).to_vec();
-    while line.len() + 8 <= length {
-        line.extend(b"       1");
+    while line.len() + COLUMNS <= length {
+        line.extend(field_text(1).into_bytes());
     }
     line.resize(length.max(line.len()), b' ');
     line.push(b'\n');

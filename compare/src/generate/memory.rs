@@ -3,10 +3,10 @@
 use super::perturb::{damage_form, nudge};
 use super::ready::make_ready;
 use crate::call::*;
-use crate::certificate::Certificate;
+use crate::certificate::{Certificate, FIRST_KIND, LAST_KIND};
 use crate::driver::Line;
 use crate::memory::*;
-use crate::mistake::Rules;
+use crate::mistake::{Correct, Rules};
 use crate::random::Random;
 
 /// Three slices and a call on them.
@@ -29,7 +29,7 @@ impl Sample {
     }
 
     pub fn n(&self) -> u32 {
-        2 * self.table[0] + 1
+        replica_count(self.table[header::F])
     }
 
     pub fn set_certificate(&mut self, number: u32, to: Certificate) {
@@ -61,24 +61,24 @@ pub fn sample(seed: u64) -> Sample {
 /// Puts the certificate that the call would issue into the log; the replica's words stay.
 fn issue_beforehand(sample: &mut Sample, fill: bool) {
     let mut after = sample.clone();
-    if after.run(crate::mistake::Correct).answer == 0 && sample.line.code != OPEN {
+    if after.run(Correct).is_accepted() && sample.line.code != OPEN {
         sample.log = after.log;
-        sample.table[1] = after.table[1];
+        sample.table[header::ISSUED] = after.table[header::ISSUED];
         if fill {
-            sample.log.truncate(CERTIFICATE_WORDS * sample.table[1] as usize);
+            sample.log.truncate(CERTIFICATE_WORDS * sample.table[header::ISSUED] as usize);
         }
     }
 }
 
 fn garbage(random: &mut Random) -> u32 {
-    random.pick(&[0, 1, 2, 3, 7, 1_000_001, u32::MAX])
+    random.pick(&[0, 1, 2, 3, LAST_KIND + 1, CEILING + 1, u32::MAX])
 }
 
 /// Small views mostly, so that they meet; the edges of the counter too.
 pub fn any_view(random: &mut Random) -> u32 {
     match random.below(8) {
-        0 => random.pick(&[63, 64, 65, 127, 128]),
-        1 => random.pick(&[CEILING - 65, CEILING - 64, CEILING - 2, CEILING - 1, CEILING]),
+        0 => random.pick(&[FIRST_LIMIT - 1, FIRST_LIMIT, FIRST_LIMIT + 1, 2 * FIRST_LIMIT - 1, 2 * FIRST_LIMIT]),
+        1 => random.pick(&[CEILING - FIRST_LIMIT - 1, CEILING - FIRST_LIMIT, CEILING - 2, CEILING - 1, CEILING]),
         _ => random.below(6),
     }
 }
@@ -91,7 +91,7 @@ fn any_boot(random: &mut Random) -> u32 {
 }
 
 fn well_formed_memory(random: &mut Random) -> Sample {
-    let f = random.pick(&[1, 1, 1, 2, 2, 3, 5, 30]);
+    let f = random.pick(&[1, 1, 1, 2, 2, 3, 5, MAX_F]);
     let added = random.within(1, 6);
     let quorum = f + 1;
     let issued = if random.once_in(6) { random.below(4) } else { quorum + random.below(5) };
@@ -137,7 +137,7 @@ fn any_replica(random: &mut Random, added: u32) -> Replica {
 
 pub fn any_certificate(random: &mut Random, n: u32, added: u32) -> Certificate {
     Certificate {
-        kind: random.within(1, 6),
+        kind: random.within(FIRST_KIND, LAST_KIND),
         signer: random.below(n),
         view: any_view(random),
         block: random.below(added),
@@ -149,8 +149,8 @@ pub fn any_certificate(random: &mut Random, n: u32, added: u32) -> Certificate {
 
 /// A call with numbers mostly in range.
 fn any_line(random: &mut Random, sample: &Sample) -> Line {
-    let (f, issued, added) = (sample.table[0], sample.table[1], sample.table[2]);
-    let code = random.below(13);
+    let (f, issued, added) = (sample.table[header::F], sample.table[header::ISSUED], sample.table[header::ADDED]);
+    let code = random.below(LAST_CODE + 1);
     let replica = if random.once_in(24) { sample.n() + random.below(2) } else { random.below(sample.n()) };
     let length = if random.once_in(12) { random.below(MAX_LIST as u32 + 1) } else { f + 1 };
     let list: Vec<u32> = (0..length).map(|_| random.nearly_below(issued, 30)).collect();
@@ -158,7 +158,7 @@ fn any_line(random: &mut Random, sample: &Sample) -> Line {
     let block = random.nearly_below(added, 12);
     let view = any_view(random) + u32::from(random.once_in(8));
     match code {
-        OPEN => Line::new(code, random.pick(&[0, f, f, f, 1, 30, 31, u32::MAX]), 0, &[]),
+        OPEN => Line::new(code, random.pick(&[0, f, f, f, 1, MAX_F, MAX_F + 1, u32::MAX]), 0, &[]),
         BLOCK => Line::new(code, 0, block, &[]),
         PREPARE_ACC => Line::new(code, replica, block, &[certificate]),
         PREPARE_COMMITS => Line::new(code, replica, block, &list),

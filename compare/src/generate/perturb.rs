@@ -1,7 +1,8 @@
 //! Small changes to a ready memory: nudges that keep the form, damage that breaks it, wrong lengths.
 
 use super::memory::Sample;
-use crate::call::MAX_LIST;
+use crate::call::{LAST_CODE, MAX_LIST, PREPARE_ACC, REBOOT};
+use crate::certificate::{Certificate, LAST_KIND};
 use crate::memory::*;
 use crate::random::Random;
 
@@ -27,7 +28,7 @@ fn near(random: &mut Random, word: u32) -> u32 {
 fn named_certificate(random: &mut Random, sample: &Sample) -> Option<usize> {
     let mut named = sample.line.list.clone();
     named.push(sample.line.number);
-    named.retain(|&number| number < sample.table[1]);
+    named.retain(|&number| number < sample.table[header::ISSUED]);
     (!named.is_empty()).then(|| random.pick(&named) as usize)
 }
 
@@ -58,7 +59,7 @@ fn nudge_line(random: &mut Random, sample: &mut Sample) {
         }
         3 => drop(line.list.pop()),
         4 if line.list.len() < MAX_LIST => line.list.push(random.below(4)),
-        5 => line.code = random.pick(&[13, 14, u32::MAX, 2, 8]),
+        5 => line.code = random.pick(&[LAST_CODE + 1, LAST_CODE + 2, u32::MAX, PREPARE_ACC, REBOOT]),
         _ => {}
     }
 }
@@ -76,31 +77,47 @@ pub fn damage_form(random: &mut Random, sample: &mut Sample) {
 }
 
 fn damage_certificate(random: &mut Random, sample: &mut Sample) {
-    let (n, issued, added) = (sample.n(), sample.table[1] as usize, sample.table[2]);
+    let (n, issued, added) = (sample.n(), sample.table[header::ISSUED] as usize, sample.table[header::ADDED]);
     if issued == 0 || CERTIFICATE_WORDS * issued > sample.log.len() {
         return;
     }
     let number = if random.once_in(2) { issued - 1 } else { random.below(issued as u32) as usize };
     let word = random.below(CERTIFICATE_WORDS as u32) as usize;
-    let past = [random.pick(&[0, 7, u32::MAX]), n, CEILING + 1, added, CEILING + 1, n, CEILING + 1];
-    sample.log[CERTIFICATE_WORDS * number + word] = if random.once_in(6) { u32::MAX } else { past[word] };
+    let past = Certificate {
+        kind: random.pick(&[0, LAST_KIND + 1, u32::MAX]),
+        signer: n,
+        view: CEILING + 1,
+        block: added,
+        of_view: CEILING + 1,
+        subject: n,
+        boot: CEILING + 1,
+    };
+    sample.log[CERTIFICATE_WORDS * number + word] = if random.once_in(6) { u32::MAX } else { past.words()[word] };
 }
 
 fn damage_replica(random: &mut Random, sample: &mut Sample) {
-    let (n, added) = (sample.n(), sample.table[2]);
+    let (n, added) = (sample.n(), sample.table[header::ADDED]);
     let any = random.below(n);
     let replica = random.pick(&[n - 1, any, sample.line.replica.min(n - 1)]);
     let r = sample.memory().replica(replica);
     let word = random.below(REPLICA_WORDS as u32) as usize;
-    let low = random.pick(&[0, r.view_limit.saturating_add(1)]);
-    let limit = random.pick(&[CEILING + 1, r.min_view.saturating_sub(1)]);
-    let past = [3, CEILING + 1, low, limit, 2, r.min_view, added, CEILING + 1, added];
+    let past = Replica {
+        status: RETIRED + 1,
+        boot: CEILING + 1,
+        min_view: random.pick(&[0, r.view_limit.saturating_add(1)]),
+        view_limit: random.pick(&[CEILING + 1, r.min_view.saturating_sub(1)]),
+        flag: 2,
+        stored_view: r.min_view,
+        stored_block: added,
+        decided_view: CEILING + 1,
+        decided_block: added,
+    };
     sample.table[HEADER + REPLICA_WORDS * replica as usize + word] =
-        if random.once_in(6) { u32::MAX } else { past[word] };
+        if random.once_in(6) { u32::MAX } else { past.words()[word] };
 }
 
 fn damage_blocks(random: &mut Random, sample: &mut Sample) {
-    let added = sample.table[2].min(sample.blocks.len() as u32);
+    let added = sample.table[header::ADDED].min(sample.blocks.len() as u32);
     let block = random.below(added.max(1));
     sample.blocks[block as usize] = block + random.pick(&[0, 1, 2]);
 }
@@ -108,41 +125,39 @@ fn damage_blocks(random: &mut Random, sample: &mut Sample) {
 fn damage_counts(random: &mut Random, sample: &mut Sample) {
     let slots = (sample.log.len() / CERTIFICATE_WORDS) as u32;
     match random.below(4) {
-        0 => sample.table[1] = slots + 1,
-        1 => sample.table[2] = sample.blocks.len() as u32 + 1,
-        2 => sample.table[2] = 0,
-        _ => {
-            let count = random.within(1, 2) as usize;
-            sample.table[count] = u32::MAX;
-        }
+        0 => sample.table[header::ISSUED] = slots + 1,
+        1 => sample.table[header::ADDED] = sample.blocks.len() as u32 + 1,
+        2 => sample.table[header::ADDED] = 0,
+        _ => sample.table[random.pick(&[header::ISSUED, header::ADDED])] = u32::MAX,
     }
 }
 
-/// f of 0 or above 30 with a table of just that length, or an f that the table does not fit.
+/// f of 0 or above the greatest with a table of just that length, or an f that the table does not fit.
 fn damage_f(random: &mut Random, sample: &mut Sample) {
-    let f = random.pick(&[0, 31, 32, 1, 2, u32::MAX]);
-    if f <= 32 && random.once_in(2) {
-        let fresh = [0, 0, 1, 64, 0, 0, 0, 0, 0];
+    let f = random.pick(&[0, MAX_F + 1, MAX_F + 2, 1, 2, u32::MAX]);
+    if f <= MAX_F + 2 && random.once_in(2) {
         sample.table.truncate(table_length(f) as usize);
         while (sample.table.len() as u64) < table_length(f) {
-            sample.table.extend(fresh);
+            sample.table.extend(Replica::FRESH.words());
         }
         sample.log.clear();
-        sample.table[1] = 0;
+        sample.table[header::ISSUED] = 0;
     }
-    sample.table[0] = f;
+    sample.table[header::F] = f;
 }
 
 fn damage_lengths(random: &mut Random, sample: &mut Sample) {
     match random.below(8) {
         0 => drop(sample.table.pop()),
         1 => sample.table.push(0),
-        2 => sample.table.truncate(random.below(4) as usize),
-        3 => sample.log.extend(vec![0; random.within(1, 6) as usize]),
+        2 => sample.table.truncate(random.below(HEADER as u32 + 1) as usize),
+        3 => sample.log.extend(vec![0; random.within(1, CERTIFICATE_WORDS as u32 - 1) as usize]),
         4 => drop(sample.log.pop()),
         5 => sample.blocks.clear(),
-        6 if random.once_in(8) => sample.log.resize(CERTIFICATE_WORDS * (MAX_SLOTS + random.below(2) as usize), 0),
-        7 if random.once_in(8) => sample.blocks.resize(MAX_SLOTS + random.below(2) as usize, 0),
+        6 if random.once_in(8) => {
+            sample.log.resize(CERTIFICATE_WORDS * (MAX_CERTIFICATES + random.below(2) as usize), 0)
+        }
+        7 if random.once_in(8) => sample.blocks.resize(MAX_BLOCKS + random.below(2) as usize, 0),
         _ => sample.table.extend([0; REPLICA_WORDS]),
     }
 }

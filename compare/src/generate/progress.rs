@@ -25,7 +25,11 @@ pub fn progress(mut random: Random, f: u32, lines: usize, hostile: bool) -> Vec<
     let hosts = Explorer { driver, random, noise: 8 };
     let mut progress = Progress { hosts, view, asleep: None, commits: Vec::new() };
     let mut refused = 0;
-    while progress.hosts.driver.trace.len() < lines && refused < 8 {
+    // Each round makes a call, but for one that only lets its commits go.
+    for _ in 0..2 * lines {
+        if progress.hosts.driver.trace.len() >= lines || refused == 8 {
+            break;
+        }
         let done = match progress.hosts.random.below(8) {
             0 => progress.cut(),
             1..=4 if !progress.commits.is_empty() => progress.chain(),

@@ -3,11 +3,11 @@
 use super::memory::{any_view, Sample};
 use crate::call::*;
 use crate::certificate::*;
-use crate::memory::{Replica, CEILING, LIVE, RECOVERING};
+use crate::memory::{header, Replica, CEILING, FIRST_LIMIT, LIVE, RECOVERING};
 use crate::random::Random;
 
 pub fn make_ready(random: &mut Random, sample: &mut Sample) {
-    let (f, n, issued) = (sample.table[0], sample.n(), sample.table[1]);
+    let (f, n, issued) = (sample.table[header::F], sample.n(), sample.table[header::ISSUED]);
     if sample.line.replica >= n || issued < f + 1 {
         return;
     }
@@ -43,7 +43,7 @@ fn live_at(random: &mut Random, sample: &mut Sample, w: u32) {
     r.status = LIVE;
     r.flag = 0;
     r.min_view = w.clamp(1, CEILING);
-    r.view_limit = (r.min_view + random.pick(&[0, 1, 1, 2, 64])).min(CEILING);
+    r.view_limit = (r.min_view + random.pick(&[0, 1, 1, 2, FIRST_LIMIT])).min(CEILING);
     r.stored_view = random.below(r.min_view.min(8));
     set_caller(sample, r);
 }
@@ -57,7 +57,7 @@ fn signers(random: &mut Random, sample: &Sample, without: Option<u32>) -> Vec<u3
 
 /// A block on a base, made so where there is one above it.
 fn child(random: &mut Random, sample: &mut Sample, base: u32) -> u32 {
-    let added = sample.table[2];
+    let added = sample.table[header::ADDED];
     if base + 1 >= added {
         return random.below(added);
     }
@@ -67,7 +67,7 @@ fn child(random: &mut Random, sample: &mut Sample, base: u32) -> u32 {
 }
 
 fn ready_for_acc(random: &mut Random, sample: &mut Sample, place: u32) {
-    let (view, block) = (any_view(random), random.below(sample.table[2]));
+    let (view, block) = (any_view(random), random.below(sample.table[header::ADDED]));
     sample.line.replica = view % sample.n();
     let of_view = any_view(random);
     let acc = Certificate { kind: ACC, signer: sample.line.replica, view, block, of_view, ..Certificate::default() };
@@ -78,7 +78,7 @@ fn ready_for_acc(random: &mut Random, sample: &mut Sample, place: u32) {
 }
 
 fn ready_for_commits(random: &mut Random, sample: &mut Sample, places: Vec<u32>) {
-    let (view, block) = (any_view(random), random.below(sample.table[2]));
+    let (view, block) = (any_view(random), random.below(sample.table[header::ADDED]));
     let signers = signers(random, sample, None);
     for (&place, &signer) in places.iter().zip(&signers) {
         sample.set_certificate(place, Certificate { kind: COMMIT, signer, view, block, ..Certificate::default() });
@@ -96,7 +96,7 @@ fn ready_for_commits(random: &mut Random, sample: &mut Sample, places: Vec<u32>)
 }
 
 fn ready_for_store(random: &mut Random, sample: &mut Sample, place: u32) {
-    let (view, block) = (any_view(random), random.below(sample.table[2]));
+    let (view, block) = (any_view(random), random.below(sample.table[header::ADDED]));
     let signer = view % sample.n();
     sample.set_certificate(place, Certificate { kind: PROP, signer, view, block, ..Certificate::default() });
     sample.line.number = place;
@@ -117,7 +117,7 @@ fn ready_for_accumulate(random: &mut Random, sample: &mut Sample, places: Vec<u3
     let view = any_view(random);
     let signers = signers(random, sample, None);
     for (&place, &signer) in places.iter().zip(&signers) {
-        let (block, of_view) = (random.below(sample.table[2]), random.below(4));
+        let (block, of_view) = (random.below(sample.table[header::ADDED]), random.below(4));
         let promise = Certificate { kind: NEWVIEW, signer, view, block, of_view, ..Certificate::default() };
         sample.set_certificate(place, promise);
     }
@@ -149,7 +149,7 @@ fn ready_for_recover(random: &mut Random, sample: &mut Sample, places: Vec<u32>)
     let signers = signers(random, sample, if own { None } else { Some(sample.line.replica) });
     let around = random.pick(&[0, r.min_view.saturating_sub(2)]);
     for (&place, &signer) in places.iter().zip(&signers) {
-        let (block, of_view) = (random.below(sample.table[2]), (around + random.below(4)).min(CEILING));
+        let (block, of_view) = (random.below(sample.table[header::ADDED]), (around + random.below(4)).min(CEILING));
         let (view, boot, subject) = (r.min_view, r.boot, sample.line.replica);
         sample.set_certificate(place, Certificate { kind: REPLY, signer, view, block, of_view, subject, boot });
     }

@@ -7,6 +7,7 @@ use super::progress::progress;
 use crate::driver::{script_text, Driver, Line};
 use crate::explore::Explorer;
 use crate::hunt::search::attack;
+use crate::memory::MAX_F;
 use crate::mistake::Correct;
 use crate::random::Random;
 use crate::script::{BLOCK_SLOTS, CERTIFICATE_SLOTS};
@@ -47,7 +48,7 @@ pub fn script(seed: u64) -> Script {
         49..=50 => ("full blocks", full_blocks(part, f)),
         51..=53 => ("counter by cuts", counter_by_cuts(part, f)),
         54 if random.once_in(8) => ("counter by reserves", counter_by_reserves(part, f.min(2))),
-        54..=57 => ("chunk ends", progress(part, random.pick(&[1, 30]), 300, true)),
+        54..=57 => ("chunk ends", progress(part, random.pick(&[1, MAX_F]), 300, true)),
         _ => ("damaged text", hostile(part, f)),
     };
     let plain = script_text(&lines);
@@ -61,8 +62,8 @@ pub fn script(seed: u64) -> Script {
 
 fn any_f(random: &mut Random) -> u32 {
     match random.below(4) {
-        0 => random.within(1, 30),
-        1 => random.pick(&[2, 3, 30]),
+        0 => random.within(1, MAX_F),
+        1 => random.pick(&[2, 3, MAX_F]),
         _ => 1,
     }
 }

@@ -5,6 +5,7 @@
 
 use crate::call::DECIDE;
 use crate::driver::Driver;
+use crate::memory::replica_count;
 use crate::mistake::Mistake;
 use crate::random::Random;
 
@@ -21,7 +22,7 @@ pub struct Attack {
 impl Attack {
     pub fn new(mistake: Option<Mistake>, mut random: Random) -> Attack {
         let f = random.pick(&[1, 1, 1, 2, 2, 3, 5]);
-        let mut roles: Vec<u32> = (0..=2 * f).collect();
+        let mut roles: Vec<u32> = (0..replica_count(f)).collect();
         random.shuffle(&mut roles);
         let late = roles.split_off(f as usize + 1);
         let hinge = roles.pop().unwrap_or(0);

@@ -3,6 +3,7 @@
 use crate::ancestry::is_ancestor;
 use crate::call::{BLOCK, DECIDE, OPEN};
 use crate::driver::{Driver, Line};
+use crate::memory::{replica_count, MAX_F};
 use crate::mistake::{Correct, Rules};
 use crate::panel::panel;
 
@@ -31,7 +32,7 @@ impl Monitor {
     pub fn look<R: Rules>(&mut self, driver: &mut Driver<R>) -> Option<Violation> {
         for place in self.seen..driver.trace.len() {
             let (line, outcome) = &driver.trace[place];
-            if outcome.answer != 0 {
+            if !outcome.is_accepted() {
                 continue;
             }
             let conflict = match line.code {
@@ -51,7 +52,7 @@ impl Monitor {
     fn opened(&mut self, line: &Line) -> Option<Violation> {
         self.parents = vec![0];
         self.tip = 0;
-        self.panels = vec![0; 2 * line.replica as usize + 1];
+        self.panels = vec![0; replica_count(line.replica) as usize];
         None
     }
 
@@ -84,7 +85,7 @@ impl Monitor {
 
 /// Runs the lines from an unopened ledger; the violation and the number of lines up to it.
 pub fn judge<R: Rules>(rules: R, lines: &[Line], slots: (usize, usize)) -> Option<(Violation, usize)> {
-    let opening = lines.first().filter(|line| line.code == OPEN && (1..=30).contains(&line.replica))?;
+    let opening = lines.first().filter(|line| line.code == OPEN && (1..=MAX_F).contains(&line.replica))?;
     let mut driver = Driver::open(rules, opening.replica, slots.0, slots.1);
     let mut monitor = Monitor::default();
     monitor.look(&mut driver);

@@ -1,12 +1,11 @@
 -- What specs/Theorems.antt states.
 use Prim.Native.Nat.{ℕ, _≤_}
-use mathlib.Core.Path.{_≡_, refl, sym, ap}
+use mathlib.Core.Path.{_≡_, ap, _∙_}
 use mathlib.Core.Bool.{true, false}
 use mathlib.Core.List.{List, _++_}
 use lib.Dec.{ltb}
 use Rattle.protocol.specs.declared.Answer.{Answer}
 use Rattle.protocol.specs.Memory.{Memory, replicaCount}
-use Rattle.protocol.specs.Outcome.{outOfRange}
 use Rattle.protocol.specs.FirstNeeds.{isReplica}
 use Rattle.protocol.specs.Runs.{Invocation}
 use Rattle.protocol.specs.Agreement.{Execution, endOf}
@@ -14,10 +13,9 @@ use Rattle.protocol.proofs.Booleans.{tests, by-test}
 use Rattle.protocol.proofs.Formed.{form}
 use Rattle.protocol.proofs.Reached.{panel-height}
 use Rattle.protocol.proofs.Agreement.{reached-by, begins, panel-stays-up}
-use Rattle.checks.proofs.Ready.{no-replica, all-ready}
 use Rattle.ledger.specs.Panel.{panelAnswer}
 use Rattle.ledger.specs.Theorems.{PanelShowsHistory, PanelNeverFalls}
-use Rattle.ledger.proofs.Panels.{panel-refused, panel-shown}
+use Rattle.ledger.proofs.Panels.{shown, panel-refused, panel-shown}
 
 pub panel-shows-history : PanelShowsHistory
 unfolding PanelShowsHistory
@@ -26,7 +24,7 @@ panel-shows-history m f list calls execution i own =
     let h = reached-by m f list calls execution in
     let faults = h .faults in
     let known : isReplica end i ≡ true = omega tests in
-    sym (panel-shown end i _ _ (all-ready end i (form end (h .safe .formed)) known) refl (sym (panel-height f _ end h i own)))
+    panel-shown end i (form end (h .safe .formed)) known ∙ ap shown (panel-height f _ end h i own)
 
 -- A number that is no replica's has no panel.
 no-panel : (m : Memory) (f : ℕ) (list : List ℕ) (calls : List Invocation) → Execution m f list calls → (i : ℕ) → replicaCount f ≤ i
@@ -36,8 +34,7 @@ no-panel m f list calls execution i high =
     let h = reached-by m f list calls execution in
     let faults = h .faults in
     let unknown : isReplica end i ≡ false = omega tests in
-    ap (λ (a : Answer). a .first)
-    (sym (panel-refused end i outOfRange (no-replica end i (form end (h .safe .formed)) unknown) (λ z. omega tests)))
+    ap (λ (a : Answer). a .first) (panel-refused end i (form end (h .safe .formed)) unknown)
 
 pub panel-never-falls : PanelNeverFalls
 unfolding PanelShowsHistory PanelNeverFalls

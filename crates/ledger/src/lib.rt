@@ -5,10 +5,10 @@ ghost use Rattle.protocol.specs.Outcome.{outcome};
 ghost use Rattle.protocol.specs.Runs.{step};
 ghost use Rattle.ledger.specs.Called.{called};
 ghost use Rattle.ledger.specs.Panel.{panelAnswer};
+use checks::FoundReplica;
 use checks::accepted;
 use checks::refused;
 use codes::Coded;
-use layout::DECIDED_BLOCK_AT;
 use protocol::Answer;
 use protocol::Call;
 
@@ -71,10 +71,9 @@ pub fn call_by_code(
 pub fn panel(table: &[u32], log: &[u32], blocks: &[u32], replica: u32) -> Answer
     ensures { λ r. ⌜ r ≡ panelAnswer (memory (now (table .entry)) (now (log .entry)) (now (blocks .entry))) replica ⌝ }
 {
-    let refusal = checks::replica_refusal(table, log, blocks, replica);
-    if refusal != 0 {
-        return refused(refusal);
-    }
-    let decided = layout::replica_word(table, replica, DECIDED_BLOCK_AT);
-    accepted(ancestry::height(blocks, decided), 0)
+    let found = checks::find_replica(table, log, blocks, replica);
+    let FoundReplica::Found(r) = found else {
+        return refused(found.refusal());
+    };
+    accepted(ancestry::height(blocks, r.decided_block), 0)
 }

@@ -5,7 +5,6 @@ use Rattle.protocol.specs.Quorum.{every}
 use Rattle.opening.proofs.fresh_row.Statement.{statement}
 use Rattle.opening.proofs.fresh_row.Tie as tie
 
-
 set-words-requires : tie.Need-set-words-requires
 unfolding every
 set-words-requires c κs = (search needs, record { paired = refl; within = refl })

@@ -1,0 +1,51 @@
+-- The proof of each claim.
+use Rattle.claims.specs.Claims.{Claims}
+use Rattle.protocol.proofs.Rules.{refused-changes-nothing, lowest-wins, opening-tests-faults-first}
+use Rattle.protocol.proofs.LeavesForm.{accepted-leaves-form}
+use Rattle.protocol.proofs.Frame.{only-named-change, lengths-stay}
+use Rattle.protocol.proofs.Unread.{past-counts-unread}
+use Rattle.script.proofs.Theorems.{refused-leaves-session, before-opening, answers-printable}
+use Rattle.protocol.proofs.Values.{values-fit}
+use Rattle.protocol.proofs.Cases.{cases-hold}
+use Rattle.stream.proofs.Theorems.{chunks-do-not-matter}
+use Rattle.stream.proofs.Cases.{worked-script, worked-script-tells, worked-script-opens}
+use Rattle.field.proofs.Counts.{count-is-least}
+use Rattle.field.proofs.Theorems.{written-reads-back, read-writes-back, read-is-bounded}
+use Rattle.protocol.proofs.Agreement.{agreement, words-match-history, only-appended, would-agree}
+use Rattle.ledger.proofs.Theorems.{panel-shows-history, panel-never-falls}
+use Rattle.script.proofs.Agreement.{scripts-agree, script-is-execution}
+use Rattle.stream.proofs.Agreement.{program-agrees}
+
+pub proved : Claims
+proved =
+    record {
+      refusedChangesNothing = refused-changes-nothing;
+      acceptedLeavesForm = accepted-leaves-form;
+      onlyNamedChange = only-named-change;
+      lengthsStay = lengths-stay;
+      pastCountsUnread = past-counts-unread;
+      refusedLeavesSession = refused-leaves-session;
+      lowestWins = lowest-wins;
+      openingTestsFaultsFirst = opening-tests-faults-first;
+      valuesFit = values-fit;
+      casesHold = cases-hold;
+      beforeOpening = before-opening;
+      answersPrintable = answers-printable;
+      chunksDoNotMatter = chunks-do-not-matter;
+      workedScript = worked-script;
+      countIsLeast = count-is-least;
+      writtenReadsBack = written-reads-back;
+      readWritesBack = read-writes-back;
+      readIsBounded = read-is-bounded;
+      agreement = agreement;
+      wordsMatchHistory = words-match-history;
+      onlyAppended = only-appended;
+      wouldAgree = would-agree;
+      panelShowsHistory = panel-shows-history;
+      panelNeverFalls = panel-never-falls;
+      scriptsAgree = scripts-agree;
+      scriptIsExecution = script-is-execution;
+      programAgrees = program-agrees;
+      workedScriptTells = worked-script-tells;
+      workedScriptOpens = worked-script-opens;
+    }

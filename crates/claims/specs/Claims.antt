@@ -1,0 +1,77 @@
+-- Everything that is claimed, on one page: each field is a statement of some specs/, and one value of the record, in proofs/, holds the
+-- proof of each. A proof that is missing, or that asks more than its statement does, fails this crate; the gate holds that no statement
+-- of any specs/ is missing here.
+use Rattle.protocol.specs.Theorems.{RefusedChangesNothing, AcceptedLeavesForm, OnlyNamedChange, LengthsStay, PastCountsUnread, LowestWins}
+use Rattle.protocol.specs.Theorems.{OpeningTestsFaultsFirst, ValuesFit}
+use Rattle.script.specs.Theorems.{RefusedLeavesSession, BeforeOpening, AnswersPrintable}
+use Rattle.protocol.specs.Cases.{CasesHold}
+use Rattle.stream.specs.Theorems.{ChunksDoNotMatter}
+use Rattle.stream.specs.Cases.{WorkedScript, WorkedScriptTells, WorkedScriptOpens}
+use Rattle.field.specs.Theorems.{CountIsLeast, WrittenReadsBack, ReadWritesBack, ReadIsBounded}
+use Rattle.protocol.specs.Agreement.{Agreement, WordsMatchHistory, OnlyAppended, WouldAgree}
+use Rattle.ledger.specs.Theorems.{PanelShowsHistory, PanelNeverFalls}
+use Rattle.script.specs.Agreement.{ScriptsAgree, ScriptIsExecution}
+use Rattle.stream.specs.Agreement.{ProgramAgrees}
+
+pub record Claims : Type 0 where
+  -- ---- Demand 1: any contents, no fault. (That every call ends without a fault is what the check proves of each function.)
+  -- a refused call leaves every word and returns its number and two zeros
+  pub refusedChangesNothing : RefusedChangesNothing
+  -- an accepted call leaves well-formed memory
+  pub acceptedLeavesForm : AcceptedLeavesForm
+  -- a call changes at most the words named for it
+  pub onlyNamedChange : OnlyNamedChange
+  -- lengths never change
+  pub lengthsStay : LengthsStay
+  -- words past the counts change no answer
+  pub pastCountsUnread : PastCountsUnread
+  -- a refused line leaves the words and the f in use
+  pub refusedLeavesSession : RefusedLeavesSession
+  -- ---- Demand 2: accepted exactly when the rules accept. (The contracts are equations with the rules; these follow from the rules.)
+  -- of several refusals the lowest is returned
+  pub lowestWins : LowestWins
+  -- opening tests f before lengths
+  pub openingTestsFaultsFirst : OpeningTestsFaultsFirst
+  -- a number is at most 9, a value at most 1,000,000
+  pub valuesFit : ValuesFit
+  -- the cases that document 01 marks P
+  pub casesHold : CasesHold
+  -- before an accepted opening a line gives 1
+  pub beforeOpening : BeforeOpening
+  -- every answer fits in its columns
+  pub answersPrintable : AnswersPrintable
+  -- the output is that of the bytes, in whatever chunks they come
+  pub chunksDoNotMatter : ChunksDoNotMatter
+  -- the worked script, byte for byte
+  pub workedScript : WorkedScript
+  -- a number has no digit too many
+  pub countIsLeast : CountIsLeast
+  -- what was written is what is read
+  pub writtenReadsBack : WrittenReadsBack
+  -- what was read writes the same bytes
+  pub readWritesBack : ReadWritesBack
+  -- a number up to 99,999,999, or 4,294,967,295
+  pub readIsBounded : ReadIsBounded
+  -- ---- Demand 3: decisions never conflict, and no panel falls.
+  -- of two decided blocks one is in the line of the other; no panel falls
+  pub agreement : Agreement
+  -- the words are what calls and answers told
+  pub wordsMatchHistory : WordsMatchHistory
+  -- certificates and blocks are only ever appended
+  pub onlyAppended : OnlyAppended
+  -- the same of blocks that a Decide would name
+  pub wouldAgree : WouldAgree
+  -- what a panel reads is the history's panel
+  pub panelShowsHistory : PanelShowsHistory
+  -- what a panel reads never falls
+  pub panelNeverFalls : PanelNeverFalls
+  -- demand 3 of lines and their answers
+  pub scriptsAgree : ScriptsAgree
+  -- lines after an opening are such a list of calls
+  pub scriptIsExecution : ScriptIsExecution
+  -- demand 3 of the bytes read and written
+  pub programAgrees : ProgramAgrees
+  -- what the worked script tells
+  pub workedScriptTells : WorkedScriptTells
+  -- the premise of ProgramAgrees holds of it
+  pub workedScriptOpens : WorkedScriptOpens

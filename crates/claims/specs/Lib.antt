@@ -1,0 +1,2 @@
+-- To believe: everything that is claimed.
+pub mod Claims

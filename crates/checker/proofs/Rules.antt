@@ -1,61 +1,72 @@
--- What the steps of the calls ask, once the first needs hold; and the three rules, as calls that issue a certificate.
-use Prim.Native.Nat.{ℕ, _+_, _≤_}
-use mathlib.Core.Path.{refl}
-use mathlib.Core.Bool.{cond}
-use mathlib.Core.List.{List, [], _∷_}
+-- The three rules, from their first need on.
+use Prim.Native.Nat.{ℕ}
+use mathlib.Core.Path.{_≡_, refl}
+use mathlib.Core.Bool.{true}
+use mathlib.Core.List.{List, _++_}
 use Rattle.protocol.specs.declared.Justification.{Justification}
-use Rattle.protocol.specs.Memory.{Memory, _becomes_, ceiling, faultBound, replica, certificate, lowered, raised}
-use Rattle.protocol.specs.Memory.{minViewAt, flagAt, storedViewAt, storedBlockAt}
+use Rattle.protocol.specs.Memory.{Memory, Certificate, faultBound, replica, certificate, parent}
 use Rattle.protocol.specs.Certificates.{propOf, commitOf, newViewOf}
-use Rattle.protocol.specs.Form.{wellFormed}
-use Rattle.protocol.specs.Quorum.{allIssued, certificatesOf}
-use Rattle.protocol.specs.Outcome.{_else_, wrongForm, outOfRange, unknownNumber}
-use Rattle.protocol.specs.Calls.{isReplica, isBlock, numbersOf, isSized, proposalView, isAhead, prepare, store, view}
-use Rattle.protocol.proofs.Booleans.{tests}
-use Rattle.layout.proofs.Within.{certificate-bounds}
-use Rattle.certificates.proofs.Fits.{log-fits}
-use Rattle.checks.specs.Needs.{replicaNeeds, numberNeeds}
-use Rattle.checks.proofs.Ready.{Ready, ReadyNumber}
-use Rattle.checks.proofs.Ends.{row-within}
-use Rattle.checks.proofs.Issues.{Issues}
-use Rattle.checker.specs.Steps.{Issuable, storeTests, viewTests}
-use Rattle.checker.specs.Justifications.{justificationNeeds, prepareTests}
-use Rattle.checker.proofs.Justifications.{swapped}
+use Rattle.protocol.specs.Quorum.{certificatesOf}
+use Rattle.protocol.specs.Outcome.{Need}
+use Rattle.protocol.specs.FirstNeeds.{isBlock, replicaNeeds, numberNeeds}
+use Rattle.protocol.specs.Calls.{numbersOf, proposalView, justifiedBlock, proposalNeeds, storeNeeds, viewNeeds, prepare, store, view}
+use Rattle.checks.specs.declared.Tested.{Tested}
+use Rattle.checks.specs.declared.Tested.the-variants.{Passed}
+use Rattle.checks.specs.Verdicts.{tested}
+use Rattle.checks.proofs.Ready.{Ready}
+use Rattle.checks.proofs.Passing.{At, held, passed}
+use Rattle.issuing.proofs.Issues.{slot, start}
+use Rattle.checker.specs.Justifications.{firstNeeds, JustificationIn, judgementNeeds}
+use Rattle.checker.proofs.Justifications.{justification-in}
 
-module _ (m : Memory) (i : ℕ) where
-  pub issuable : Ready m i → Issuable (m .table) (m .log) i
-  issuable h = record { fits = log-fits m (h .formed); row = row-within m i h }
+module _ (m : Memory) (i b : ℕ) (j : Justification) (list : List ℕ) where
+  abbrev pub justifying : List Certificate
+  justifying = certificatesOf m (numbersOf j list)
 
-  pub proposal-view : (number : ℕ) → ReadyNumber m i number → certificate m number .view ≤ ceiling
-  proposal-view number h = let issued = h .issued in certificate-bounds m (h .ready .formed) number (omega tests) .view
+  abbrev pub proposalRest : List Need
+  proposalRest =
+      let w = proposalView j justifying in
+      proposalNeeds (faultBound m) i (replica m i) b (parent m b) w (justifiedBlock j justifying) ++ slot m (propOf i w b)
 
-  pub preparing : (b : ℕ) (j : Justification) (list : List ℕ) → let cs = certificatesOf m (numbersOf j list) in
-      Issues m (prepare m i b j list) (justificationNeeds m i j list) (prepareTests m i b j list) i (flagAt becomes raised ∷ [])
-      (propOf i (proposalView j cs) b)
-  unfolding prepare justificationNeeds prepareTests
-  preparing b j list =
+  abbrev pub judgementRest : List Need
+  judgementRest = judgementNeeds i j justifying ++ proposalRest
+
+  pub prepare-at : At (prepare m i b j list) (replicaNeeds m i ++ (firstNeeds m (replica m i) b j list ++ judgementRest))
+  unfolding prepare
+  prepare-at = start _ _ _ _ _ _ refl
+
+  -- What is known once the first needs hold.
+  pub record Known : Type 0 where
+    pub ready : Ready m i
+    pub block : isBlock m b ≡ true
+    pub within : JustificationIn (m .log) j list
+    pub at : At (prepare m i b j list) judgementRest
+
+  pub known : Ready m i → At (prepare m i b j list) (firstNeeds m (replica m i) b j list ++ judgementRest) → {t : Tested}
+      → t ≡ tested (firstNeeds m (replica m i) b j list) → t ≡ Passed → Known
+  known ready at is told =
+      let h = held (firstNeeds m (replica m i) b j list) refl is told in
       record {
-        needs = _;
-        is = refl;
-        numbered = refl;
-        first-numbered = refl;
-        same-refusal =
-            swapped (wellFormed m else wrongForm ∷ isReplica m i else outOfRange ∷ isSized m j list else outOfRange ∷ [])
-            (isBlock m b) (allIssued m (numbersOf j list)) unknownNumber _;
+        ready = ready;
+        block = h .1 .1 .0;
+        within = justification-in m j list (ready .formed) (h .0, (h .1 .0, tt));
+        at = passed (firstNeeds m (replica m i) b j list) refl is judgementRest at told;
       }
 
-  pub storing : (number : ℕ) → let p = certificate m number in
-      Issues m (store m i number) (numberNeeds m i number)
-      (storeTests (faultBound m) (replica m i) p) i
-      (storedViewAt becomes p .view ∷ storedBlockAt becomes p .block ∷ minViewAt becomes (p .view + 1)
-      ∷ flagAt becomes lowered ∷ [])
-      (commitOf i (p .view) (p .block))
-  unfolding store
-  storing number = record { needs = _; is = refl; numbered = refl; first-numbered = refl; same-refusal = refl }
+module _ (m : Memory) (i number : ℕ) where
+  abbrev pub storeRest : List Need
+  storeRest =
+      let p = certificate m number in
+      storeNeeds (faultBound m) (replica m i) p ++ slot m (commitOf i (p .view) (p .block))
 
-  pub viewing : (w : ℕ) → let r = replica m i in
-      Issues m (view m i w) (replicaNeeds m i) (viewTests (replica m i) w) i
-      (flagAt becomes cond (isAhead r w) lowered (r .flag) ∷ minViewAt becomes w ∷ [])
-      (newViewOf i w (r .storedBlock) (r .storedView))
+  pub store-at : At (store m i number) (replicaNeeds m i ++ (numberNeeds m number ++ storeRest))
+  unfolding store
+  store-at = start _ _ _ _ _ _ refl
+
+module _ (m : Memory) (i w : ℕ) where
+  abbrev pub viewRest : List Need
+  viewRest = let r = replica m i in viewNeeds r w ++ slot m (newViewOf i w (r .storedBlock) (r .storedView))
+
+  pub view-at : At (view m i w) (replicaNeeds m i ++ viewRest)
   unfolding view
-  viewing w = record { needs = _; is = refl; numbered = refl; first-numbered = refl; same-refusal = refl }
+  view-at = start _ _ _ _ _ _ refl

@@ -1,0 +1,15 @@
+-- One need after the other.
+use borrow.Author.Needs.{needs}
+use Rattle.checks.specs.Verdicts.{tested}
+use Rattle.checker.proofs.test_store.Statement.{statement}
+use Rattle.checker.proofs.test_store.Tie as tie
+
+returns : tie.Need-returns
+unfolding tested
+returns c = rw (c .need5 .ensures, c .before .before .before .need4 .ensures, c .before .before .before .before .before .before .need3 .ensures, c .before .before .before .before .before .before .before .leads .ensures, c .before .before .before .before .before .before .before .before .need2 .ensures, c .before .before .before .before .before .before .before .before .before .before .need .ensures)
+
+pub test-store-spec : {M : Type 1} → statement M
+test-store-spec =
+    tie.close
+    (tie.spec (λ c κs. search needs) (λ c κs. search needs) (λ c κs. search needs) (λ c κs. search needs)
+    (λ c κs. search needs) (λ c κs. search needs) returns)

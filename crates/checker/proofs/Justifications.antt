@@ -1,63 +1,59 @@
--- Laws of justifications: what their needs tell, and how a call goes on from what judging one answers.
-use Prim.Native.Nat.{ℕ, _≤_}
+-- Justifications: what their needs tell, how a call goes on from what judging one answers, and prepare, from one test to the next.
+use Prim.Native.Nat.{ℕ, _≤_, _<_}
 use mathlib.Core.Path.{_≡_, refl, sym, _∙_}
-use mathlib.Core.Bool.{Bool, true, false, _&&_}
+use mathlib.Core.Bool.{true}
 use mathlib.Core.List.{List, [], _∷_, _++_}
-use native.Mathlib.Omega.{arith}
-use lib.ListN.{getD}
+use lib.ListN.{length, getD}
 use Rattle.protocol.specs.declared.Answer.{Answer}
 use Rattle.protocol.specs.declared.Justification.{Justification}
 use Rattle.protocol.specs.declared.Justification.the-variants.{Acc, Commits}
-use Rattle.protocol.specs.Memory.{Memory, Certificate, ceiling, memory, certificate}
-use Rattle.protocol.specs.Form.{allHold}
-use Rattle.protocol.specs.Quorum.{every, isIssued, isCommitQuorum}
-use Rattle.protocol.specs.Outcome.{Need, Rule, follow}
-use Rattle.protocol.specs.Calls.{justificationNeeds}
-use Rattle.protocol.proofs.Booleans.{tests, and-true}
+use Rattle.protocol.specs.Memory.{Memory, Certificate, ceiling, faultBound, live, memory, replica, certificate, parent}
+use Rattle.protocol.specs.Certificates.{propOf}
+use Rattle.protocol.specs.Quorum.{isIssued, certificatesOf, isCommitQuorum}
+use Rattle.protocol.specs.Outcome.{Need, _else_, Rule, follow, unknownNumber, wrongStatus}
+use Rattle.protocol.specs.FirstNeeds.{isBlock, replicaNeeds}
+use Rattle.protocol.specs.Calls.{hasStatus, numbersOf, isSized, justificationNeeds, proposalNeeds, prepare}
+use Rattle.protocol.proofs.Booleans.{tests}
 use Rattle.protocol.proofs.Lists.{every-at}
 use Rattle.protocol.proofs.Needs.{Holds}
-use Rattle.protocol.proofs.Formed.{Formed, sizes}
+use Rattle.protocol.proofs.Formed.{Formed}
 use Rattle.layout.proofs.Within.{certificate-bounds}
 use Rattle.quorum.specs.Lists.{certificatesIn}
 use Rattle.quorum.proofs.Accepted.{listed, some-listed, commit-at}
+use Rattle.records.specs.declared.Replica.{Replica}
+use Rattle.checks.specs.declared.Tested.{Tested}
+use Rattle.checks.specs.declared.Tested.the-variants.{Passed}
+use Rattle.checks.specs.Verdicts.{tested}
+use Rattle.checks.proofs.Ready.{Ready}
 use Rattle.checks.proofs.Verdicts.{was-refused, was-found}
-use Rattle.checks.proofs.Passing.{At, on, stops}
+use Rattle.checks.proofs.Passing.{At, on, stops, ReplicaFound, held, passed}
+use Rattle.issuing.proofs.Issues.{slot, start}
 use Rattle.checker.specs.declared.justification.Justified.{Justified}
 use Rattle.checker.specs.declared.justification.Judgement.{Judgement}
 use Rattle.checker.specs.declared.justification.Judgement.the-variants.{By, Refused}
-use Rattle.checker.specs.Justifications.{CommitsIn, JustificationIn, justifiedBy, judgementNeeds, judgementOf, judgementRefusal}
+use Rattle.checker.specs.Justifications.{Justifying, justifiedBy, judgementNeeds, judgementOf, judgementRefusal}
 
-pub and-alone : (t : Bool) → (t && true) ≡ t
-and-alone true = refl
-and-alone false = refl
-
-pub both-hold : (s t : Bool) → allHold (s ∷ t ∷ []) ≡ (s && t)
-unfolding allHold
-both-hold true t = and-alone t
-both-hold false t = refl
-
--- The view of a certificate has a next one;
+-- The view of a certificate has a next one,
 pub view-bound : (m : Memory) (number : ℕ) → Formed m → isIssued m number ≡ true → certificate m number .view ≤ ceiling
 view-bound m number f e = certificate-bounds m f number (omega (tests, e)) .view
 
--- so has that of a commit quorum.
-pub quorum-view-bound : (log list : List ℕ) (view block : ℕ) → CommitsIn log list
+-- and so has that of a commit quorum.
+pub quorum-view-bound : (log list : List ℕ) (view block : ℕ) → Justifying log list
     → isCommitQuorum view block (certificatesIn log list) ≡ true → view ≤ ceiling
 quorum-view-bound log list view block h e =
-    let q = commit-at (memory [] log []) list view block e 0 (h .some) in
-    omega (arith, q, h .view)
+    let q = commit-at (memory [] log []) list view block e 0 (h .some) in omega (tests, q, h .view)
 
-pub justification-in : (m : Memory) (j : Justification) (list : List ℕ) → Formed m → Holds (justificationNeeds m j list)
-    → JustificationIn (m .log) j list
-unfolding every
-justification-in m (Acc number) list f h =
-    let issued = and-true (isIssued m number) true (h .1 .0) .0 in
-    let z = sizes m f in
-    omega tests
-justification-in m (Commits view block) list f h =
-    let some = some-listed m list (h .0) in
-    let first = every-at (isIssued m) list 0 (h .1 .0) 0 some in
-    record { listed = listed m list f (h .1 .0); some = some; view = view-bound m (getD list 0 0) f first }
+some-number : (m : Memory) (j : Justification) (list : List ℕ) → isSized m j list ≡ true → 0 < length (numbersOf j list)
+some-number m (Acc number) list e = omega tests
+some-number m (Commits view block) list e = some-listed m list e
+
+justifying : (m : Memory) (j : Justification) (list : List ℕ) → Formed m → Holds (justificationNeeds m j list)
+    → Justifying (m .log) (numbersOf j list)
+justifying m j list f h =
+    let ns = numbersOf j list in
+    let some = some-number m j list (h .0) in
+    let first = every-at (isIssued m) ns 0 (h .1 .0) 0 some in
+    record { listed = listed m ns f (h .1 .0); some = some; view = view-bound m (getD ns 0 0) f first }
 
 -- ---- by what judging answers
 
@@ -70,11 +66,58 @@ module _ (i : ℕ) (j : Justification) (cs : List Certificate) {rule : Rule} (re
     (at : At rule (judgementNeeds i j cs ++ rest)) {g : Judgement} (is : g ≡ judgementOf i j cs) where
   pub not-judged : {m : Memory} {a : Answer} {n k : ℕ} → g ≡ Refused n → k ≡ judgementRefusal g
       → a ≡ record { number = k; first = 0; second = 0 } → record { answer = a; memory = m } ≡ follow m rule
+  unfolding judgementOf
   not-judged told refusal answer =
       stops (refusal ∙ rw told refl) answer (judgementNeeds i j cs) rest at
       (was-refused _ _ (judgementNeeds i j cs) (λ e. cc) (λ k e. cc) (sym told ∙ is))
 
   pub judged : {x : Justified} → g ≡ By x → Judged j cs rule rest x
+  unfolding judgementOf
   judged told =
       let w = was-found _ _ (judgementNeeds i j cs) (λ k e. cc) (sym told ∙ is) in
       record { given = let e = w .1 in cc; at = on (judgementNeeds i j cs) rest refl at (w .0) }
+
+-- ---- prepare: its first needs, those that rest on what the justification gives, and what is still to be tested
+
+module _ (m : Memory) (i b : ℕ) (j : Justification) (list : List ℕ) where
+  abbrev pub firstNeeds : List Need
+  firstNeeds = justificationNeeds m j list ++ (isBlock m b else unknownNumber ∷ hasStatus live (replica m i) else wrongStatus ∷ [])
+
+  abbrev pub given : Justified
+  given = justifiedBy j (certificatesOf m (numbersOf j list))
+
+  abbrev pub lastNeeds : List Need
+  lastNeeds = proposalNeeds (faultBound m) i (replica m i) b (parent m b) (given .view) (given .block)
+
+  abbrev afterJudging : List Need
+  afterJudging = lastNeeds ++ slot m (propOf i (given .view) b)
+
+  abbrev afterFirst : List Need
+  afterFirst = judgementNeeds i j (certificatesOf m (numbersOf j list)) ++ afterJudging
+
+  pub prepare-at : At (prepare m i b j list) (replicaNeeds m i ++ (firstNeeds ++ afterFirst))
+  unfolding prepare
+  prepare-at = start _ _ _ _ _ _ refl
+
+  -- What is known once the replica is found, the first needs hold, and the justification is judged.
+  abbrev pub Found : Replica → Type 0
+  Found r = ReplicaFound m i (prepare m i b j list) (firstNeeds ++ afterFirst) r
+
+  pub record Known : Type 0 where
+    pub ready : Ready m i
+    pub block : isBlock m b ≡ true
+    pub within : Justifying (m .log) (numbersOf j list)
+    pub at : At (prepare m i b j list) afterFirst
+
+  abbrev pub Proposes : Justified → Type 0
+  Proposes x = Judged j (certificatesOf m (numbersOf j list)) (prepare m i b j list) afterJudging x
+
+  pub known : {r : Replica} → Found r → {t : Tested} → t ≡ tested firstNeeds → t ≡ Passed → Known
+  known r is told =
+      let h = held firstNeeds refl is told in
+      record {
+        ready = r .ready;
+        block = h .1 .1 .0;
+        within = justifying m j list (r .ready .formed) (h .0, (h .1 .0, tt));
+        at = passed firstNeeds refl is afterFirst (r .at) told;
+      }

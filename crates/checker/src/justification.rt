@@ -7,7 +7,7 @@ ghost use Rattle.protocol.specs.Memory.{memory, certificateCountAt};
 ghost use Rattle.protocol.specs.Calls.{numbersOf, justificationNeeds};
 ghost use Rattle.quorum.specs.Lists.{certificatesIn};
 ghost use Rattle.checks.specs.Verdicts.{tested};
-ghost use Rattle.checker.specs.Justifications.{JustificationIn, judgementOf, judgementRefusal};
+ghost use Rattle.checker.specs.Justifications.{Justifying, judgementOf, judgementRefusal};
 use checks::Tested;
 use checks::need;
 use layout::ACC;
@@ -60,7 +60,7 @@ pub fn test_justification(table: &[u32], justification: Justification, list: &[u
 // An ACC that the replica has signed, or a commit quorum of the view and the block that the caller names: only then is that view
 // one of the log, which has a next one.
 pub fn judge(log: &[u32], replica: u32, justification: Justification, list: &[u32]) -> Judgement
-    requires { ⌜ JustificationIn (now log) justification (now list) ⌝ }
+    requires { ⌜ Justifying (now log) (numbersOf justification (now list)) ⌝ }
     ensures { λ r. ⌜ r ≡ judgementOf replica justification
         (certificatesIn (now (log .entry)) (numbersOf justification (now (list .entry)))) ⌝ }
 {

@@ -1,10 +1,8 @@
 // The checker of a replica: what it signs, and the words that it keeps so as never to sign against itself.
 ghost use mathlib.Core.Path.{_≡_};
 ghost use mathlib.Core.Bool.{cond};
-ghost use mathlib.Core.List.{List};
-ghost use Prim.Native.Nat.{ℕ, _≤_};
-ghost use lib.ListN.{length};
-ghost use Rattle.protocol.specs.Memory.{memory, maxFaultBound, rowStart, lowered};
+ghost use Prim.Native.Nat.{_≤_};
+ghost use Rattle.protocol.specs.Memory.{maxFaultBound, lowered};
 ghost use Rattle.protocol.specs.Outcome.{outcome, outcomeBy};
 ghost use Rattle.protocol.specs.Calls.{
   isAhead,
@@ -18,7 +16,6 @@ ghost use Rattle.protocol.specs.Calls.{
 ghost use Rattle.certificates.specs.Filing.{certificateOf};
 ghost use Rattle.records.specs.Replicas.{replicaOf};
 ghost use Rattle.checks.specs.Verdicts.{tested};
-ghost use Rattle.checker.specs.Justifications.{firstNeeds};
 use self::justification::Judgement;
 use self::justification::Justified;
 use certificates::Certificate;
@@ -79,24 +76,7 @@ fn of_kind(kind: u32, signer: u32, view: u32, block: u32) -> Certificate
 
 // ---- prepare
 
-// The needs of prepare up to what the justification gives.
-fn test_prepare(
-    table: &[u32],
-    r: Replica,
-    block: u32,
-    justification: Justification,
-    list: &[u32],
-) -> Tested
-    requires { ⌜ rowStart ≤ length (now table) ⌝ }
-    ensures { λ t. ⌜ ((l b : List ℕ) → t
-        ≡ tested (firstNeeds (memory (now (table .entry)) l b) (replicaOf r) block justification (now (list .entry)))) ⌝ }
-{
-    let tested = justification::test_justification(table, justification, list);
-    let tested = need(tested, block < table[BLOCK_COUNT_AT], UNKNOWN_NUMBER);
-    need(tested, r.status == LIVE, WRONG_STATUS)
-}
-
-// Those that rest on what it gives.
+// The needs of prepare that rest on what the justification gives.
 fn test_proposal(
     f: u32,
     replica: u32,
@@ -135,7 +115,9 @@ pub fn prepare(
     let FoundReplica::Found(r) = found else {
         return refused(found.refusal());
     };
-    let tested = test_prepare(table, r, block, justification, list);
+    let tested = justification::test_justification(table, justification, list);
+    let tested = need(tested, block < table[BLOCK_COUNT_AT], UNKNOWN_NUMBER);
+    let tested = need(tested, r.status == LIVE, WRONG_STATUS);
     let Tested::Passed = tested else {
         return refused(tested.refusal());
     };

@@ -6,19 +6,10 @@ use Rattle.checker.proofs.test_proposal.Tie as tie
 
 returns : tie.Need-returns
 unfolding tested
-returns c =
-    rw (
-      c .need6 .ensures,
-      c .before .before .before .need5 .ensures,
-      c .before .before .before .before .before .need4 .ensures,
-      c .before .before .before .before .before .before .before .before .need3 .ensures,
-      c .before .before .before .before .before .before .before .before .before .before .need2 .ensures,
-      c .before .before .before .before .before .before .before .before .before .before .before .need .ensures,
-      c .before .before .before .before .before .before .before .before .before .before .before .before .leads .ensures,
-    )
+returns c = cc
 
 pub test-proposal-spec : {M : Type 1} → statement M
 test-proposal-spec =
     tie.close
-    (tie.spec (λ c κs. search needs) (λ c κs. search needs) (λ c κs. search needs) (λ c κs. search needs)
-    (λ c κs. search needs) (λ c κs. search needs) (λ c κs. search needs) returns)
+    (tie.spec (λ c κs. search needs) (λ c κs. search needs) (λ c κs. search needs) (λ c κs. search needs) (λ c κs. search needs)
+    (λ c κs. search needs) (λ c κs. search needs) returns)

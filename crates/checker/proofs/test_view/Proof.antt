@@ -6,10 +6,9 @@ use Rattle.checker.proofs.test_view.Tie as tie
 
 returns : tie.Need-returns
 unfolding tested
-returns c = rw (c .need5 .ensures, c .before .before .need4 .ensures, c .before .before .before .before .need3 .ensures, c .before .before .before .before .before .before .need2 .ensures, c .before .before .before .before .before .before .before .need .ensures)
+returns c = cc
 
 pub test-view-spec : {M : Type 1} → statement M
 test-view-spec =
     tie.close
-    (tie.spec (λ c κs. search needs) (λ c κs. search needs) (λ c κs. search needs) (λ c κs. search needs)
-    (λ c κs. search needs) returns)
+    (tie.spec (λ c κs. search needs) (λ c κs. search needs) (λ c κs. search needs) (λ c κs. search needs) (λ c κs. search needs) returns)

@@ -1,12 +1,21 @@
 // What lets a leader propose (document 01: the ground of a proposal).
 ghost use mathlib.Core.Path.{_≡_};
-ghost use Rattle.protocol.specs.Memory.{memory};
-ghost use Rattle.protocol.specs.Outcome.{firstRefusal};
-ghost use Rattle.protocol.specs.Calls.{numbersOf};
+ghost use mathlib.Core.List.{List};
+ghost use Prim.Native.Nat.{ℕ, _<_};
+ghost use lib.ListN.{length};
+ghost use Rattle.protocol.specs.Memory.{memory, certificateCountAt};
+ghost use Rattle.protocol.specs.Calls.{numbersOf, justificationNeeds};
 ghost use Rattle.quorum.specs.Lists.{certificatesIn};
-ghost use Rattle.checker.specs.Justifications.{JustificationIn, justificationNeeds, judgementOf};
+ghost use Rattle.checks.specs.Verdicts.{tested};
+ghost use Rattle.checker.specs.Justifications.{Justifying, judgementOf, judgementRefusal};
+use checks::Tested;
+use checks::need;
 use layout::ACC;
+use layout::CERTIFICATE_COUNT_AT;
+use protocol::ACCEPTED;
 use protocol::Justification;
+use protocol::UNKNOWN_NUMBER;
+use protocol::WRONG_CERTIFICATE;
 
 // What a justification that holds gives: the view to propose in, and the block to build on.
 pub struct Justified {
@@ -14,50 +23,56 @@ pub struct Justified {
     pub block: u32,
 }
 
-// Whether a justification holds, and what it gives then.
+// What a justification gives, or the refusal.
 pub enum Judgement {
     By(Justified),
-    Unjustified,
+    Refused(u32),
 }
 
-// The shared first tests, of the numbers that a justification has.
-pub fn justification_refusal(
-    table: &[u32],
-    log: &[u32],
-    blocks: &[u32],
-    replica: u32,
-    justification: Justification,
-    list: &[u32],
-) -> u32
-    ensures { λ n. ⌜ n ≡ firstRefusal (justificationNeeds (memory (now (table .entry)) (now (log .entry)) (now (blocks .entry)))
-        replica justification (now (list .entry))) ⌝ }
+// The refusal that it holds, for a call to hand up.
+impl Judgement {
+    pub fn refusal(self) -> u32
+        ensures { λ r. ⌜ r ≡ judgementRefusal self ⌝ }
+    {
+        match self {
+            Judgement::By(_) => ACCEPTED,
+            Judgement::Refused(number) => number,
+        }
+    }
+}
+
+// The certificate numbers of a justification: an ACC's (3), or a list's length (2) and its numbers (3).
+pub fn test_justification(table: &[u32], justification: Justification, list: &[u32]) -> Tested
+    requires { ⌜ certificateCountAt < length (now table) ⌝ }
+    ensures { λ t. ⌜ ((l b : List ℕ) → t
+        ≡ tested (justificationNeeds (memory (now (table .entry)) l b) justification (now (list .entry)))) ⌝ }
 {
     match justification {
-        Justification::Acc(number) => checks::number_refusal(table, log, blocks, replica, number),
-        Justification::Commits(_, _) => checks::list_refusal(table, log, blocks, replica, list),
+        Justification::Acc(number) => need(
+            Tested::Passed,
+            number < table[CERTIFICATE_COUNT_AT],
+            UNKNOWN_NUMBER,
+        ),
+        Justification::Commits(_, _) => checks::test_list(table, list),
     }
 }
 
 // An ACC that the replica has signed, or a commit quorum of the view and the block that the caller names: only then is that view
 // one of the log, which has a next one.
 pub fn judge(log: &[u32], replica: u32, justification: Justification, list: &[u32]) -> Judgement
-    requires { ⌜ JustificationIn (now log) justification (now list) ⌝ }
+    requires { ⌜ Justifying (now log) (numbersOf justification (now list)) ⌝ }
     ensures { λ r. ⌜ r ≡ judgementOf replica justification
         (certificatesIn (now (log .entry)) (numbersOf justification (now (list .entry)))) ⌝ }
 {
     match justification {
         Justification::Acc(number) => {
             let acc = records::certificate_in(log, number);
-            if acc.kind != ACC {
-                return Judgement::Unjustified;
+            if (acc.kind == ACC) & (acc.signer == replica) {
+                return Judgement::By(Justified {
+                    view: acc.view,
+                    block: acc.block,
+                });
             }
-            if acc.signer != replica {
-                return Judgement::Unjustified;
-            }
-            Judgement::By(Justified {
-                view: acc.view,
-                block: acc.block,
-            })
         }
         Justification::Commits(view, block) => {
             if quorum::is_commit_quorum(log, list, view, block) {
@@ -66,7 +81,7 @@ pub fn judge(log: &[u32], replica: u32, justification: Justification, list: &[u3
                     block,
                 });
             }
-            Judgement::Unjustified
         }
     }
+    Judgement::Refused(WRONG_CERTIFICATE)
 }

@@ -40,7 +40,7 @@ module _ {rule : Rule} where
   accepts m at e after = rw (e, after) (Needs.accepts m rule (sym (at .same)))
 
   module _ {m : Memory} {a : Answer} {n k : ℕ} (k-is : k ≡ n) (answer : a ≡ record { number = k; first = 0; second = 0 }) where
-    stops : (ns rest : List Need) → At rule (ns ++ rest) → (n ≡ firstRefusal ns) × (n ≡ 0 → ⊥)
+    pub stops : (ns rest : List Need) → At rule (ns ++ rest) → (n ≡ firstRefusal ns) × (n ≡ 0 → ⊥)
         → record { answer = a; memory = m } ≡ follow m rule
     stops ns rest at w =
         let first = refused-first ns rest (λ z. w .1 (w .0 ∙ z)) in

@@ -1,79 +1,105 @@
--- Refused by the shared tests or by its own; else a COMMIT is issued, of the proposal's view and block.
-use native.Mathlib.Omega.{arith}
+-- Refused, or a COMMIT is issued; what was found of the replica and of the PROP is what the rule speaks of.
+use Prim.Native.Nat.{ℕ}
+use mathlib.Core.Path.{refl}
+use mathlib.Core.List.{List, _++_}
 use borrow.Author.Needs.{needs}
-use Rattle.checks.proofs.Ends.{number-by, row-within, number-there}
-use Rattle.checks.proofs.Issues.{stops-first, stops-further, goes-through}
-use Rattle.records.proofs.Reading.{replica-read, certificate-read}
-use Rattle.checker.proofs.Rules.{issuable, proposal-view, storing}
+use Rattle.protocol.specs.Memory.{Memory, memory, faultBound, replica, certificate}
+use Rattle.protocol.specs.Certificates.{commitOf}
+use Rattle.protocol.specs.Quorum.{every}
+use Rattle.protocol.specs.Outcome.{Need}
+use Rattle.protocol.specs.FirstNeeds.{numberNeeds}
+use Rattle.protocol.specs.Calls.{storeNeeds, store as storeRule}
+use Rattle.protocol.proofs.Booleans.{tests}
+use Rattle.certificates.proofs.Fits.{log-fits}
+use Rattle.checks.proofs.Passing.{ReplicaFound, no-replica, found-replica, CertificateFound, no-certificate, found-certificate}
+use Rattle.checks.proofs.Passing.{failed, passed}
+use Rattle.issuing.proofs.Issues.{issuable, slot, start, issues}
+use Rattle.checker.proofs.Justifications.{view-bound}
 use Rattle.checker.proofs.store.Statement.{statement}
 use Rattle.checker.proofs.store.Tie as tie
 
+abbrev entry : tie.After-found → Memory
+entry c =
+    let a = c .before .before .before .before .before .before .before .before .before .args in
+    memory (a .table .now) (a .log .now) (a .blocks .now)
+
+abbrev rest : Memory → ℕ → ℕ → List Need
+rest m i number =
+    let p = certificate m number in
+    storeNeeds (faultBound m) (replica m i) p ++ slot m (commitOf i (p .view) (p .block))
+
+found : (c : tie.After-found) → let a = c .before .before .before .before .before .before .before .before .before .args in
+    ReplicaFound (entry c) (a .replica) (storeRule (entry c) (a .replica) (a .number))
+    (numberNeeds (entry c) (a .number) ++ rest (entry c) (a .replica) (a .number)) (c .found .given .0 .0)
+unfolding storeRule
+found c = found-replica _ _ _ (start _ _ _ _ _ _ refl) (c .before .before .find-replica .ensures) (c .found .given .1)
+
+prop : (c : tie.After-found2) → let f = c .before .before .before .before .before .before in
+    let a = f .before .before .before .before .before .before .before .before .before .args in
+    CertificateFound (entry f) (a .number) (storeRule (entry f) (a .replica) (a .number)) (rest (entry f) (a .replica) (a .number))
+    (c .found2 .given .0 .0)
+prop c =
+    let r = found (c .before .before .before .before .before .before) in
+    found-certificate _ _ _ (r .at) (c .before .before .find-certificate .ensures _) (c .found2 .given .1)
+
 returns : tie.Need-returns
+unfolding storeRule
 returns c =
-    stops-first (storing _ _ _) (c .before .before .number-refusal .ensures) (c .refused .ensures) (c .before .if1 .taken)
+    no-replica _ _ _ (start _ _ _ _ _ _ refl) (c .before .before .before .before .find-replica .ensures)
+    (c .before .before .enum-told .given .1) (c .before .refusal .ensures) (c .refused .ensures)
 
-replica-in-requires : tie.Need-replica-in-requires
-replica-in-requires c κs =
-    row-within _ _ (number-by _ _ _ (c .before .before .number-refusal .ensures) (c .before .if1 .left) .ready)
-
-certificate-in-requires : tie.Need-certificate-in-requires
-certificate-in-requires c κs =
-    let ok = c .before .before .before in
-    number-there _ _ _ (number-by _ _ _ (ok .before .number-refusal .ensures) (ok .if1 .left))
-
-slice-read-store-refusal : tie.Need-slice-read-store-refusal
-slice-read-store-refusal c =
-    let ok = c .before .before .before .before .before in
-    let z = number-by _ _ _ (ok .before .number-refusal .ensures) (ok .if1 .left) .ready .sizes in
-    omega (arith, z)
-
-store-refusal-requires : tie.Need-store-refusal-requires
-store-refusal-requires c κs =
-    let ok = c .before .before .before .before .before in
-    number-by _ _ _ (ok .before .number-refusal .ensures) (ok .if1 .left) .ready .sizes .faultsHigh
+find-certificate-requires : tie.Need-find-certificate-requires
+find-certificate-requires c κs = log-fits _ (found (c .before .before .before) .ready .formed)
 
 returns-2 : tie.Need-returns-2
 returns-2 c =
-    let tested = c .before .before in
-    let p = tested .before .before in
-    let r = p .before .before in
-    let ok = r .before .before in
-    stops-further (storing _ _ _) (ok .before .number-refusal .ensures) (ok .if1 .left)
-    (rw (replica-read (r .replica-in .ensures), certificate-read (p .certificate-in .ensures)) at (tested .store-refusal .ensures))
-    (c .refused2 .ensures) (c .before .if2 .taken)
+    let r = found (c .before .before .before .before .before .before .before .before) in
+    no-certificate _ _ _ (r .at) (c .before .before .before .before .find-certificate .ensures _)
+    (c .before .before .enum-told2 .given .1) (c .before .refusal2 .ensures) (c .refused2 .ensures)
 
-add-next-view : tie.Need-add-next-view
-add-next-view c =
-    let p = c .before .before .before .before in
-    let ok = p .before .before .before .before in
-    let low = proposal-view _ _ _ (number-by _ _ _ (ok .before .number-refusal .ensures) (ok .if1 .left)) in
-    rw (certificate-read (p .certificate-in .ensures)) (omega (arith, low))
+slice-read-test-store : tie.Need-slice-read-test-store
+slice-read-test-store c = omega (tests, found (c .before .before .before .before .before .before .before .before) .ready .sizes)
 
-commit-requires : tie.Need-commit-requires
-commit-requires c κs =
-    let ok = c .before .before .before .before .before .before .before .before .before .before .before in
-    issuable _ _ (number-by _ _ _ (ok .before .number-refusal .ensures) (ok .if1 .left) .ready)
+test-store-requires : tie.Need-test-store-requires
+test-store-requires c κs = found (c .before .before .before .before .before .before .before .before) .ready .sizes .faultsHigh
 
 returns-3 : tie.Need-returns-3
 returns-3 c =
-    let commits = c .before .before .before .before in
-    let made = commits .before .before .before in
-    let all = made .before .before in
-    let tested = all .before in
-    let p = tested .before .before in
-    let r = p .before .before in
-    let ok = r .before .before in
-    let start = ok .before .before .before .before .before .before .before .before in
-    goes-through (storing _ _ _) (ok .before .number-refusal .ensures) (ok .if1 .left)
-    (rw (replica-read (r .replica-in .ensures), certificate-read (p .certificate-in .ensures)) at (tested .store-refusal .ensures))
-    (all .if2 .left)
-    (rw (made .of-kind .ensures, certificate-read (p .certificate-in .ensures)) at (commits .commit .ensures (start .args .blocks .now)))
+    let p = prop (c .before .before .before .before .before .before .before) in
+    let r = found (c .before .before .before .before .before .before .before .before .before .before .before .before .before) in
+    failed _ refl (rw (r .read, p .read) at (c .before .before .before .before .test-store .ensures)) _ _ (p .at)
+    (c .before .before .enum-told4 .given .1) (c .before .refusal3 .ensures) (c .refused3 .ensures)
+
+add-t27 : tie.Need-add-t27
+add-t27 c =
+    let p = prop (c .before .before .before .before .before .before) in
+    let r = found (c .before .before .before .before .before .before .before .before .before .before .before .before) in
+    rw (p .read) (record { fits = omega (tests, view-bound _ _ (r .ready .formed) (p .issued)) })
+
+issue-requires : tie.Need-issue-requires
+unfolding every
+issue-requires c κs =
+    let t = c .before .before .before .before .before .before .before .before in
+    let r = found (t .before .before .before .before .before .before .before .before .before) in
+    (issuable _ _ (r .ready), record { paired = refl; within = refl })
+
+returns-4 : tie.Need-returns-4
+unfolding storeRule
+returns-4 c =
+    let t = c .before .before .before .before .before .before .before .before .before .before .before .before .before in
+    let p = prop (t .before .before .before) in
+    let r = found (t .before .before .before .before .before .before .before .before .before) in
+    let told = c .before .before .before .before .before .before .before .before .before .before .before .enum-told3 .given .1 in
+    let commit = c .before .before .before .before .before .before .before .before .before .of-kind .ensures in
+    issues _ _ _ _ _ (passed _ refl (rw (r .read, p .read) at (t .test-store .ensures)) _ (p .at) told)
+    (rw (p .read) refl) (rw (commit, p .read) refl) (c .before .before .before .before .issue .ensures _)
 
 pub store-spec : {M : Type 1} → statement M
 store-spec =
     tie.close
-    (tie.spec (λ c κs. search needs) (λ c κs. search needs) (λ c. search needs) (λ c. search needs)
-    (λ c. search needs) returns replica-in-requires certificate-in-requires slice-read-store-refusal
-    store-refusal-requires (λ c κs. search needs) (λ c. search needs) (λ c. search needs) (λ c. search needs)
-    returns-2 add-next-view (λ c κs. search needs) commit-requires (λ c. search needs) (λ c. search needs)
-    (λ c. search needs) returns-3)
+    (tie.spec (λ c κs. search needs) (λ c. search needs) (λ c. search needs) (λ c κs. search needs) (λ c κs. search needs)
+    (λ c. search needs) (λ c. search needs) (λ c. search needs) returns find-certificate-requires (λ c. search needs) (λ c. search needs)
+    (λ c κs. search needs) (λ c κs. search needs) (λ c. search needs) (λ c. search needs) (λ c. search needs) returns-2
+    slice-read-test-store test-store-requires (λ c. search needs) (λ c. search needs) (λ c κs. search needs) (λ c κs. search needs)
+    (λ c. search needs) (λ c. search needs) (λ c. search needs) returns-3 add-t27 (λ c κs. search needs) (λ c. search needs)
+    (λ c. search needs) issue-requires (λ c. search needs) (λ c. search needs) (λ c. search needs) returns-4)

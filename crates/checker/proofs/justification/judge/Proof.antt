@@ -1,64 +1,55 @@
--- An ACC of another kind or signer, or a list that is no quorum, gives nothing; else a view and a block.
+-- An ACC of the wrong kind or signer, or a list that is no quorum, is refused; else a view and a block.
 use mathlib.Core.Path.{sym, _∙_}
-use native.Mathlib.Omega.{arith}
+use mathlib.Core.Bool.{and-true}
 use borrow.Author.Needs.{needs}
-use Rattle.records.proofs.Reading.{certificate-read}
-use Rattle.checker.proofs.Justifications.{acc-other-kind, acc-other-signer, acc-gives, no-quorum, quorum-gives, has-next}
+use Rattle.protocol.specs.Form.{allHold}
+use Rattle.protocol.proofs.Booleans.{tests}
+use Rattle.checks.proofs.Verdicts.{fails, last}
+use Rattle.checker.specs.Justifications.{judgementOf}
+use Rattle.checker.proofs.Justifications.{quorum-view-bound}
 use Rattle.checker.proofs.justification.judge.Statement.{statement}
 use Rattle.checker.proofs.justification.judge.Tie as tie
 
 certificate-in-requires : tie.Need-certificate-in-requires
 certificate-in-requires c κs =
-    let after-pre = c .before .before .before .before .before in
-    rw (c .before .justification .given .1) at (after-pre .pre)
+    let within = rw (c .before .justification .given .1) at (c .before .before .before .before .before .pre) in
+    within .listed .inLog 0 (omega tests) .within
 
 returns : tie.Need-returns
+unfolding judgementOf allHold
 returns c =
-    let after-justification = c .before .before .before .before in
-    let after-args = after-justification .before .before .before .before in
-    acc-other-kind (after-args .args .log .now) _ _ (after-justification .justification .given .1)
-    (certificate-read (c .before .before .certificate-in .ensures)) (c .if1 .taken)
-
-returns-2 : tie.Need-returns-2
-returns-2 c =
-    let after-certificate-in = c .before .before .before .before in
-    let after-args = after-certificate-in .before .before .before .before .before .before in
-    acc-other-signer (after-args .args .log .now) _ _ (after-certificate-in .before .before .justification .given .1)
-    (certificate-read (after-certificate-in .certificate-in .ensures)) (c .if2 .taken)
+    let read = c .before .before .before .certificate-in .ensures in
+    rw (c .before .before .before .before .before .justification .given .1, read) (last _ _ _ (rw and-true (rw read at (c .if1 .taken))))
 
 is-commit-quorum-requires : tie.Need-is-commit-quorum-requires
-is-commit-quorum-requires c κs =
-    let after-pre = c .before .before .before .before .before in
-    (rw (c .before .justification2 .given .1) at (after-pre .pre)) .listed
+is-commit-quorum-requires c κs = (rw (c .before .justification2 .given .1) at (c .before .before .before .before .before .pre)) .listed
 
-add-t13 : tie.Need-add-t13
-add-t13 c =
-    let after-pre = c .before .before .before .before .before .before .before in
-    let next = has-next _ _ _ _ (rw (c .before .before .before .justification2 .given .1) at (after-pre .pre))
-    (sym (c .before .is-commit-quorum .ensures) ∙ c .if3 .taken) in
-    omega (arith, next)
+add-t14 : tie.Need-add-t14
+add-t14 c =
+    let within = rw (c .before .before .before .justification2 .given .1) at (c .before .before .before .before .before .before .before .pre) in
+    let quorum = sym (c .before .is-commit-quorum .ensures) ∙ c .if2 .taken in
+    omega (tests, quorum-view-bound _ _ _ _ within quorum)
+
+returns-2 : tie.Need-returns-2
+unfolding judgementOf
+returns-2 c =
+    let quorum = sym (c .before .is-commit-quorum .ensures) ∙ c .if2 .taken in
+    rw (c .before .before .before .justification2 .given .1) (last _ _ _ quorum)
 
 returns-3 : tie.Need-returns-3
+unfolding judgementOf allHold
 returns-3 c =
-    let after-args = c .before .before .before .before .before .before .before in
-    quorum-gives (after-args .args .log .now) _ _ (c .before .before .before .justification2 .given .1)
-    (sym (c .before .is-commit-quorum .ensures) ∙ c .if3 .taken)
+    let read = c .before .before .before .certificate-in .ensures in
+    rw (c .before .before .before .before .before .justification .given .1) (fails _ _ _ (rw and-true (rw read at (c .if1 .left))))
 
 returns-4 : tie.Need-returns-4
+unfolding judgementOf
 returns-4 c =
-    let after-certificate-in = c .before .before .before .before in
-    let after-args = after-certificate-in .before .before .before .before .before .before in
-    acc-gives (after-args .args .log .now) _ _ (after-certificate-in .before .before .justification .given .1)
-    (certificate-read (after-certificate-in .certificate-in .ensures)) (c .before .before .if1 .left) (c .if2 .left)
-
-returns-5 : tie.Need-returns-5
-returns-5 c =
-    let after-args = c .before .before .before .before .before .before .before in
-    no-quorum (after-args .args .log .now) _ _ (c .before .before .before .justification2 .given .1)
-    (sym (c .before .is-commit-quorum .ensures) ∙ c .if3 .left)
+    let none = sym (c .before .is-commit-quorum .ensures) ∙ c .if2 .left in
+    rw (c .before .before .before .justification2 .given .1) (fails _ _ _ none)
 
 pub judge-spec : {M : Type 1} → statement M
 judge-spec =
     tie.close
-    (tie.spec (λ c. search needs) certificate-in-requires returns returns-2 (λ c. search needs) is-commit-quorum-requires
-    add-t13 returns-3 returns-4 returns-5)
+    (tie.spec (λ c. search needs) certificate-in-requires returns (λ c. search needs) is-commit-quorum-requires add-t14 returns-2 returns-3
+    returns-4)

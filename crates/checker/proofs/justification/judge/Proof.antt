@@ -26,7 +26,8 @@ is-commit-quorum-requires c κs = (rw (c .before .justification2 .given .1) at (
 
 add-t14 : tie.Need-add-t14
 add-t14 c =
-    let within = rw (c .before .before .before .justification2 .given .1) at (c .before .before .before .before .before .before .before .pre) in
+    let is = c .before .before .before .justification2 .given .1 in
+    let within = rw is at (c .before .before .before .before .before .before .before .pre) in
     let quorum = sym (c .before .is-commit-quorum .ensures) ∙ c .if2 .taken in
     omega (tests, quorum-view-bound _ _ _ _ within quorum)
 

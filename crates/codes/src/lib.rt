@@ -106,7 +106,7 @@ pub fn coded_call(
     }
 }
 
-// The refusal that a caller hands up.
+// The refusal that a caller hands up, ACCEPTED where there is a call.
 pub fn refusal_of(coded: Coded) -> u32
     ensures { λ r. ⌜ r ≡ refusalOf coded ⌝ }
 {

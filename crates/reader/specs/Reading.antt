@@ -23,14 +23,15 @@ columnAfter line column = cond (leb (numberFrom line column) maxNumber) (column 
 abbrev pub movedOn : Reader → Reader
 movedOn r = record { line = r .line; column = columnAfter (now (r .line)) (r .column) }
 
--- What a reader says that went from one column to another.
-unfoldable pub stepOf : ℕ → ℕ → Read
-stepOf from to = cond (eqb to from) (Refused unreadable) (To to)
+-- What was read by a reader that went from one column to another: it moved on just where it read a field.
+unfoldable pub readOf : ℕ → ℕ → Read
+readOf from to = cond (eqb to from) (Refused unreadable) (To to)
 
 -- What reading the field that starts at a column gives: the column after it, or the refusal.
 unfoldable pub fieldAt : List ℕ → ℕ → Read
 fieldAt line column = cond (leb (numberFrom line column) maxNumber) (To (column + columns)) (Refused unreadable)
 
+-- "a failed read or test hands its number up unchanged"
 abbrev pub refusalOf : Read → ℕ
 refusalOf (To column) = 0
 refusalOf (Refused refusal) = refusal

@@ -1,6 +1,6 @@
 // The line reader: the bytes of a line and the column reached (document 01, "Script program").
 ghost use mathlib.Core.Path.{_≡_};
-ghost use Rattle.reader.specs.Reading.{numberFrom, columnAfter, movedOn, stepOf, fieldAt, refusalOf};
+ghost use Rattle.reader.specs.Reading.{numberFrom, columnAfter, movedOn, readOf, fieldAt, refusalOf};
 use field::COLUMNS;
 use field::MAX_NUMBER;
 use protocol::ACCEPTED;
@@ -43,8 +43,8 @@ pub fn next<'a>(reader: Reader<'a>, number: &mut u32) -> Reader<'a>
 }
 
 // A reader that comes back as it was has read no field.
-fn step_of(from: usize, to: usize) -> Read
-    ensures { λ r. ⌜ r ≡ stepOf from to ⌝ }
+fn read_of(from: usize, to: usize) -> Read
+    ensures { λ r. ⌜ r ≡ readOf from to ⌝ }
 {
     if to == from {
         Read::Refused(UNREADABLE)
@@ -53,15 +53,15 @@ fn step_of(from: usize, to: usize) -> Read
     }
 }
 
-// The same for a line and a column. The proof of a function that makes a reader is written by hand, so callers use this one.
+// Reads the field at a column of a line. The proof of a function that makes a reader is written by hand, so callers use this one.
 pub fn read_field(line: &[u8], column: usize, number: &mut u32) -> Read
     ensures { λ r. ⌜ (r ≡ fieldAt (now (line .entry)) column) × (now (number .exit) ≡ numberFrom (now (line .entry)) column) ⌝ }
 {
     let reader = next(Reader { line, column }, number);
-    step_of(column, reader.column)
+    read_of(column, reader.column)
 }
 
-// The refusal that a caller hands up.
+// The refusal that a caller hands up, ACCEPTED where a field was read.
 pub fn refusal_of(read: Read) -> u32
     ensures { λ r. ⌜ r ≡ refusalOf read ⌝ }
 {

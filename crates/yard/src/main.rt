@@ -1,11 +1,11 @@
 // yard: reads a script from standard input, and writes the answers to standard output (document 01, "Script program").
 ghost use mathlib.Core.Path.{_≡_};
-ghost use mathlib.Core.List.{[]};
+ghost use Prim.Native.Nat.{_≤_};
 ghost use lib.ListN.{length, take};
 ghost use Rattle.io.specs.Counts.{clamped};
 ghost use Rattle.stream.specs.Stream.{newStream};
-ghost use Rattle.stream.specs.Progress.{streamOf, Within};
-ghost use Rattle.yard.specs.Turns.{chunkBytes, textBytes, Flushed, taken};
+ghost use Rattle.stream.specs.Progress.{streamOf};
+ghost use Rattle.yard.specs.Turns.{chunkBytes, InPlace, Flushed, taken, Writes, Ran};
 use libc::STDIN_FILENO;
 use libc::STDOUT_FILENO;
 use stream::MAX_LINES;
@@ -32,7 +32,7 @@ const TABLE_WORDS: usize = layout::ROW_START + REPLICAS * layout::REPLICA_WORDS;
 const LOG_WORDS: usize = CERTIFICATES * layout::CERTIFICATE_WORDS;
 
 // Reads once, and again where that fails. Gives how many bytes came, 0 at the end of the input, or -1.
-fn read_chunk(chunk: &mut [u8]) -> isize {
+fn read_chunk(chunk: &mut [u8; CHUNK_BYTES]) -> isize {
     let mut tries = TRIES;
     while 0 < tries {
         let got = libc::read(STDIN_FILENO, chunk);
@@ -42,6 +42,30 @@ fn read_chunk(chunk: &mut [u8]) -> isize {
         tries -= 1;
     }
     -1
+}
+
+// Takes what a read gave: all bytes that came, or the end of the input. The text of the answers is then to be written.
+fn take_read(
+    table: &mut [u32; TABLE_WORDS],
+    log: &mut [u32; LOG_WORDS],
+    blocks: &mut [u32; BLOCKS],
+    line: &mut [u8; stream::HELD_PLACES],
+    text: &mut [u8; TEXT_BYTES],
+    chunk: &[u8],
+    got: isize,
+    p: Progress,
+) -> Progress
+    requires { ⌜ (length (now chunk) ≡ chunkBytes) × Flushed p ⌝ }
+    ensures { λ r. ⌜ streamOf r (now (table .exit)) (now (log .exit)) (now (blocks .exit)) (now (line .exit)) (now (text .exit))
+        ≡ taken (streamOf p (now (table .entry)) (now (log .entry)) (now (blocks .entry)) (now (line .entry)) (now (text .entry)))
+        (take (clamped got (length (now (chunk .entry)))) (now (chunk .entry))) ⌝ }
+    ensures { λ r. ⌜ InPlace r ⌝ }
+{
+    let n = io::count(got, chunk);
+    if n == 0 {
+        return stream::finish(table, log, blocks, line, text, p);
+    }
+    stream::feed(table, log, blocks, line, text, p, &chunk[..n])
 }
 
 // Writes a text, in several parts where need be. Gives whether all of it was written.
@@ -63,44 +87,83 @@ fn write_text(text: &[u8]) -> bool {
     false
 }
 
-// Takes what a read gave: all bytes that came, or the end of the input. The text of the answers is then to be written.
-fn take_read(
+// Where a stream stands once its text is written.
+enum Written {
+    All(Progress),
+    Failed,
+}
+
+// Writes the text that is to be written.
+fn write_pending(text: &[u8], p: Progress) -> Written
+    requires { ⌜ p .pending ≤ length (now text) ⌝ }
+    ensures { λ r. ⌜ Writes p r ⌝ }
+{
+    let pending = p.pending;
+    if !write_text(&text[..pending]) {
+        return Written::Failed;
+    }
+    Written::All(Progress {
+        fault_bound: p.fault_bound,
+        lines: p.lines,
+        held: p.held,
+        pending: 0,
+    })
+}
+
+// Reads, answers and writes, until the input ends, line 99,999,999 is answered, or a read or a write fails. A proved loop ends: it counts
+// its turns, from a number that no run uses up.
+fn run(
     table: &mut [u32; TABLE_WORDS],
     log: &mut [u32; LOG_WORDS],
     blocks: &mut [u32; BLOCKS],
     line: &mut [u8; stream::HELD_PLACES],
-    text: &mut [u8],
-    chunk: &[u8],
-    got: isize,
-    p: Progress,
+    text: &mut [u8; TEXT_BYTES],
+    chunk: &mut [u8; CHUNK_BYTES],
+    start: Progress,
 ) -> Progress
-    requires { ⌜ (length (now text) ≡ textBytes) × (length (now chunk) ≡ chunkBytes) ⌝ }
-    requires { ⌜ Flushed p ⌝ }
-    ensures { λ r. ⌜ streamOf r (now (table .exit)) (now (log .exit)) (now (blocks .exit)) (now (line .exit)) (now (text .exit))
-        ≡ taken (streamOf p (now (table .entry)) (now (log .entry)) (now (blocks .entry)) (now (line .entry)) (now (text .entry)))
-        (take (clamped got (length (now (chunk .entry)))) (now (chunk .entry))) ⌝ }
-    ensures { λ r. ⌜ Within r (now (text .entry)) ⌝ }
+    requires { ⌜ Flushed start ⌝ }
+    ensures { λ r. ⌜ Ran
+        (streamOf start (now (table .entry)) (now (log .entry)) (now (blocks .entry)) (now (line .entry)) (now (text .entry)))
+        (streamOf r (now (table .exit)) (now (log .exit)) (now (blocks .exit)) (now (line .exit)) (now (text .exit))) ⌝ }
 {
-    let n = io::count(got, chunk);
-    if n == 0 {
-        return stream::finish(table, log, blocks, line, text, p);
+    let mut p = start;
+    let mut turns = u64::MAX;
+    while 0 < turns {
+        turns -= 1;
+        let got = read_chunk(chunk);
+        if got < 0 {
+            return p;
+        }
+        let next = take_read(table, log, blocks, line, text, chunk, got, p);
+        let written = write_pending(text, next);
+        let Written::All(rest) = written else {
+            return next;
+        };
+        if (got == 0) | (rest.lines == MAX_LINES) {
+            return rest;
+        }
+        p = rest;
     }
-    stream::feed(table, log, blocks, line, text, p, &chunk[..n])
+    p
 }
 
-// Does nothing: its `requires` says what the program starts with.
+// Runs from what the program starts with: nothing is opened, read or held.
 fn starts(
-    table: &[u32; TABLE_WORDS],
-    log: &[u32; LOG_WORDS],
-    blocks: &[u32; BLOCKS],
-    line: &[u8; stream::HELD_PLACES],
+    table: &mut [u32; TABLE_WORDS],
+    log: &mut [u32; LOG_WORDS],
+    blocks: &mut [u32; BLOCKS],
+    line: &mut [u8; stream::HELD_PLACES],
+    text: &mut [u8; TEXT_BYTES],
+    chunk: &mut [u8; CHUNK_BYTES],
     p: Progress,
-)
-    requires { ⌜ streamOf p (now table) (now log) (now blocks) (now line) [] ≡ newStream ⌝ }
-{}
+) -> Progress
+    requires { ⌜ (streamOf p (now table) (now log) (now blocks) (now line) (now text) ≡ newStream) × Flushed p ⌝ }
+    ensures { λ r. ⌜ Ran newStream
+        (streamOf r (now (table .exit)) (now (log .exit)) (now (blocks .exit)) (now (line .exit)) (now (text .exit))) ⌝ }
+{
+    run(table, log, blocks, line, text, chunk, p)
+}
 
-// Reads, answers and writes, until the input ends, line 99,999,999 is answered, or a read or a write fails. A proved loop ends: it counts
-// its turns, from a number that no run uses up.
 fn main() {
     let mut table = [0u32; TABLE_WORDS];
     let mut log = [0u32; LOG_WORDS];
@@ -108,45 +171,19 @@ fn main() {
     let mut line = [0u8; stream::HELD_PLACES];
     let mut text = [0u8; TEXT_BYTES];
     let mut chunk = [0u8; CHUNK_BYTES];
-    let mut p = Progress {
+    let p = Progress {
         fault_bound: 0,
         lines: 0,
         held: 0,
         pending: 0,
     };
-    starts(&table, &log, &blocks, &line, p);
-    let mut turns = u64::MAX;
-    while 0 < turns {
-        turns -= 1;
-        let got = read_chunk(&mut chunk);
-        if got < 0 {
-            return;
-        }
-        let next = take_read(
-            &mut table,
-            &mut log,
-            &mut blocks,
-            &mut line,
-            &mut text,
-            &chunk,
-            got,
-            p,
-        );
-        let pending = next.pending;
-        if !write_text(&text[..pending]) {
-            return;
-        }
-        if got == 0 {
-            return;
-        }
-        if next.lines == MAX_LINES {
-            return;
-        }
-        p = Progress {
-            fault_bound: next.fault_bound,
-            lines: next.lines,
-            held: next.held,
-            pending: 0,
-        };
-    }
+    starts(
+        &mut table,
+        &mut log,
+        &mut blocks,
+        &mut line,
+        &mut text,
+        &mut chunk,
+        p,
+    );
 }

@@ -1,4 +1,4 @@
--- `read_field`: a walk of its MIR by hand. A reader is made of the line and the column in a local, `next` is called on it, and `step_of` on
+-- `read_field`: a walk of its MIR by hand. A reader is made of the line and the column in a local, `next` is called on it, and `read_of` on
 -- the two columns.
 -- A `&[u8]` is Copy: one copy of what the line owns is kept for the exit; the other is what the reader's line owns. The borrow of the number
 -- goes to `next` for good.
@@ -45,10 +45,10 @@ use denote.Triple.Walked.{says, Stays, stay-none, stay-none-slice, gave-ref, wal
 use denote.Triple.Walked.{Walks, ends-at, walked, walk-meets}
 use denote.Triple.Clauses.{Lasts, ensured, lasts}
 use denote.Exit.{yes}
-use Rattle.reader.specs.Reading.{numberFrom, movedOn, stepOf, fieldAt}
+use Rattle.reader.specs.Reading.{numberFrom, movedOn, readOf, fieldAt}
 use Rattle.reader.specs.declared.Reader.{Reader}
 use Rattle.reader.specs.declared.Read.{Read}
-use Rattle.reader.proofs.Fields.{step-read}
+use Rattle.reader.proofs.Fields.{moved-read}
 use Rattle.reader.proofs.Reader as R
 use Rattle.reader.proofs.Reader.Laws as R′
 use Rattle.reader.proofs.Read as F
@@ -57,10 +57,10 @@ use Rattle.reader.proofs.next as next
 use Rattle.reader.proofs.next.Symbol as next-def
 use Rattle.reader.proofs.next.Symbol.{name as #next}
 use Rattle.reader.proofs.next.Met as next-thm
-use Rattle.reader.proofs.step_of as step
-use Rattle.reader.proofs.step_of.Symbol as step-def
-use Rattle.reader.proofs.step_of.Symbol.{name as #step}
-use Rattle.reader.proofs.step_of.Met as step-thm
+use Rattle.reader.proofs.read_of as told
+use Rattle.reader.proofs.read_of.Symbol as told-def
+use Rattle.reader.proofs.read_of.Symbol.{name as #told}
+use Rattle.reader.proofs.read_of.Met as told-thm
 use Rattle.reader.proofs.read_field as read
 use Rattle.reader.proofs.read_field.Key.{name as #read}
 use Rattle.reader.proofs.read_field.Statement as stated
@@ -75,8 +75,8 @@ module _ {M : Type 1} (𝓤 : URA M) (H : Heap 𝓤) (A : Atoms 𝓤) (mem : Mem
   abbrev Next : Contract 𝓤
   Next = tripleOf 𝓤 H A next.signature (next.spec 𝓤 H A mem run)
 
-  abbrev Step : Contract 𝓤
-  Step = tripleOf 𝓤 H A step.signature (step.spec 𝓤 H A mem run)
+  abbrev Told : Contract 𝓤
+  Told = tripleOf 𝓤 H A told.signature (told.spec 𝓤 H A mem run)
 
 module _ {M : Type 1} (𝓤 : URA M) (H : Heap 𝓤) (A : Atoms 𝓤) (W : Given 𝓤 H A) (mem : Memory → SProp 𝓤) (run : Routine → Fun 𝓤)
     (κ κ′ : Lft) (q q′ : Share) (s : RefT (List ℕ)) (n : ℕ) (x : RefT ℕ) where
@@ -161,28 +161,28 @@ module _ {M : Type 1} (𝓤 : URA M) (H : Heap 𝓤) (A : Atoms 𝓤) (W : Given
       use1 W (‵ (R.the-row α .own made (m ∷ []))) (own-shut 𝓤 H A W (R.the-type α) (R′.the-laws α) (s, (n, tt))) $
       move ! (0 ∷ 2 ∷ []) $ fjoin ! $ move ! (2 ∷ 0 ∷ []) $ use2 W (raw Asked) asked $ frame ! $ done !
 
-  -- The same of `step_of`, which is passed the two columns.
-  abbrev columnsOf : Args step.signature tt
+  -- The same of `read_of`, which is passed the two columns.
+  abbrev columnsOf : Args told.signature tt
   columnsOf = (n, (back .column, tt))
 
-  abbrev atColumns : Vals step.signature tt
+  abbrev atColumns : Vals told.signature tt
   atColumns = (vint w64 n ∷ [], (vint w64 (back .column) ∷ [], tt))
 
-  abbrev to-step : Step 𝓤 H A mem run .Ghost
-  to-step = ((tt, tt, tt, columnsOf, atColumns), tt)
+  abbrev to-told : Told 𝓤 H A mem run .Ghost
+  to-told = ((tt, tt, tt, columnsOf, atColumns), tt)
 
-  abbrev StepEnsured : Read → SProp 𝓤
-  StepEnsured r = ensured 𝓤 H A step.ended (step.clauses 𝓤 H A mem run) tt columnsOf tt r
+  abbrev ToldEnsured : Read → SProp 𝓤
+  ToldEnsured r = ensured 𝓤 H A told.ended (told.clauses 𝓤 H A mem run) tt columnsOf tt r
 
-  step-asked : n < 2 ^ 64 → back .column < 2 ^ 64 → ent 𝓤 (sem 𝓤 H A ftrue) (Step 𝓤 H A mem run .pre to-step)
-  step-asked fits further =
+  told-asked : n < 2 ^ 64 → back .column < 2 ^ 64 → ent 𝓤 (sem 𝓤 H A ftrue) (Told 𝓤 H A mem run .pre to-told)
+  told-asked fits further =
       qed W (‵ ftrue ∷ []) ∵
       owned ! usize (Is usize) (uint-makes 𝓤 H A W w64) (back .column) _ (refl, further) $ fjoin ! $
       owned ! usize (Is usize) (uint-makes 𝓤 H A W w64) n _ (refl, fits) $ fjoin ! $ nothing ! $ join ! $ frame ! $ done !
 
   -- It takes no `&mut`: of what it ensures, only the clause counts.
-  said : (r : Read) → ent 𝓤 (StepEnsured r) (fact 𝓤 (r ≡ stepOf n (back .column)))
-  said r = exE 𝓤 _ (λ ws. snd∗ 𝓤 (sem 𝓤 H A (lasts step.ended tt columnsOf ws)) (fact 𝓤 (r ≡ stepOf n (back .column))))
+  said : (r : Read) → ent 𝓤 (ToldEnsured r) (fact 𝓤 (r ≡ readOf n (back .column)))
+  said r = exE 𝓤 _ (λ ws. snd∗ 𝓤 (sem 𝓤 H A (lasts told.ended tt columnsOf ws)) (fact 𝓤 (r ≡ readOf n (back .column))))
 
   exits : n < 2 ^ 64 → (r : Read) (u : Val) (k : ℕ) → r ≡ fieldAt (now s) n → k ≡ numberFrom (now s) n
       → ent 𝓤 (⋆ 𝓤 H A (‵ (F.the-row .own r (u ∷ [])) ∷ (‵ (flft κ q) ⊛ ‵ (flft κ′ q′) ⊛ ‵ ftrue) ∷ ‵ (Last k) ∷ ‵ Own ∷ [])) (Post u)
@@ -196,7 +196,7 @@ module _ {M : Type 1} (𝓤 : URA M) (H : Heap 𝓤) (A : Atoms 𝓤) (W : Given
       frame ! $ done !
 
   module _ (C : Calls 𝓤 H) (Λ : Loops 𝓤 H) (fm : FmC 𝓤 H (W .laws) C) (known : Triple 𝓤 (C #next) (Next 𝓤 H A mem run))
-      (known-step : Triple 𝓤 (C #step) (Step 𝓤 H A mem run)) where
+      (known-told : Triple 𝓤 (C #told) (Told 𝓤 H A mem run)) where
     walk : Is Line s (v ∷ []) → n < 2 ^ 64 → ent 𝓤 Entry (WpFn 𝓤 H C Λ code.function (v ∷ vint w64 n ∷ p ∷ []) Post)
     walk is fits =
         let typed = shr-slice-lawful 𝓤 H A W (named 0) κ u8 .typed s (v ∷ []) is .0 in
@@ -230,14 +230,14 @@ module _ {M : Type 1} (𝓤 : URA M) (H : Heap 𝓤) (A : Atoms 𝓤) (W : Given
         drop ! $
         assigns ! (of-opd ! (load ! (from ! (fld ! refl (stop !))) (look-in ! 9 (sub ! 1 refl (whole !))))) (from ! (stop !))
         (init ! 3 refl (tt, record { fits = further })) $
-        -- `step_of`
-        nothing ! $ use1 W (raw (Step 𝓤 H A mem run .pre to-step)) (step-asked fits further) $
-        calls-at ! fm (Step 𝓤 H A mem run) known-step to-step
+        -- `read_of`
+        nothing ! $ use1 W (raw (Told 𝓤 H A mem run .pre to-told)) (told-asked fits further) $
+        calls-at ! fm (Told 𝓤 H A mem run) known-told to-told
         (and-then ! (load ! (from ! (stop !)) (look ! 14 refl)) (and-then ! (load ! (from ! (stop !)) (look ! 4 refl)) (no-more !)))
         (λ u′.
-        use1 W (later (some (λ (r′ : Read). (‵ ftrue ⊛ ‵ (F.the-row .own r′ (u′ ∷ []))) ⊛ raw (StepEnsured r′)))) (id⊢ 𝓤 _) $
+        use1 W (later (some (λ (r′ : Read). (‵ ftrue ⊛ ‵ (F.the-row .own r′ (u′ ∷ []))) ⊛ raw (ToldEnsured r′)))) (id⊢ 𝓤 _) $
         await ! tt $ pick ! (λ r′. split ! $ move ! (1 ∷ []) $
-        use1 W (raw (fact 𝓤 (r′ ≡ stepOf n (back .column)))) (said r′) $ heard ! (r′ ≡ stepOf n (back .column)) (λ e′. split ! $ drop ! $
+        use1 W (raw (fact 𝓤 (r′ ≡ readOf n (back .column)))) (said r′) $ heard ! (r′ ≡ readOf n (back .column)) (λ e′. split ! $ drop ! $
         -- [the result; the tokens; the number's last value; what the line owns; _7; …; _1; …; room for _0; …]
         peeks ! F.the-row (Is F.the-row) (shows 𝓤 H A F.the-row) r′ (u′ ∷ []) (λ it′.
         land ! (from ! (stop !)) (init ! 18 refl (EL.lawful F.the-type F′.the-laws 𝓤 H A W tt .typed r′ _ it′ .0)) $
@@ -246,22 +246,22 @@ module _ {M : Type 1} (𝓤 : URA M) (H : Heap 𝓤) (A : Atoms 𝓤) (W : Given
         move ! (18 ∷ 19 ∷ []) $ free1 ! $ move ! (16 ∷ 17 ∷ []) $ free1 ! $ move ! (14 ∷ 15 ∷ []) $ free1 ! $
         move ! (12 ∷ 13 ∷ []) $ free1 ! $ move ! (10 ∷ 11 ∷ []) $ free1 ! $ move ! (8 ∷ 9 ∷ []) $ free1 ! $
         move ! (6 ∷ 7 ∷ []) $ free1 ! $ move ! (4 ∷ 5 ∷ []) $ free1 ! $ free0 ! $
-        by ! (exits fits r′ u′ (ws .1 .0) (e′ ∙ step-read (now s) n) (e .1)))))))))))))))))))
+        by ! (exits fits r′ u′ (ws .1 .0) (e′ ∙ moved-read (now s) n) (e .1)))))))))))))))))))
 
 module _ {M : Type 1} (𝓤 : URA M) (H : Heap 𝓤) (A : Atoms 𝓤) (W : Given 𝓤 H A) (mem : Memory → SProp 𝓤) (run : Routine → Fun 𝓤) where
   walks : (C : Calls 𝓤 H) (Λ : Loops 𝓤 H) → FmC 𝓤 H (W .laws) C → Triple 𝓤 (C #next) (Next 𝓤 H A mem run)
-      → Triple 𝓤 (C #step) (Step 𝓤 H A mem run) → Walks 𝓤 H A read.ended stayed (WpFn 𝓤 H C Λ code.function) (read.clauses 𝓤 H A mem run)
-  walks C Λ fm known known-step =
+      → Triple 𝓤 (C #told) (Told 𝓤 H A mem run) → Walks 𝓤 H A read.ended stayed (WpFn 𝓤 H C Λ code.function) (read.clauses 𝓤 H A mem run)
+  walks C Λ fm known known-told =
       walked 𝓤 H A read.ended stayed (read.clauses 𝓤 H A mem run) (WpFn 𝓤 H C Λ code.function)
       (λ κs. (slice-vals, (uint-vals w64, (ptr-vals, tt))))
       (λ κs. (shr-slice-tells (named 0) (κs .0) u8, (uint-tells w64, (mut-tells (named 1) (κs .1 .0) u32, tt))))
       (λ κs qs bounds a g are. via 𝓤 _ (fst∗ 𝓤 _ (emp 𝓤))
-      (walk 𝓤 H A W mem run (κs .0) (κs .1 .0) (qs .0) (qs .1 .0) (a .0) (a .1 .0) (a .1 .1 .0) C Λ fm known known-step
+      (walk 𝓤 H A W mem run (κs .0) (κs .1 .0) (qs .0) (qs .1 .0) (a .0) (a .1 .0) (a .1 .1 .0) C Λ fm known known-told
       (are .0) (are .1 .0 .1)))
 
-  meets : (𝓣 : Tables 𝓤 H) → Triple 𝓤 (𝓣 .C #next) (Next 𝓤 H A mem run) → Triple 𝓤 (𝓣 .C #step) (Step 𝓤 H A mem run)
+  meets : (𝓣 : Tables 𝓤 H) → Triple 𝓤 (𝓣 .C #next) (Next 𝓤 H A mem run) → Triple 𝓤 (𝓣 .C #told) (Told 𝓤 H A mem run)
       → Meets 𝓤 H A read.signature (WpFn 𝓤 H (𝓣 .C) (𝓣 .Λ) code.function) (read.spec 𝓤 H A mem run)
-  meets 𝓣 known known-step =
+  meets 𝓣 known known-told =
       walk-meets 𝓤 H A read.ended stayed W (
         goes-none-slice 𝓤 H A W 2 (0 ∷ []) tt (plain (λ _. u8)) yes,
         (
@@ -270,7 +270,7 @@ module _ {M : Type 1} (𝓤 : URA M) (H : Heap 𝓤) (A : Atoms 𝓤) (W : Given
         ),
       )
       (read.clauses 𝓤 H A mem run) (WpFn 𝓤 H (𝓣 .C) (𝓣 .Λ) code.function) (WpFn-mono 𝓤 H (W .laws) 𝓣 code.function)
-      (walks (𝓣 .C) (𝓣 .Λ) (fmOf 𝓤 H (W .laws) 𝓣) known known-step)
+      (walks (𝓣 .C) (𝓣 .Λ) (fmOf 𝓤 H (W .laws) 𝓣) known known-told)
 
 pub read-field-spec : {M : Type 1} → stated.statement M
 unfolding code.routine tablesOf
@@ -280,5 +280,5 @@ read-field-spec 𝓤 H 𝓜 𝓖 𝓡 =
     (meets 𝓤 H (𝓖 .A) (givenOf 𝓤 H 𝓜 𝓖) (𝓜 .mem) (𝓡 .run) (tablesOf 𝓤 H 𝓜 (tables 𝓤 H 𝓜 𝓡 code.env))
     (cited 𝓤 H (Next 𝓤 H (𝓖 .A) (𝓜 .mem) (𝓡 .run)) 𝓜 𝓡 code.env #next next-def.routine code.calls-reader·next
     (next-thm.met 𝓤 H 𝓜 𝓖 𝓡))
-    (cited 𝓤 H (Step 𝓤 H (𝓖 .A) (𝓜 .mem) (𝓡 .run)) 𝓜 𝓡 code.env #step step-def.routine code.calls-reader·step-of
-    (step-thm.met 𝓤 H 𝓜 𝓖 𝓡)))
+    (cited 𝓤 H (Told 𝓤 H (𝓖 .A) (𝓜 .mem) (𝓡 .run)) 𝓜 𝓡 code.env #told told-def.routine code.calls-reader·read-of
+    (told-thm.met 𝓤 H 𝓜 𝓖 𝓡)))

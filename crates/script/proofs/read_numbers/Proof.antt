@@ -47,18 +47,6 @@ returns-4 c =
     let l = read .before .before .before .loop in
     refused-at _ (l .i) (l .inv .0) (read .read-field .ensures .0) (omega arith) (c .enum-told .given .1)
 
-mul-given : tie.Need-mul-given Inv-loop μ-loop
-mul-given c = omega arith
-
-slice-write-given : tie.Need-slice-write-given Inv-loop μ-loop
-slice-write-given c = omega arith
-
-add-i : tie.Need-add-i Inv-loop μ-loop
-add-i c = omega arith
-
-loop-less : tie.Need-loop-less Inv-loop μ-loop
-loop-less c = omega arith
-
 loop-again : tie.Need-loop-again Inv-loop μ-loop
 loop-again c =
     let read = c .before .before .before .read-field .ensures in
@@ -86,5 +74,5 @@ pub read-numbers-spec : {M : Type 1} → statement M
 read-numbers-spec =
     tie.close
     (tie.spec Inv-loop μ-loop mul-if1 returns returns-2 returns-3 loop-holds
-    (λ c κs. search needs) (λ c. search needs) (λ c. search needs) same-length returns-4 mul-given
-    slice-write-given add-i loop-less loop-again same-length-2 returns-5)
+    (λ c κs. search needs) (λ c. search needs) (λ c. search needs) same-length returns-4 (λ c. search needs)
+    (λ c. search needs) (λ c. search needs) (λ c. search needs) loop-again same-length-2 returns-5)

@@ -15,6 +15,7 @@ use Rattle.yard.proofs.take_read.Statement.{statement}
 use Rattle.yard.proofs.take_read.Tie as tie
 
 some : (s : Stream) (n : ℕ) (chunk : List ℕ) → (n ≡ 0 → ⊥) → n ≤ length chunk → fed s (take n chunk) ≡ taken s (take n chunk)
+unfolding taken
 some s zero chunk h l = absurd (h refl)
 some s (suc n) [] h l = absurd (omega arith)
 some s (suc n) (byte ∷ bytes) h l = refl
@@ -22,6 +23,7 @@ some s (suc n) (byte ∷ bytes) h l = refl
 -- The count of bytes is got, as the machine holds it.
 module _ (s : Stream) (chunk : List ℕ) {o : Stream} {n : ℕ} {z got : ℤ} (k : n ≡ clamped z (length chunk)) (g : z ≡ got) where
   ended : n ≡ 0 → o ≡ finished s → o ≡ taken s (take (clamped got (length chunk)) chunk)
+  unfolding taken
   ended e u = rw (← g, ← k, e) u
 
   all-fed : (n ≡ 0 → ⊥) → n ≤ length chunk → o ≡ fed s (take n chunk) → o ≡ taken s (take (clamped got (length chunk)) chunk)
@@ -29,27 +31,26 @@ module _ (s : Stream) (chunk : List ℕ) {o : Stream} {n : ℕ} {z got : ℤ} (k
 
 returns : tie.Need-returns
 returns c =
-    let at-if1 = c .before .before .before .before .before .before .before .before in
-    let at-count = at-if1 .before in
-    let start = at-count .before .before .before in
-    let count = at-count .count .ensures in
-    let o = c .before .before .finish .ensures in
-    (ended _ (start .args .chunk .now) (count .1) (toZ-ofZ w64 (start .args .got) (start .fits .got)) (at-if1 .if1 .taken) (o .0), o .1)
+    let at-if1 = c .before .before .before .before .before .before in
+    let start = at-if1 .before .before .before in
+    let count = at-if1 .before .count .ensures in
+    let o = c .finish .ensures in (
+      ended _ (start .args .chunk .now) (count .1) (toZ-ofZ w64 (start .args .got) (start .fits .got)) (at-if1 .if1 .taken) (o .0),
+      record { held = o .1 .held; pending = omega (arith, o .1 .pending) },
+    )
 
 returns-2 : tie.Need-returns-2
 returns-2 c =
-    let at-if1 = c .before .before .before .before .before .before .before .before .before in
-    let at-count = at-if1 .before in
-    let start = at-count .before .before .before in
-    let count = at-count .count .ensures in
-    let o = c .before .before .feed .ensures in (
+    let at-if1 = c .before .before .before .before .before .before .before in
+    let start = at-if1 .before .before .before in
+    let count = at-if1 .before .count .ensures in
+    let o = c .feed .ensures in (
       all-fed _ (start .args .chunk .now) (count .1) (toZ-ofZ w64 (start .args .got) (start .fits .got)) (at-if1 .if1 .left) (count .0 .0)
           (o .0),
-      o .1,
+      record { held = o .1 .held; pending = omega (arith, o .1 .pending) },
     )
 
 pub take-read-spec : {M : Type 1} → statement M
 take-read-spec =
     tie.close
-    (tie.spec (λ c κs. search needs) (λ c κs. search needs) (λ c. search needs) returns (λ c. search needs)
-    (λ c κs. search needs) (λ c. search needs) returns-2)
+    (tie.spec (λ c κs. search needs) (λ c κs. search needs) returns (λ c. search needs) (λ c κs. search needs) returns-2)

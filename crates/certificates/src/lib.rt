@@ -18,15 +18,15 @@ ghost use Rattle.certificates.specs.Filing.{
   filing,
   filingRefusal,
 };
-use layout::CERTIFICATE_COUNT_AT;
-use layout::CERTIFICATE_WORDS;
-use layout::KIND_AT;
-use layout::OF_VIEW_AT;
-use layout::PROPOSED_BLOCK_AT;
-use layout::SIGNER_AT;
-use layout::SUBJECT_AT;
-use layout::SUBJECT_BOOT_AT;
-use layout::VIEW_AT;
+use constants::CERTIFICATE_COUNT_AT;
+use constants::CERTIFICATE_WORDS;
+use constants::KIND_AT;
+use constants::OF_VIEW_AT;
+use constants::PROPOSED_BLOCK_AT;
+use constants::SIGNER_AT;
+use constants::SUBJECT_AT;
+use constants::SUBJECT_BOOT_AT;
+use constants::VIEW_AT;
 use protocol::ACCEPTED;
 use protocol::NO_ROOM;
 

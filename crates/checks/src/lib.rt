@@ -17,8 +17,8 @@ ghost use Rattle.checks.specs.Verdicts.{
   certificateRefusal,
 };
 use certificates::Certificate;
-use layout::CERTIFICATE_COUNT_AT;
-use layout::FAULT_BOUND_AT;
+use constants::CERTIFICATE_COUNT_AT;
+use constants::FAULT_BOUND_AT;
 use protocol::ACCEPTED;
 use protocol::Answer;
 use protocol::OUT_OF_RANGE;

@@ -1,5 +1,6 @@
 // The form that every call but opening tests (document 01, "Memory", the paragraph "Form"). In a full memory it is most of a call's time.
 use crate::*;
+use constants::*;
 ghost use mathlib.Core.Path.{_≡_};
 ghost use Prim.Native.Nat.{_+_, _-_, _/_, _≤_, _<_};
 ghost use lib.ListN.{length};

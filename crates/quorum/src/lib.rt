@@ -16,16 +16,16 @@ ghost use Rattle.quorum.specs.Lists.{
   Greatest,
 };
 ghost use Rattle.quorum.specs.Signers.{holds};
-use layout::COMMIT;
-use layout::KIND_AT;
-use layout::NEWVIEW;
-use layout::OF_VIEW_AT;
-use layout::PROPOSED_BLOCK_AT;
-use layout::REPLY;
-use layout::SIGNER_AT;
-use layout::SUBJECT_AT;
-use layout::SUBJECT_BOOT_AT;
-use layout::VIEW_AT;
+use constants::COMMIT;
+use constants::KIND_AT;
+use constants::NEWVIEW;
+use constants::OF_VIEW_AT;
+use constants::PROPOSED_BLOCK_AT;
+use constants::REPLY;
+use constants::SIGNER_AT;
+use constants::SUBJECT_AT;
+use constants::SUBJECT_BOOT_AT;
+use constants::VIEW_AT;
 use layout::certificate_word;
 
 // What each certificate of a quorum has to be.

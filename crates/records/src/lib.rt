@@ -36,15 +36,15 @@ pub fn replica_in(table: &[u32], replica: u32) -> Replica
     ensures { λ r. ⌜ r ≡ replicaFrom (replicaAt (memory (now (table .entry)) [] []) replica) ⌝ }
 {
     Replica {
-        status: replica_word(table, replica, layout::STATUS_AT),
-        boot: replica_word(table, replica, layout::BOOT_AT),
-        min_view: replica_word(table, replica, layout::MIN_VIEW_AT),
-        view_limit: replica_word(table, replica, layout::VIEW_LIMIT_AT),
-        flag: replica_word(table, replica, layout::FLAG_AT),
-        stored_view: replica_word(table, replica, layout::STORED_VIEW_AT),
-        stored_block: replica_word(table, replica, layout::STORED_BLOCK_AT),
-        decided_view: replica_word(table, replica, layout::DECIDED_VIEW_AT),
-        decided_block: replica_word(table, replica, layout::DECIDED_BLOCK_AT),
+        status: replica_word(table, replica, constants::STATUS_AT),
+        boot: replica_word(table, replica, constants::BOOT_AT),
+        min_view: replica_word(table, replica, constants::MIN_VIEW_AT),
+        view_limit: replica_word(table, replica, constants::VIEW_LIMIT_AT),
+        flag: replica_word(table, replica, constants::FLAG_AT),
+        stored_view: replica_word(table, replica, constants::STORED_VIEW_AT),
+        stored_block: replica_word(table, replica, constants::STORED_BLOCK_AT),
+        decided_view: replica_word(table, replica, constants::DECIDED_VIEW_AT),
+        decided_block: replica_word(table, replica, constants::DECIDED_BLOCK_AT),
     }
 }
 
@@ -68,12 +68,12 @@ pub fn certificate_in(log: &[u32], number: u32) -> Certificate
     ensures { λ r. ⌜ r ≡ certificateFrom (certificate (memory [] (now (log .entry)) []) number) ⌝ }
 {
     Certificate {
-        kind: certificate_word(log, number, layout::KIND_AT),
-        signer: certificate_word(log, number, layout::SIGNER_AT),
-        view: certificate_word(log, number, layout::VIEW_AT),
-        block: certificate_word(log, number, layout::PROPOSED_BLOCK_AT),
-        of_view: certificate_word(log, number, layout::OF_VIEW_AT),
-        subject: certificate_word(log, number, layout::SUBJECT_AT),
-        boot: certificate_word(log, number, layout::SUBJECT_BOOT_AT),
+        kind: certificate_word(log, number, constants::KIND_AT),
+        signer: certificate_word(log, number, constants::SIGNER_AT),
+        view: certificate_word(log, number, constants::VIEW_AT),
+        block: certificate_word(log, number, constants::PROPOSED_BLOCK_AT),
+        of_view: certificate_word(log, number, constants::OF_VIEW_AT),
+        subject: certificate_word(log, number, constants::SUBJECT_AT),
+        boot: certificate_word(log, number, constants::SUBJECT_BOOT_AT),
     }
 }

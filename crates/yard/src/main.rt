@@ -27,9 +27,9 @@ const CERTIFICATES: usize = 2048;
 const BLOCKS: usize = 1024;
 
 // The words that are lent; a block has one.
-const TABLE_WORDS: usize = layout::ROW_START + REPLICAS * layout::REPLICA_WORDS;
+const TABLE_WORDS: usize = constants::ROW_START + REPLICAS * constants::REPLICA_WORDS;
 
-const LOG_WORDS: usize = CERTIFICATES * layout::CERTIFICATE_WORDS;
+const LOG_WORDS: usize = CERTIFICATES * constants::CERTIFICATE_WORDS;
 
 // Reads once, and again where that fails. Gives how many bytes came, 0 at the end of the input, or -1.
 fn read_chunk(chunk: &mut [u8; CHUNK_BYTES]) -> isize {

@@ -1,4 +1,4 @@
--- What is written is the output for the bytes, in whatever chunks they come.
+-- What is written is the output for the bytes, in whatever chunks they come; so are the texts of the program's turns.
 use Prim.Native.Nat.{ℕ, suc, _-_}
 use mathlib.Core.Path.{_≡_, refl, _∙_}
 use mathlib.Core.Bool.{true, false, cond}
@@ -10,10 +10,11 @@ use Rattle.protocol.proofs.Booleans.{tests, by-test}
 use Rattle.script.specs.Text.{lineFeed}
 use Rattle.stream.specs.Output.{linesFrom, answersTo, maxLines, output}
 use Rattle.stream.specs.Stream.{Stream, heldPlaces, endLine, fed, finished, newStream}
-use Rattle.stream.specs.Theorems.{joined, ChunksDoNotMatter}
+use Rattle.stream.specs.Turns.{taken, after, texts, bytesOf, AllCame}
+use Rattle.stream.specs.Theorems.{joined, ChunksDoNotMatter, TurnsGiveOutput}
 use Rattle.stream.specs.Progress.{begun}
-use Rattle.stream.proofs.Fed.{answered, line-ended, at-feed, at-other, fed-stopped}
-use Rattle.stream.proofs.Front.{written-at-once}
+use Rattle.stream.proofs.Fed.{fed-append, answered, line-ended, at-feed, at-other, fed-stopped}
+use Rattle.stream.proofs.Front.{fronted, front-fed, front-finished, written-at-once}
 
 pub lines-next : (line : List ℕ) (byte : ℕ) (bytes : List ℕ)
     → linesFrom line (byte ∷ bytes) ≡ cond (eqb byte lineFeed) (line ∷ linesFrom [] bytes) (linesFrom (line ++ (byte ∷ [])) bytes)
@@ -63,6 +64,23 @@ all-answers (byte ∷ bytes) s line =
     (λ f. rw (at-other s line low byte f, lines-next, f) (all-answers bytes s (line ++ (byte ∷ [])))))
     (λ high. nothing-more (begun s line) high (byte ∷ bytes) _)
 
+finished-output : (bytes : List ℕ) → finished (fed newStream bytes) .text ≡ output bytes
+unfolding output
+finished-output bytes = all-answers bytes newStream []
+
 pub chunks-do-not-matter : ChunksDoNotMatter
-unfolding ChunksDoNotMatter output
-chunks-do-not-matter chunks = written-at-once newStream chunks ∙ all-answers (joined chunks) newStream []
+unfolding ChunksDoNotMatter
+chunks-do-not-matter chunks = written-at-once newStream chunks ∙ finished-output (joined chunks)
+
+-- All bytes at once give the same stream, with the texts before its own.
+at-once : (reads : List (List ℕ)) → AllCame reads → fed newStream (bytesOf reads) ≡ fronted (texts newStream reads) (after newStream reads)
+unfolding bytesOf texts after taken fed
+at-once [] h = refl
+at-once ([] ∷ earlier) h = absurd h
+at-once ((byte ∷ bytes) ∷ earlier) h =
+    rw (fed-append, at-once earlier h, front-fed (texts newStream earlier) (after newStream earlier) (byte ∷ bytes), append-nil)
+
+pub turns-give-output : TurnsGiveOutput
+unfolding TurnsGiveOutput texts taken
+turns-give-output reads h =
+    rw (at-once reads h, front-finished (texts newStream reads) (after newStream reads)) at (finished-output (bytesOf reads))

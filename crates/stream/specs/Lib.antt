@@ -1,6 +1,7 @@
 -- The script program as a whole: what text comes out for what bytes (document 01, "Script program").
 pub mod Output
 pub mod Stream
+pub mod Turns
 pub mod Progress
 pub mod Feeds
 pub mod Holding

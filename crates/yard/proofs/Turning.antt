@@ -5,9 +5,10 @@ use mathlib.Core.List.{List, [], _∷_}
 use Rattle.stream.specs.declared.Progress.{Progress}
 use Rattle.stream.specs.Stream.{Stream, emptied}
 use Rattle.stream.specs.Progress.{streamOf}
+use Rattle.stream.specs.Turns.{taken, after, Ran}
 use Rattle.yard.specs.declared.Written.{Written}
 use Rattle.yard.specs.declared.Written.the-variants.{All}
-use Rattle.yard.specs.Turns.{InPlace, Flushed, taken, Writes, after, Ran}
+use Rattle.yard.specs.Turns.{InPlace, Flushed, Writes}
 
 pub begins : (s : Stream) → Ran s s
 unfolding after

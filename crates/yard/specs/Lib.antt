@@ -1,3 +1,2 @@
--- The program's turns: what a read makes of the stream, and what is then written (document 01, "Script program").
+-- The program's turns (document 01, "Script program").
 pub mod Turns
-pub mod Theorems

@@ -1,10 +1,9 @@
--- What holds between two turns of the program, and what a turn makes of a stream.
+-- What holds between two turns of the program, and what writing a text leaves.
 use Prim.Native.Nat.{ℕ, _*_, _≤_}
 use mathlib.Core.Path.{_≡_}
-use mathlib.Core.List.{List, [], _∷_}
 use Rattle.script.specs.Text.{answerBytes}
 use Rattle.stream.specs.declared.Progress.{Progress}
-use Rattle.stream.specs.Stream.{Stream, heldPlaces, fed, finished, emptied}
+use Rattle.stream.specs.Stream.{heldPlaces}
 use Rattle.yard.specs.declared.Written.{Written}
 use Rattle.yard.specs.declared.Written.the-variants.{All, Failed}
 
@@ -25,11 +24,6 @@ pub record Flushed (p : Progress) : Type 0 where
   pub held : p .held ≤ heldPlaces
   pub pending : p .pending ≡ 0
 
--- What a read makes of a stream: the bytes that came are fed; where none came, at the end of the input, a last line is answered.
-unfoldable pub taken : Stream → List ℕ → Stream
-taken s [] = finished s
-taken s (byte ∷ bytes) = fed s (byte ∷ bytes)
-
 -- Where a stream stands once its text is written: as before, and nothing is pending.
 abbrev pub cleared : Progress → Progress
 cleared p = record { «fault_bound» = p .«fault_bound»; lines = p .lines; held = p .held; pending = 0 }
@@ -37,13 +31,3 @@ cleared p = record { «fault_bound» = p .«fault_bound»; lines = p .lines; hel
 abbrev pub Writes : Progress → Written → Type 0
 Writes p (All r) = r ≡ cleared p
 Writes p Failed = Unit {0}
-
--- The stream after these reads, the newest first: what each makes of it, with the text written before the next.
-unfoldable pub after : Stream → List (List ℕ) → Stream
-after s [] = emptied s
-after s (bytes ∷ earlier) = emptied (taken (after s earlier) bytes)
-
--- The program goes from one stream to another by some reads. Where a write failed, the last one's text is still there.
-pub record Ran (s o : Stream) : Type 0 where
-  pub reads : List (List ℕ)
-  pub same : emptied o ≡ after s reads

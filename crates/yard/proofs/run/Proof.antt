@@ -2,7 +2,8 @@
 use native.Mathlib.Omega.{arith}
 use borrow.Author.Needs.{needs}
 use Rattle.stream.specs.Progress.{streamOf}
-use Rattle.yard.specs.Turns.{Flushed, Ran}
+use Rattle.stream.specs.Turns.{Ran}
+use Rattle.yard.specs.Turns.{Flushed}
 use Rattle.yard.proofs.Turning.{begins, turned, goes-on}
 use Rattle.yard.proofs.run.Statement.{statement}
 use Rattle.yard.proofs.run.Tie as tie

@@ -9,7 +9,7 @@ use mir.Syntax.{w64}
 use mir.ValLaws.{toZ-ofZ}
 use Rattle.io.specs.Counts.{clamped}
 use Rattle.stream.specs.Stream.{Stream, fed, finished}
-use Rattle.yard.specs.Turns.{taken}
+use Rattle.stream.specs.Turns.{taken}
 use borrow.Author.Needs.{needs}
 use Rattle.yard.proofs.take_read.Statement.{statement}
 use Rattle.yard.proofs.take_read.Tie as tie

@@ -7,7 +7,7 @@ use Rattle.protocol.proofs.Unread.{past-counts-unread}
 use Rattle.script.proofs.Theorems.{refused-leaves-session, before-opening, answers-printable}
 use Rattle.protocol.proofs.Values.{values-fit}
 use Rattle.protocol.proofs.Cases.{cases-hold}
-use Rattle.stream.proofs.Theorems.{chunks-do-not-matter}
+use Rattle.stream.proofs.Theorems.{chunks-do-not-matter, turns-give-output}
 use Rattle.stream.proofs.Cases.{worked-script, worked-script-tells, worked-script-opens}
 use Rattle.field.proofs.Counts.{count-is-least}
 use Rattle.field.proofs.Theorems.{written-reads-back, read-writes-back, read-is-bounded}
@@ -32,6 +32,7 @@ proved =
       beforeOpening = before-opening;
       answersPrintable = answers-printable;
       chunksDoNotMatter = chunks-do-not-matter;
+      turnsGiveOutput = turns-give-output;
       workedScript = worked-script;
       countIsLeast = count-is-least;
       writtenReadsBack = written-reads-back;

@@ -5,7 +5,7 @@ use Rattle.protocol.specs.Theorems.{RefusedChangesNothing, AcceptedLeavesForm, 
 use Rattle.protocol.specs.Theorems.{OpeningTestsFaultsFirst, ValuesFit}
 use Rattle.script.specs.Theorems.{RefusedLeavesSession, BeforeOpening, AnswersPrintable}
 use Rattle.protocol.specs.Cases.{CasesHold}
-use Rattle.stream.specs.Theorems.{ChunksDoNotMatter}
+use Rattle.stream.specs.Theorems.{ChunksDoNotMatter, TurnsGiveOutput}
 use Rattle.stream.specs.Cases.{WorkedScript, WorkedScriptTells, WorkedScriptOpens}
 use Rattle.field.specs.Theorems.{CountIsLeast, WrittenReadsBack, ReadWritesBack, ReadIsBounded}
 use Rattle.protocol.specs.Agreement.{Agreement, WordsMatchHistory, OnlyAppended, WouldAgree}
@@ -42,6 +42,8 @@ pub record Claims : Type 0 where
   pub answersPrintable : AnswersPrintable
   -- the output is that of the bytes, in whatever chunks they come
   pub chunksDoNotMatter : ChunksDoNotMatter
+  -- the texts of the program's reads are the output
+  pub turnsGiveOutput : TurnsGiveOutput
   -- the worked script, byte for byte
   pub workedScript : WorkedScript
   -- a number has no digit too many

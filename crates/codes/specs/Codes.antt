@@ -62,6 +62,7 @@ codeTable m replica number list =
 abbrev pub codedCall : Memory → ℕ → ℕ → ℕ → List ℕ → Coded
 codedCall m code replica number list = getD (codeTable m replica number list) code noCall
 
-abbrev pub refusalOf : Coded → ℕ
-refusalOf (Of call) = 0
-refusalOf (Refused refusal) = refusal
+-- The refusal that it holds; 0, "accepted", where it holds none.
+abbrev pub codeRefusal : Coded → ℕ
+codeRefusal (Of call) = 0
+codeRefusal (Refused refusal) = refusal

@@ -3,7 +3,7 @@ ghost use mathlib.Core.Path.{_≡_};
 ghost use mathlib.Core.List.{[]};
 ghost use Prim.Native.Nat.{_<_};
 ghost use Rattle.protocol.specs.Memory.{memory, certificateWords};
-ghost use Rattle.codes.specs.Codes.{isPlain, isShort, claimedWord, when, codedCall, refusalOf};
+ghost use Rattle.codes.specs.Codes.{isPlain, isShort, claimedWord, when, codedCall, codeRefusal};
 use protocol::ACCEPTED;
 use protocol::Call;
 use protocol::Justification;
@@ -16,6 +16,18 @@ const MAX_LIST: usize = 31;
 pub enum Coded {
     Of(Call),
     Refused(u32),
+}
+
+// The refusal that it holds, for a caller to hand up.
+impl Coded {
+    pub fn refusal(self) -> u32
+        ensures { λ r. ⌜ r ≡ codeRefusal self ⌝ }
+    {
+        match self {
+            Coded::Of(_) => ACCEPTED,
+            Coded::Refused(number) => number,
+        }
+    }
 }
 
 // A call without a list, whose unused argument is 0.
@@ -103,15 +115,5 @@ pub fn coded_call(
         11 => coded_when(is_plain(0, list), Call::Reply(replica, number)),
         12 => coded_when(is_short(number, list), Call::Recover(replica)),
         _ => Coded::Refused(UNREADABLE),
-    }
-}
-
-// The refusal that a caller hands up, ACCEPTED where there is a call.
-pub fn refusal_of(coded: Coded) -> u32
-    ensures { λ r. ⌜ r ≡ refusalOf coded ⌝ }
-{
-    match coded {
-        Coded::Of(_) => ACCEPTED,
-        Coded::Refused(refusal) => refusal,
     }
 }

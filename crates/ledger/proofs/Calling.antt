@@ -14,14 +14,14 @@ use Rattle.protocol.proofs.Needs.{refusal, refuses}
 use Rattle.protocol.proofs.Rules.{no-form}
 use Rattle.codes.specs.declared.Coded.{Coded}
 use Rattle.codes.specs.declared.Coded.the-variants.{Of, Refused}
-use Rattle.codes.specs.Codes.{noCall, codedCall, refusalOf}
+use Rattle.codes.specs.Codes.{noCall, codedCall, codeRefusal}
 use Rattle.codes.proofs.Aside.{coded-aside}
 use Rattle.codes.proofs.Readable.{unreadable-anywhere, refused-unreadable, no-opening}
 use Rattle.ledger.specs.Called.{MakeCall, calledBy, called}
 
 module _ (t l b : List ℕ) (code replica number : ℕ) (list : List ℕ) (r : Coded)
     (e : r ≡ codedCall (memory t l []) code replica number list) where
-  pub not-called : {refusal n : ℕ} {a : Answer} → r ≡ Refused refusal → n ≡ refusalOf r → a ≡ record { number = n; first = 0; second = 0 }
+  pub not-called : {refusal n : ℕ} {a : Answer} → r ≡ Refused refusal → n ≡ codeRefusal r → a ≡ record { number = n; first = 0; second = 0 }
       → outcome a t l b ≡ called (memory t l b) code replica number list
   unfolding called calledBy
   not-called u x y =

@@ -62,7 +62,7 @@ pub fn call_by_code(
 {
     let coded = codes::coded_call(table, log, code, replica, number, list);
     let Coded::Of(call) = coded else {
-        return refused(codes::refusal_of(coded));
+        return refused(coded.refusal());
     };
     invoke(table, log, blocks, call, list)
 }

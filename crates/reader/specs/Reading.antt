@@ -32,6 +32,6 @@ unfoldable pub fieldAt : List ℕ → ℕ → Read
 fieldAt line column = cond (leb (numberFrom line column) maxNumber) (To (column + columns)) (Refused unreadable)
 
 -- "a failed read or test hands its number up unchanged"
-abbrev pub refusalOf : Read → ℕ
-refusalOf (To column) = 0
-refusalOf (Refused refusal) = refusal
+abbrev pub readRefusal : Read → ℕ
+readRefusal (To column) = 0
+readRefusal (Refused refusal) = refusal

@@ -1,6 +1,6 @@
 // The line reader: the bytes of a line and the column reached (document 01, "Script program").
 ghost use mathlib.Core.Path.{_≡_};
-ghost use Rattle.reader.specs.Reading.{numberFrom, columnAfter, movedOn, readOf, fieldAt, refusalOf};
+ghost use Rattle.reader.specs.Reading.{numberFrom, columnAfter, movedOn, readOf, fieldAt, readRefusal};
 use field::COLUMNS;
 use field::MAX_NUMBER;
 use protocol::ACCEPTED;
@@ -15,6 +15,18 @@ pub struct Reader<'a> {
 pub enum Read {
     To(usize),
     Refused(u32),
+}
+
+// The refusal that it holds, for a caller to hand up.
+impl Read {
+    pub fn refusal(self) -> u32
+        ensures { λ r. ⌜ r ≡ readRefusal self ⌝ }
+    {
+        match self {
+            Read::To(_) => ACCEPTED,
+            Read::Refused(number) => number,
+        }
+    }
 }
 
 // Reads the field that starts at a column of a line. Gives the column after it; the same column where none starts there.
@@ -59,14 +71,4 @@ pub fn read_field(line: &[u8], column: usize, number: &mut u32) -> Read
 {
     let reader = next(Reader { line, column }, number);
     read_of(column, reader.column)
-}
-
-// The refusal that a caller hands up, ACCEPTED where a field was read.
-pub fn refusal_of(read: Read) -> u32
-    ensures { λ r. ⌜ r ≡ refusalOf read ⌝ }
-{
-    match read {
-        Read::To(_) => ACCEPTED,
-        Read::Refused(refusal) => refusal,
-    }
 }

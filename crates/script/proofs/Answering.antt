@@ -9,7 +9,7 @@ use Rattle.protocol.proofs.Booleans.{by-test}
 use Rattle.field.specs.Field.{columns}
 use Rattle.reader.specs.declared.Read.{Read}
 use Rattle.reader.specs.declared.Read.the-variants.{To, Refused}
-use Rattle.reader.specs.Reading.{refusalOf}
+use Rattle.reader.specs.Reading.{readRefusal}
 use Rattle.script.specs.Lines.{minFields, maxFields, fieldCount, numbers, hasNumbers, lineRead}
 use Rattle.script.specs.Session.{Session, Answered, answerNumbers, answerLine}
 use Rattle.script.proofs.Reading.{clash, same, readable}
@@ -34,7 +34,7 @@ module _ (line : List ℕ) {r : Read} (e : r ≡ lineRead line) where
       rw end (refl, d .enough, d .few)
 
   module _ (s : Session) where
-    pub line-refused : {refusal x : ℕ} {a : Answer} → r ≡ Refused refusal → x ≡ refusalOf r
+    pub line-refused : {refusal x : ℕ} {a : Answer} → r ≡ Refused refusal → x ≡ readRefusal r
         → a ≡ record { number = x; first = 0; second = 0 } → _≡_ {A = Answered} (record { answer = a; session = s }) (answerLine s line)
     unfolding lineRead answerLine
     line-refused u x y =

@@ -159,7 +159,7 @@ pub fn answer_line(
     let mut given = [0u32; MAX_FIELDS];
     let read = read_numbers(line, &mut given);
     let Read::To(column) = read else {
-        return refused(reader::refusal_of(read));
+        return refused(read.refusal());
     };
     let count = column / COLUMNS;
     answer_numbers(table, log, blocks, fault_bound, &given[..count])

@@ -7,7 +7,7 @@ use Rattle.ledger.proofs.call_by_code.Tie as tie
 returns : tie.Need-returns
 returns c =
     let told = c .before .before in
-    not-called _ _ _ _ _ _ _ _ (told .before .before .coded-call .ensures) (told .enum-told .given .1) (c .before .refusal-of .ensures)
+    not-called _ _ _ _ _ _ _ _ (told .before .before .coded-call .ensures) (told .enum-told .given .1) (c .before .refusal .ensures)
     (c .refused .ensures)
 
 returns-2 : tie.Need-returns-2

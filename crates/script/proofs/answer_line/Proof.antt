@@ -12,7 +12,7 @@ use Rattle.script.proofs.answer_line.Tie as tie
 returns : tie.Need-returns
 returns c =
     line-refused _ (c .before .before .before .before .before .read-numbers .ensures .0) _ (c .before .before .enum-told .given .1)
-    (c .before .refusal-of .ensures) (c .refused .ensures)
+    (c .before .refusal .ensures) (c .refused .ensures)
 
 array-share-prefix-given : tie.Need-array-share-prefix-given
 array-share-prefix-given c =

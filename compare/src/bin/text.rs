@@ -99,28 +99,45 @@ fn line_end(chunk: &[u8], from: usize) -> usize {
 /// A line of numbers is called on a ledger that is not open, by the library: no table is lent.
 fn answer_line(line: &[u8]) -> Outcome {
     let mut given = [0; MAX_FIELDS];
-    let count = read_numbers(line, &mut given);
-    if count == 0 {
-        return Outcome { answer: UNREADABLE, first: 0, second: 0 };
-    }
+    let column = match read_numbers(line, &mut given) {
+        Ok(column) => column,
+        Err(answer) => return Outcome { answer, first: 0, second: 0 },
+    };
     let mut memory = Memory { table: &mut [], log: &mut [], blocks: &mut [] };
-    call(Correct, &mut memory, given[0], given[1], given[2], &given[MIN_FIELDS..count])
+    call(Correct, &mut memory, given[0], given[1], given[2], &given[MIN_FIELDS..column / COLUMNS])
 }
 
-/// Reads the line's numbers; gives how many there are, 0 for a line that cannot be read.
-fn read_numbers(line: &[u8], given: &mut [u32; MAX_FIELDS]) -> usize {
+/// The bytes of a line and the column reached.
+struct Reader<'a> {
+    line: &'a [u8],
+    column: usize,
+}
+
+/// Reads the field at the column reached, and comes back further on; where none starts there, as it was.
+fn next<'a>(reader: Reader<'a>, number: &mut u32) -> Reader<'a> {
+    *number = read_number(&reader.line[reader.column..reader.column + COLUMNS]);
+    let column = if *number <= MAX_NUMBER { reader.column + COLUMNS } else { reader.column };
+    Reader { line: reader.line, column }
+}
+
+/// Reads the line's numbers, field after field; gives the column reached, or the refusal.
+fn read_numbers(line: &[u8], given: &mut [u32; MAX_FIELDS]) -> Result<usize, u32> {
     let count = line.len() / COLUMNS;
     if COLUMNS * count != line.len() || !(MIN_FIELDS..=MAX_FIELDS).contains(&count) {
-        return 0;
+        return Err(UNREADABLE);
     }
-    for i in 0..count {
-        let number = read_number(&line[COLUMNS * i..COLUMNS * (i + 1)]);
-        if MAX_NUMBER < number {
-            return 0;
+    let (mut column, mut i) = (0, 0);
+    while column != line.len() {
+        let mut number = 0;
+        let reader = next(Reader { line, column }, &mut number);
+        if reader.column == column {
+            return Err(UNREADABLE);
         }
         given[i] = number;
+        i += 1;
+        column = reader.column;
     }
-    count
+    Ok(column)
 }
 
 /// Past the blanks: the digits, without a leading zero.

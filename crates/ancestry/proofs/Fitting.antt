@@ -5,7 +5,7 @@ use mathlib.Core.List.{List}
 use native.Mathlib.Omega.{arith}
 use Rattle.protocol.specs.Memory.{Memory, blockCount}
 use Rattle.protocol.proofs.Formed.{Formed, sizes, falls}
-use Rattle.ancestry.specs.AncestryFits.{AncestryFits, parentIn}
+use Rattle.ancestry.specs.inner.AncestryFits.{AncestryFits, parentIn}
 
 pub ancestry-fits : (m : Memory) → Formed m → (b : ℕ) → b < blockCount m → AncestryFits (m .blocks) b
 ancestry-fits m h b l =

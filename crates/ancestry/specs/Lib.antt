@@ -1,2 +1,1 @@
--- What the functions of this crate ask of the blocks.
-pub mod AncestryFits
+pub mod inner

@@ -1,7 +1,7 @@
 // Lines of parents: whether a block is in the line of another, and how far a block is from block 0.
 ghost use mathlib.Core.Path.{_≡_};
 ghost use Rattle.protocol.specs.Ancestry.{isAncestorBy, heightBy};
-ghost use Rattle.ancestry.specs.AncestryFits.{AncestryFits, parentIn};
+ghost use Rattle.ancestry.specs.inner.AncestryFits.{AncestryFits, parentIn};
 
 // The block that has only itself in its line.
 const ROOT: u32 = 0;

@@ -11,7 +11,7 @@ use Rattle.protocol.specs.Memory.{words, kindAt, signerAt, viewAt, proposedBloc
 use Rattle.protocol.specs.Form.{allBelow}
 use Rattle.protocol.proofs.Booleans.{tests, by-test, at-below}
 use Rattle.certificates.specs.declared.Certificate.{Certificate}
-use Rattle.certificates.specs.Filing.{certificateOf, equalFrom, isEqual, isOfOtherView}
+use Rattle.certificates.specs.inner.Filing.{certificateOf, equalFrom, isEqual, isOfOtherView}
 
 module _ (log : List ℕ) (start : ℕ) (c : Certificate) where
   abbrev same : ℕ → ℕ → Bool

@@ -7,7 +7,7 @@ use native.Mathlib.Numerals.{add-one}
 use lib.Dec.{ltb, eqb}
 use Rattle.protocol.specs.Certificates.{firstBelow}
 use Rattle.protocol.proofs.Booleans.{tests, by-test}
-use Rattle.layout.specs.Parts.{fourOk}
+use Rattle.layout.specs.inner.Parts.{fourOk}
 use Rattle.layout.proofs.Below.{four-steps}
 
 module _ (test : ℕ → Bool) where

@@ -13,7 +13,7 @@ use Rattle.protocol.specs.Outcome.{noRoom}
 use Rattle.protocol.proofs.Booleans.{tests, by-test}
 use Rattle.certificates.specs.declared.Filed.{Filed}
 use Rattle.certificates.specs.declared.Filed.the-variants.{At, Refused}
-use Rattle.certificates.specs.Filing.{countIn, equalFrom, isEqual, slotFor, filing}
+use Rattle.certificates.specs.inner.Filing.{countIn, equalFrom, isEqual, slotFor, filing}
 
 -- ---- the place, from the number that the search gives
 

@@ -1,2 +1,1 @@
--- What filing a certificate asks and gives.
-pub mod Filing
+pub mod inner

@@ -18,12 +18,12 @@ use Rattle.protocol.proofs.Lists.{every-at}
 use Rattle.protocol.proofs.Needs.{Holds}
 use Rattle.protocol.proofs.Formed.{Formed}
 use Rattle.layout.proofs.Within.{certificate-bounds}
-use Rattle.quorum.specs.Lists.{certificatesIn}
+use Rattle.quorum.specs.inner.Lists.{certificatesIn}
 use Rattle.quorum.proofs.Accepted.{listed, some-listed, commit-at}
 use Rattle.records.specs.declared.Replica.{Replica}
 use Rattle.checks.specs.declared.Tested.{Tested}
 use Rattle.checks.specs.declared.Tested.the-variants.{Passed}
-use Rattle.checks.specs.Verdicts.{tested}
+use Rattle.checks.specs.inner.Verdicts.{tested}
 use Rattle.checks.proofs.Ready.{Ready}
 use Rattle.checks.proofs.Verdicts.{was-refused, was-found}
 use Rattle.checks.proofs.Passing.{At, on, stops, ReplicaFound, held, passed}
@@ -31,7 +31,7 @@ use Rattle.issuing.proofs.Issues.{slot, start}
 use Rattle.checker.specs.declared.justification.Justified.{Justified}
 use Rattle.checker.specs.declared.justification.Judgement.{Judgement}
 use Rattle.checker.specs.declared.justification.Judgement.the-variants.{By, Refused}
-use Rattle.checker.specs.Justifications.{Justifying, justifiedBy, judgementNeeds, judgementOf, judgementRefusal}
+use Rattle.checker.specs.inner.Justifications.{Justifying, justifiedBy, judgementNeeds, judgementOf, judgementRefusal}
 
 -- The view of a certificate has a next one,
 pub view-bound : (m : Memory) (number : ℕ) → Formed m → isIssued m number ≡ true → certificate m number .view ≤ ceiling

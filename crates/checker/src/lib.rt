@@ -13,9 +13,9 @@ ghost use Rattle.protocol.specs.Calls.{
   store as storeRule,
   view as viewRule,
 };
-ghost use Rattle.certificates.specs.Filing.{certificateOf};
-ghost use Rattle.records.specs.Replicas.{replicaOf};
-ghost use Rattle.checks.specs.Verdicts.{tested};
+ghost use Rattle.certificates.specs.inner.Filing.{certificateOf};
+ghost use Rattle.records.specs.inner.Replicas.{replicaOf};
+ghost use Rattle.checks.specs.inner.Verdicts.{tested};
 use self::justification::Judgement;
 use self::justification::Justified;
 use certificates::Certificate;

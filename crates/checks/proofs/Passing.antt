@@ -12,14 +12,14 @@ use Rattle.protocol.proofs.Needs as Needs
 use Rattle.protocol.proofs.Needs.{Holds, positive, all-needs, refused-first, all-pass}
 use Rattle.certificates.specs.declared.Certificate.{Certificate}
 use Rattle.records.specs.declared.Replica.{Replica}
-use Rattle.records.specs.Replicas.{replicaFrom, certificateFrom}
+use Rattle.records.specs.inner.Replicas.{replicaFrom, certificateFrom}
 use Rattle.checks.specs.declared.Tested.{Tested}
 use Rattle.checks.specs.declared.Tested.the-variants as Test
 use Rattle.checks.specs.declared.FoundReplica.{FoundReplica}
 use Rattle.checks.specs.declared.FoundReplica.the-variants as OfReplica
 use Rattle.checks.specs.declared.FoundCertificate.{FoundCertificate}
 use Rattle.checks.specs.declared.FoundCertificate.the-variants as OfCertificate
-use Rattle.checks.specs.Verdicts.{tested, replicaFound, certificateFound, testRefusal, replicaRefusal, certificateRefusal}
+use Rattle.checks.specs.inner.Verdicts.{tested, replicaFound, certificateFound, testRefusal, replicaRefusal, certificateRefusal}
 use Rattle.checks.proofs.Ready.{Ready, ready, ReadyList}
 use Rattle.checks.proofs.Verdicts.{was-refused, was-found, tested-is}
 
@@ -110,8 +110,8 @@ module _ (m : Memory) (number : ℕ) {rule : Rule} (rest : List Need) (at : At r
 -- ---- by the answer of a test
 
 module _ (ns : List Need) (numbered : positive ns ≡ true) {t : Tested} (is : t ≡ tested ns) where
-  pub failed : (m : Memory) {rule : Rule} (rest : List Need) → At rule (ns ++ rest) → {a : Answer} {n k : ℕ} → t ≡ Test.Refused n → k ≡ testRefusal t
-      → a ≡ record { number = k; first = 0; second = 0 } → record { answer = a; memory = m } ≡ follow m rule
+  pub failed : (m : Memory) {rule : Rule} (rest : List Need) → At rule (ns ++ rest) → {a : Answer} {n k : ℕ} → t ≡ Test.Refused n
+      → k ≡ testRefusal t → a ≡ record { number = k; first = 0; second = 0 } → record { answer = a; memory = m } ≡ follow m rule
   failed m rest at told refusal answer =
       stops (refusal ∙ rw told refl) answer ns rest at
       (was-refused _ _ ns (λ e. cc) (λ k e. cc) (sym told ∙ is ∙ tested-is ns numbered))

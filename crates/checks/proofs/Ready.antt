@@ -15,7 +15,7 @@ use Rattle.protocol.proofs.Booleans.{tests, by-test}
 use Rattle.protocol.proofs.Lists.{every-at}
 use Rattle.protocol.proofs.Needs.{all-needs}
 use Rattle.protocol.proofs.Formed.{Formed, formed, Sizes, sizes}
-use Rattle.quorum.specs.Lists.{Listed}
+use Rattle.quorum.specs.inner.Lists.{Listed}
 use Rattle.quorum.proofs.Accepted.{listed, some-listed}
 
 pub record Ready (m : Memory) (i : ℕ) : Type 0 where

@@ -10,7 +10,7 @@ use Rattle.protocol.proofs.Needs.{positive}
 use lib.Dec.{leb}
 use Rattle.checks.specs.declared.Tested.{Tested}
 use Rattle.checks.specs.declared.Tested.the-variants.{Passed, Refused}
-use Rattle.checks.specs.Verdicts.{verdict, next, testedAfter, tested}
+use Rattle.checks.specs.inner.Verdicts.{verdict, next, testedAfter, tested}
 
 -- What two different constructors of an enum, said to be equal, show.
 abbrev Clash : Type 0

@@ -1,2 +1,1 @@
--- What the tests that calls share answer.
-pub mod Verdicts
+pub mod inner

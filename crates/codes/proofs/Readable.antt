@@ -1,5 +1,5 @@
--- What a code tells whatever the memory holds: whether there is a call, what is refused where there is none, and that a code other than 0 is
--- no opening.
+-- What a code tells whatever the memory holds: whether there is a call, what is refused where there is none, and that a code other than 0
+-- is no opening.
 use Prim.Native.Nat.{ℕ, zero, suc}
 use mathlib.Core.Path.{_≡_, refl}
 use mathlib.Core.Bool.{Bool, true, false}

@@ -11,7 +11,7 @@ use Rattle.protocol.specs.Calls.{issuing}
 use Rattle.protocol.proofs.Needs.{refusal, acceptance}
 use Rattle.certificates.specs.declared.Filed.{Filed}
 use Rattle.certificates.specs.declared.Filed.the-variants.{At, Refused}
-use Rattle.certificates.specs.Filing.{Result, filing, filingRefusal}
+use Rattle.certificates.specs.inner.Filing.{Result, filing, filingRefusal}
 use Rattle.certificates.proofs.Slots.{placed, not-placed}
 
 module _ (m : Memory) (i : ℕ) (changes : List Assignment) (c : Certificate) where

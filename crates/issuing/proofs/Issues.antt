@@ -9,7 +9,7 @@ use Rattle.protocol.specs.Calls.{issuing}
 use Rattle.certificates.proofs.Fits.{log-fits}
 use Rattle.checks.proofs.Ready.{Ready, row-within}
 use Rattle.checks.proofs.Passing.{At}
-use Rattle.issuing.specs.Issuable.{Issuable}
+use Rattle.issuing.specs.inner.Issuable.{Issuable}
 
 pub issuable : (m : Memory) (i : ℕ) → Ready m i → Issuable (m .table) (m .log) i
 issuable m i h = record { fits = log-fits m (h .formed); row = row-within m i h }

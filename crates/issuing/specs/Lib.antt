@@ -1,2 +1,1 @@
--- What issuing asks.
-pub mod Issuable
+pub mod inner

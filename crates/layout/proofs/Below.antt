@@ -6,7 +6,7 @@ use native.Mathlib.Numerals.{add-one}
 use native.Mathlib.Omega.{arith}
 use Rattle.protocol.specs.Form.{allBelow}
 use Rattle.protocol.proofs.Booleans.{by-test, true-and, each, all-hold, at-below}
-use Rattle.layout.specs.Parts.{fourOk}
+use Rattle.layout.specs.inner.Parts.{fourOk}
 
 module _ (test : ℕ → Bool) where
   -- What one test takes on by one, four tests take on by four.

@@ -8,7 +8,7 @@ use Rattle.protocol.specs.Memory.{Memory, maxFaultBound, faultBound, rowStart}
 use Rattle.protocol.specs.Form.{allHold, isFaultBound, lengthsFit, countsFit, wellFormed}
 use Rattle.protocol.proofs.Booleans.{tests, by-test, and-true, true-and, each}
 use Rattle.protocol.proofs.Formed.{formed, Sizes, sizes}
-use Rattle.layout.specs.Parts.{wordsOk}
+use Rattle.layout.specs.inner.Parts.{wordsOk}
 
 pub bounded : (f : ℕ) → isFaultBound f ≡ true → f ≤ maxFaultBound
 bounded f e = let h = each _ e in omega tests

@@ -1,2 +1,1 @@
--- What the inner functions' contracts cite.
-pub mod Parts
+pub mod inner

@@ -17,7 +17,7 @@ ghost use Rattle.protocol.specs.Memory.{
 };
 ghost use Rattle.protocol.specs.Form.{allBelow, isFaultBound, lengthsFit, countsFit, wellFormed};
 ghost use Rattle.protocol.proofs.Formed.{Sizes};
-ghost use Rattle.layout.specs.Parts.{blockOk, replicaOk, certificateOk, fourOk, wordsOk};
+ghost use Rattle.layout.specs.inner.Parts.{blockOk, replicaOk, certificateOk, fourOk, wordsOk};
 
 // f is 1 to 30.
 pub fn is_fault_bound(f: u32) -> bool

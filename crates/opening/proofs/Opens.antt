@@ -11,7 +11,7 @@ use Rattle.protocol.specs.Outcome.{firstRefusal, follow, outOfRange, wrongForm}
 use Rattle.protocol.specs.Calls.{freshReplica, freshReplicas, freshHeader, opening}
 use Rattle.protocol.proofs.Booleans.{tests, each}
 use Rattle.protocol.proofs.Needs.{refusal, acceptance, refuses, accepts, fails, holds}
-use Rattle.opening.specs.Fresh.{freshRows}
+use Rattle.opening.specs.inner.Fresh.{freshRows}
 
 -- The rows by the table alone are those of the memory.
 rows-are : (m : Memory) (limit k : ℕ) → limit ≡ counterStep m 0

@@ -5,7 +5,7 @@ ghost use lib.ListN.{length};
 ghost use Rattle.protocol.specs.Memory.{rowAt, replicaWords, assign};
 ghost use Rattle.protocol.specs.Outcome.{outcome, outcomeBy};
 ghost use Rattle.protocol.specs.Calls.{freshReplica, opening as openingRule, block as blockRule};
-ghost use Rattle.opening.specs.Fresh.{freshRows};
+ghost use Rattle.opening.specs.inner.Fresh.{freshRows};
 use checks::accepted;
 use checks::refused;
 use constants::BLOCK_COUNT_AT;

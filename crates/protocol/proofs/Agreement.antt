@@ -160,7 +160,8 @@ history-on past m (q ∷ qs) more =
     history-on (eventOf (q .call) (o .answer) ∷ past) (o .memory) qs more
 
 -- The beginning of an execution is one.
-pub begins : (m : Memory) (f : ℕ) (list : List ℕ) (calls more : List Invocation) → Execution m f list (calls ++ more) → Execution m f list calls
+pub begins : (m : Memory) (f : ℕ) (list : List ℕ) (calls more : List Invocation) → Execution m f list (calls ++ more)
+    → Execution m f list calls
 begins m f list calls more execution =
     record {
       opened = execution .opened;
@@ -181,7 +182,8 @@ pub panel-stays-up : (m : Memory) (f : ℕ) (list : List ℕ) (calls more : List
     → panel (eventsOf m f list calls) i ≤ panel (eventsOf m f list (calls ++ more)) i
 panel-stays-up m f list calls more execution i =
     let e = history-on [] (step m (Open f) list .memory) calls more in
-    rw e (rises (eventsOf m f list calls) (endOf m f list calls) more (rw e at (reached-by m f list (calls ++ more) execution .panels)) .0 i)
+    rw e (rises (eventsOf m f list calls) (endOf m f list calls) more
+    (rw e at (reached-by m f list (calls ++ more) execution .panels)) .0 i)
 
 -- ---- the theorems
 

@@ -64,7 +64,8 @@ fresh-row m (suc k) i h room =
     let s = fresh-lengths m k in
     by-test (eqb i k)
     (λ e. let q : i ≡ k = omega tests in rw q (update-own (freshReplicas m k) k (freshReplica (counterStep m 0)) refl (omega arith)))
-    (λ e. update-other (freshReplicas m k) k (freshReplica (counterStep m 0)) refl i (omega tests) ∙ fresh-row m k i (omega tests) (omega arith))
+    (λ e. update-other (freshReplicas m k) k (freshReplica (counterStep m 0)) refl i (omega tests) ∙ fresh-row m k i (omega tests)
+    (omega arith))
 
 -- ---- the header
 

@@ -69,7 +69,8 @@ OnlyAppended =
     (m : Memory) (f : ℕ) (list : List ℕ) (calls more : List Invocation) → Execution m f list calls
     → (List·Memᴰ reopened (history [] (endOf m f list calls) more) → ⊥) → Extends (endOf m f list calls) (run (endOf m f list calls) more)
 
--- ---- The stronger form: at the end of an execution, the blocks of any two lists that a Decide would accept are of one line, decided or not.
+-- ---- The stronger form: at the end of an execution, the blocks of any two lists that a Decide would accept are of one line, decided
+-- or not.
 
 unfoldable pub WouldAgree : Type 0
 WouldAgree =

@@ -13,7 +13,7 @@ use Rattle.protocol.specs.Quorum.{isCommitQuorum}
 use Rattle.protocol.proofs.Booleans.{tests, each}
 use Rattle.protocol.proofs.Lists.{every-at}
 use Rattle.protocol.proofs.Formed.{Formed, sizes}
-use Rattle.quorum.specs.Lists.{Listed}
+use Rattle.quorum.specs.inner.Lists.{Listed}
 
 -- ---- before the call
 

@@ -8,7 +8,7 @@ use lib.Bits.{bitOr, or-shr, or-mod}
 use lib.Pow.{pow-add, pow-pos, pow-lt, shl-shr}
 use lib.Dec.{eqb, ltb}
 use Rattle.protocol.proofs.Booleans.{tests, by-test}
-use Rattle.quorum.specs.Signers.{holds}
+use Rattle.quorum.specs.inner.Signers.{holds}
 
 pub holds-none : (x : ℕ) → holds 0 x ≡ false
 unfolding holds

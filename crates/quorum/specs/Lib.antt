@@ -1,2 +1,1 @@
-pub mod Signers
-pub mod Lists
+pub mod inner

@@ -5,7 +5,7 @@ ghost use lib.Bits.{bitOr};
 ghost use lib.Dec.{ltb};
 ghost use lib.ListN.{length};
 ghost use Rattle.protocol.specs.Quorum.{every, isCommitQuorum, isNewViewQuorum, isReplyQuorum};
-ghost use Rattle.quorum.specs.Lists.{
+ghost use Rattle.quorum.specs.inner.Lists.{
   certificateIn,
   certificatesIn,
   maxSigners,
@@ -15,7 +15,7 @@ ghost use Rattle.quorum.specs.Lists.{
   wants,
   Greatest,
 };
-ghost use Rattle.quorum.specs.Signers.{holds};
+ghost use Rattle.quorum.specs.inner.Signers.{holds};
 use constants::COMMIT;
 use constants::KIND_AT;
 use constants::NEWVIEW;

@@ -8,7 +8,7 @@ use native.Mathlib.Numerals.{add-one}
 use lib.ListN.{length, getD, set, drop, drop-of-length-le}
 use lib.Seq.{drop-cons}
 use Rattle.protocol.specs.Memory.{assign}
-use Rattle.records.specs.Replicas.{assignments}
+use Rattle.records.specs.inner.Replicas.{assignments}
 
 module _ (t : List ℕ) (at : ℕ) (offsets values : List ℕ) (i : ℕ) where
   pub set-step : i < length offsets → i < length values

@@ -1,1 +1,1 @@
-pub mod Replicas
+pub mod inner

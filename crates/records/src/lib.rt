@@ -13,7 +13,7 @@ ghost use Rattle.protocol.specs.Memory.{
   certificate,
   assign,
 };
-ghost use Rattle.records.specs.Replicas.{replicaFrom, certificateFrom, assignments, Settable};
+ghost use Rattle.records.specs.inner.Replicas.{replicaFrom, certificateFrom, assignments, Settable};
 use certificates::Certificate;
 use layout::certificate_word;
 use layout::replica_word;

@@ -9,9 +9,9 @@ ghost use Rattle.protocol.specs.Calls.{
   reply as replyRule,
   recover as recoverRule,
 };
-ghost use Rattle.certificates.specs.Filing.{certificateOf};
-ghost use Rattle.records.specs.Replicas.{replicaOf};
-ghost use Rattle.checks.specs.Verdicts.{tested};
+ghost use Rattle.certificates.specs.inner.Filing.{certificateOf};
+ghost use Rattle.records.specs.inner.Replicas.{replicaOf};
+ghost use Rattle.checks.specs.inner.Verdicts.{tested};
 use certificates::Certificate;
 use checks::FoundCertificate;
 use checks::FoundReplica;

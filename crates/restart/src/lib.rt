@@ -7,8 +7,8 @@ ghost use Rattle.protocol.specs.Calls.{
   reserve as reserveRule,
   reboot as rebootRule,
 };
-ghost use Rattle.records.specs.Replicas.{replicaOf};
-ghost use Rattle.checks.specs.Verdicts.{tested};
+ghost use Rattle.records.specs.inner.Replicas.{replicaOf};
+ghost use Rattle.checks.specs.inner.Verdicts.{tested};
 use checks::FoundReplica;
 use checks::Tested;
 use checks::accepted;

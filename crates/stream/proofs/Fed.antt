@@ -10,7 +10,7 @@ use Rattle.protocol.proofs.Booleans.{tests, by-test}
 use Rattle.script.specs.Text.{lineFeed}
 use Rattle.stream.specs.Output.{maxLines}
 use Rattle.stream.specs.Stream.{Stream, heldPlaces, holding, endLine, hold, byteIn, fed}
-use Rattle.stream.specs.Progress.{withHeld, begun}
+use Rattle.stream.specs.inner.Progress.{withHeld, begun}
 use Rattle.stream.proofs.Long.{held-answer}
 
 pub fed-append : (s : Stream) (xs ys : List ℕ) → fed s (xs ++ ys) ≡ fed (fed s xs) ys

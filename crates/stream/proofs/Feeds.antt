@@ -9,7 +9,7 @@ use lib.ListN.{length, getD, drop, length-drop, drop-of-length-le}
 use lib.Seq.{drop-cons, drop-drop}
 use Rattle.protocol.proofs.Booleans.{tests, by-test}
 use Rattle.script.specs.Text.{lineFeed}
-use Rattle.stream.specs.Feeds.{feedFrom}
+use Rattle.stream.specs.inner.Feeds.{feedFrom}
 
 past : (k : ℕ) (xs : List ℕ) → k ≤ feedFrom xs → feedFrom xs ≡ k + feedFrom (drop k xs)
 unfolding feedFrom

@@ -9,7 +9,7 @@ use lib.ListN.{length, take, drop, getD, set, length-take, length-drop}
 use lib.Seq.{take-all, take-append-add, take-take, getD-drop, length-take-le, paste, paste-suc, take-paste}
 use Rattle.protocol.proofs.Booleans.{tests, by-test}
 use Rattle.stream.specs.Stream.{heldPlaces}
-use Rattle.stream.specs.Holding.{Holdable, lineSoFar, Held}
+use Rattle.stream.specs.inner.Holding.{Holdable, lineSoFar, Held}
 
 take-twice : (m n : ℕ) (xs : List ℕ) → take m (take n xs) ≡ take (min m n) xs
 take-twice m n xs =

@@ -11,8 +11,8 @@ use Rattle.protocol.proofs.Booleans.{tests, by-test}
 use Rattle.script.specs.Text.{lineFeed}
 use Rattle.stream.specs.Output.{maxLines}
 use Rattle.stream.specs.Stream.{Stream, heldPlaces, endLine, fed}
-use Rattle.stream.specs.Feeds.{feedFrom}
-use Rattle.stream.specs.Progress.{begun}
+use Rattle.stream.specs.inner.Feeds.{feedFrom}
+use Rattle.stream.specs.inner.Progress.{begun}
 use Rattle.stream.proofs.Fed.{at-feed, at-other}
 
 -- The bytes before the first line feed.

@@ -12,7 +12,7 @@ use Rattle.stream.specs.Output.{linesFrom, answersTo, maxLines, output}
 use Rattle.stream.specs.Stream.{Stream, heldPlaces, endLine, fed, finished, newStream}
 use Rattle.stream.specs.Turns.{taken, after, texts, bytesOf, AllCame}
 use Rattle.stream.specs.Theorems.{joined, ChunksDoNotMatter, TurnsGiveOutput}
-use Rattle.stream.specs.Progress.{begun}
+use Rattle.stream.specs.inner.Progress.{begun}
 use Rattle.stream.proofs.Fed.{fed-append, answered, line-ended, at-feed, at-other, fed-stopped}
 use Rattle.stream.proofs.Front.{fronted, front-fed, front-finished, written-at-once}
 

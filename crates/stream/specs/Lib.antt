@@ -2,9 +2,7 @@
 pub mod Output
 pub mod Stream
 pub mod Turns
-pub mod Progress
-pub mod Feeds
-pub mod Holding
 pub mod Theorems
 pub mod Agreement
 pub mod Cases
+pub mod inner

@@ -5,9 +5,9 @@ ghost use lib.Dec.{ltb};
 ghost use lib.ListN.{length, drop};
 ghost use mathlib.Core.List.{List};
 ghost use Rattle.stream.specs.Stream.{endLine, fed, finished};
-ghost use Rattle.stream.specs.Progress.{streamOf, withHeld, begun, Room, OneMore, Ready, Within};
-ghost use Rattle.stream.specs.Holding.{Holdable, lineSoFar, Held};
-ghost use Rattle.stream.specs.Feeds.{feedFrom, feedStep};
+ghost use Rattle.stream.specs.inner.Progress.{streamOf, withHeld, begun, Room, OneMore, Ready, Within};
+ghost use Rattle.stream.specs.inner.Holding.{Holdable, lineSoFar, Held};
+ghost use Rattle.stream.specs.inner.Feeds.{feedFrom, feedStep};
 use script::ANSWER_BYTES;
 use script::LINE_FEED;
 

@@ -4,11 +4,11 @@ use mathlib.Core.Path.{_≡_, refl, ap, _∙_}
 use mathlib.Core.List.{List, [], _∷_}
 use Rattle.stream.specs.declared.Progress.{Progress}
 use Rattle.stream.specs.Stream.{Stream, emptied}
-use Rattle.stream.specs.Progress.{streamOf}
+use Rattle.stream.specs.inner.Progress.{streamOf}
 use Rattle.stream.specs.Turns.{taken, after, Ran}
 use Rattle.yard.specs.declared.Written.{Written}
 use Rattle.yard.specs.declared.Written.the-variants.{All}
-use Rattle.yard.specs.Turns.{InPlace, Flushed, Writes}
+use Rattle.yard.specs.inner.Turns.{InPlace, Flushed, Writes}
 
 pub begins : (s : Stream) → Ran s s
 unfolding after
@@ -23,7 +23,8 @@ turned p t l b line text bytes f ran e =
     record { reads = bytes ∷ ran .reads; same = ap emptied e ∙ ap (λ (x : Stream). emptied (taken x bytes)) (clear ∙ ran .same) }
 
 -- What is pending is written.
-pub goes-on : {s : Stream} (p : Progress) (t l b line text : List ℕ) {q : Progress} {r : Written} → Ran s (streamOf p t l b line text) → InPlace p
+pub goes-on : {s : Stream} (p : Progress) (t l b line text : List ℕ) {q : Progress} {r : Written} → Ran s (streamOf p t l b line text)
+    → InPlace p
     → Writes p r → r ≡ All q → Flushed q × Ran s (streamOf q t l b line text)
 goes-on p t l b line text ran fits w e =
     let c = rw e at w in rw c (record { held = fits .held; pending = refl }, record { reads = ran .reads; same = ran .same })

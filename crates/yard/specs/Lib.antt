@@ -1,2 +1,1 @@
--- The program's turns (document 01, "Script program").
-pub mod Turns
+pub mod inner

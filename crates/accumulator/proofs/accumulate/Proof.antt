@@ -18,96 +18,179 @@ use Rattle.accumulator.proofs.accumulate.Tie as tie
 returns : tie.Need-returns
 unfolding accumulateRule
 returns c =
-    no-replica _ _ _ (start _ _ _ _ _ (accumulateRule _ _ (c .before .before .before .before .before .before .before .before .before .before .before .before .args .list .now)) refl) (c .before .before .before .before .find-replica .ensures) (c .before .before .enum-told .given .1)
-    (c .before .refusal .ensures) (c .refused .ensures)
+    let at-refusal = c .before in
+    let at-enum-told = at-refusal .before in
+    let at-find-replica = at-enum-told .before .before in
+    let entry = at-find-replica .before .before .before .before .before .before .before .before in
+    no-replica _ _ _ (start _ _ _ _ _ (accumulateRule _ _ (entry .args .list .now)) refl) (at-find-replica .find-replica .ensures)
+    (at-enum-told .enum-told .given .1)
+    (at-refusal .refusal .ensures) (c .refused .ensures)
 
 test-list-requires : tie.Need-test-list-requires
-test-list-requires c κs = omega (arith, replica-known _ _ (c .before .before .before .before .find-replica .ensures) (c .before .before .found .given .1) .ready .sizes)
+test-list-requires c κs =
+    let at-found = c .before .before in
+    let at-find-replica = at-found .before .before in
+    omega (arith, replica-known _ _ (at-find-replica .find-replica .ensures) (at-found .found .given .1) .ready .sizes)
 
 returns-2 : tie.Need-returns-2
 unfolding accumulateRule
 returns-2 c =
-    let found = found-replica _ _ _ (start _ _ _ _ _ (accumulateRule _ _ (c .before .before .before .before .before .before .before .before .before .before .before .before .before .before .before .before .before .args .list .now)) refl) (c .before .before .before .before .before .before .before .before .before .find-replica .ensures)
-    (c .before .before .before .before .before .before .before .found .given .1) in
-    failed _ refl (c .before .before .before .before .test-list .ensures) _ _ (found .at) (c .before .before .enum-told3 .given .1) (c .before .refusal2 .ensures) (c .refused2 .ensures)
+    let at-refusal2 = c .before in
+    let at-enum-told3 = at-refusal2 .before in
+    let at-test-list = at-enum-told3 .before .before in
+    let at-found = at-test-list .before .before .before in
+    let at-find-replica = at-found .before .before in
+    let entry = at-find-replica .before .before .before .before .before .before .before .before in
+    let found = found-replica _ _ _ (start _ _ _ _ _ (accumulateRule _ _ (entry .args .list .now)) refl)
+    (at-find-replica .find-replica .ensures)
+    (at-found .found .given .1) in
+    failed _ refl (at-test-list .test-list .ensures) _ _ (found .at) (at-enum-told3 .enum-told3 .given .1)
+    (at-refusal2 .refusal2 .ensures) (c .refused2 .ensures)
 
 shared-slice-read-certificate-word : tie.Need-shared-slice-read-certificate-word
 shared-slice-read-certificate-word c =
-    let list = c .before .before .before .before .before .before .before .before .before .before .before .before .before .before .before .before .before .args .list .now in
-    let known = replica-known _ _ (c .before .before .before .before .before .before .before .before .before .find-replica .ensures) (c .before .before .before .before .before .before .before .found .given .1) in
-    some-there _ _ list (known .ready) (list-known _ list (c .before .before .before .before .test-list .ensures) (c .before .before .enum-told2 .given .1))
+    let at-enum-told2 = c .before .before in
+    let at-test-list = at-enum-told2 .before .before in
+    let at-found = at-test-list .before .before .before in
+    let at-find-replica = at-found .before .before in
+    let entry = at-find-replica .before .before .before .before .before .before .before .before in
+    let list = entry .args .list .now in
+    let known = replica-known _ _ (at-find-replica .find-replica .ensures) (at-found .found .given .1) in
+    some-there _ _ list (known .ready) (list-known _ list (at-test-list .test-list .ensures) (at-enum-told2 .enum-told2 .given .1))
 
 certificate-word-requires : tie.Need-certificate-word-requires
 certificate-word-requires c κs =
-    let list = c .before .before .before .before .before .before .before .before .before .before .before .before .before .before .before .before .before .args .list .now in
-    let known = replica-known _ _ (c .before .before .before .before .before .before .before .before .before .find-replica .ensures) (c .before .before .before .before .before .before .before .found .given .1) in
-    omega (arith, listed-there _ _ list (known .ready) (list-known _ list (c .before .before .before .before .test-list .ensures) (c .before .before .enum-told2 .given .1)) 0)
+    let at-enum-told2 = c .before .before in
+    let at-test-list = at-enum-told2 .before .before in
+    let at-found = at-test-list .before .before .before in
+    let at-find-replica = at-found .before .before in
+    let entry = at-find-replica .before .before .before .before .before .before .before .before in
+    let list = entry .args .list .now in
+    let known = replica-known _ _ (at-find-replica .find-replica .ensures) (at-found .found .given .1) in
+    omega (
+      arith,
+      listed-there _ _ list (known .ready) (list-known _ list (at-test-list .test-list .ensures)
+          (at-enum-told2 .enum-told2 .given .1)) 0,
+    )
 
 is-new-view-quorum-requires : tie.Need-is-new-view-quorum-requires
 is-new-view-quorum-requires c κs =
-    let list = c .before .before .before .before .before .before .before .before .before .before .before .before .before .before .before .before .before .before .before .args .list .now in
-    let known = replica-known _ _ (c .before .before .before .before .before .before .before .before .before .before .before .find-replica .ensures) (c .before .before .before .before .before .before .before .before .before .found .given .1) in
-    all-listed _ _ list (known .ready) (list-known _ list (c .before .before .before .before .before .before .test-list .ensures) (c .before .before .before .before .enum-told2 .given .1))
+    let at-enum-told2 = c .before .before .before .before in
+    let at-test-list = at-enum-told2 .before .before in
+    let at-found = at-test-list .before .before .before in
+    let at-find-replica = at-found .before .before in
+    let entry = at-find-replica .before .before .before .before .before .before .before .before in
+    let list = entry .args .list .now in
+    let known = replica-known _ _ (at-find-replica .find-replica .ensures) (at-found .found .given .1) in
+    all-listed _ _ list (known .ready) (list-known _ list (at-test-list .test-list .ensures) (at-enum-told2 .enum-told2 .given .1))
 
 returns-3 : tie.Need-returns-3
 unfolding accumulateRule
 returns-3 c =
-    let a = c .before .before .before .before .before .before .before .before .before .before .before .before .before .before .before .before .before .before .before .before .before .before .before .before .before .before .before .args in
+    let at-refusal3 = c .before in
+    let at-enum-told5 = at-refusal3 .before in
+    let at-need2 = at-enum-told5 .before .before in
+    let at-need = at-need2 .before in
+    let at-is-new-view-quorum = at-need .before .before in
+    let at-certificate-word = at-is-new-view-quorum .before .before in
+    let at-enum-told2 = at-certificate-word .before .before .before in
+    let at-test-list = at-enum-told2 .before .before in
+    let at-found = at-test-list .before .before .before in
+    let at-find-replica = at-found .before .before in
+    let entry = at-find-replica .before .before .before .before .before .before .before .before in
+    let a = entry .args in
     let m = memory (a .table .now) (a .log .now) (a .blocks .now) in
     let list = a .list .now in
-    let found = found-replica m _ _ (start _ _ _ _ _ (accumulateRule m _ list) refl) (c .before .before .before .before .before .before .before .before .before .before .before .before .before .before .before .before .before .before .before .find-replica .ensures) (c .before .before .before .before .before .before .before .before .before .before .before .before .before .before .before .before .before .found .given .1) in
-    let past-list = passed _ refl (c .before .before .before .before .before .before .before .before .before .before .before .before .before .before .test-list .ensures) _ (found .at) (c .before .before .before .before .before .before .before .before .before .before .before .before .enum-told2 .given .1) in
-    let some = some-there m _ list (found .ready) (list-known m list (c .before .before .before .before .before .before .before .before .before .before .before .before .before .before .test-list .ensures) (c .before .before .before .before .before .before .before .before .before .before .before .before .enum-told2 .given .1)) in
-    let view = c .before .before .before .before .before .before .before .before .before .certificate-word .ensures ∙ ap (λ (x : Certificate). x .view) (sym (first-of m list some)) in
+    let found = found-replica m _ _ (start _ _ _ _ _ (accumulateRule m _ list) refl) (at-find-replica .find-replica .ensures)
+    (at-found .found .given .1) in
+    let past-list = passed _ refl (at-test-list .test-list .ensures) _ (found .at) (at-enum-told2 .enum-told2 .given .1) in
+    let some = some-there m _ list (found .ready) (list-known m list (at-test-list .test-list .ensures)
+    (at-enum-told2 .enum-told2 .given .1)) in
+    let view = at-certificate-word .certificate-word .ensures ∙ ap (λ (x : Certificate). x .view) (sym (first-of m list some)) in
     failed _ refl
-    (then-need _ _ _ (first-need _ _ (rw (found .read) at (c .before .before .before .before .before .need .ensures)))
-    (rw (c .before .before .before .before .before .before .before .is-new-view-quorum .ensures, view) at (c .before .before .before .before .need2 .ensures)))
-    _ _ past-list (c .before .before .enum-told5 .given .1) (c .before .refusal3 .ensures) (c .refused3 .ensures)
+    (then-need _ _ _ (first-need _ _ (rw (found .read) at (at-need .need .ensures)))
+    (rw (at-is-new-view-quorum .is-new-view-quorum .ensures, view) at (at-need2 .need2 .ensures)))
+    _ _ past-list (at-enum-told5 .enum-told5 .given .1) (at-refusal3 .refusal3 .ensures) (c .refused3 .ensures)
 
 greatest-requires : tie.Need-greatest-requires
 greatest-requires c κs =
-    let list = c .before .before .before .before .before .before .before .before .before .before .before .before .before .before .before .before .before .before .before .before .before .before .before .before .before .before .args .list .now in
-    let known = replica-known _ _ (c .before .before .before .before .before .before .before .before .before .before .before .before .before .before .before .before .before .before .find-replica .ensures) (c .before .before .before .before .before .before .before .before .before .before .before .before .before .before .before .before .found .given .1) in
-    let listed = list-known _ list (c .before .before .before .before .before .before .before .before .before .before .before .before .before .test-list .ensures) (c .before .before .before .before .before .before .before .before .before .before .before .enum-told2 .given .1) in
+    let at-enum-told2 = c .before .before .before .before .before .before .before .before .before .before .before in
+    let at-test-list = at-enum-told2 .before .before in
+    let at-found = at-test-list .before .before .before in
+    let at-find-replica = at-found .before .before in
+    let entry = at-find-replica .before .before .before .before .before .before .before .before in
+    let list = entry .args .list .now in
+    let known = replica-known _ _ (at-find-replica .find-replica .ensures) (at-found .found .given .1) in
+    let listed = list-known _ list (at-test-list .test-list .ensures) (at-enum-told2 .enum-told2 .given .1) in
     (all-listed _ _ list (known .ready) listed, some-there _ _ list (known .ready) listed)
 
 mul-certificate-in : tie.Need-mul-certificate-in
 mul-certificate-in c =
-    let a = c .before .before .before .before .before .before .before .before .before .before .before .before .before .before .before .before .before .before .before .before .before .before .before .before .before .before .before .before .args in
+    let at-greatest = c .before in
+    let at-enum-told2 = at-greatest .before .before .before .before .before .before .before .before .before .before .before .before in
+    let at-test-list = at-enum-told2 .before .before in
+    let at-found = at-test-list .before .before .before in
+    let at-find-replica = at-found .before .before in
+    let entry = at-find-replica .before .before .before .before .before .before .before .before in
+    let a = entry .args in
     let m = memory (a .table .now) (a .log .now) (a .blocks .now) in
-    let known = replica-known m _ (c .before .before .before .before .before .before .before .before .before .before .before .before .before .before .before .before .before .before .before .before .find-replica .ensures) (c .before .before .before .before .before .before .before .before .before .before .before .before .before .before .before .before .before .before .found .given .1) in
-    let listed = list-known m (a .list .now) (c .before .before .before .before .before .before .before .before .before .before .before .before .before .before .before .test-list .ensures) (c .before .before .before .before .before .before .before .before .before .before .before .before .before .enum-told2 .given .1) in
-    omega (tests, c .before .greatest .ensures .within, listed .size, known .ready .sizes .faultsHigh)
+    let known = replica-known m _ (at-find-replica .find-replica .ensures) (at-found .found .given .1) in
+    let listed = list-known m (a .list .now) (at-test-list .test-list .ensures) (at-enum-told2 .enum-told2 .given .1) in
+    omega (tests, at-greatest .greatest .ensures .within, listed .size, known .ready .sizes .faultsHigh)
 
 certificate-in-requires : tie.Need-certificate-in-requires
 certificate-in-requires c κs =
-    let list = c .before .before .before .before .before .before .before .before .before .before .before .before .before .before .before .before .before .before .before .before .before .before .before .before .before .before .before .before .before .args .list .now in
-    let known = replica-known _ _ (c .before .before .before .before .before .before .before .before .before .before .before .before .before .before .before .before .before .before .before .before .before .find-replica .ensures) (c .before .before .before .before .before .before .before .before .before .before .before .before .before .before .before .before .before .before .before .found .given .1) in
-    listed-there _ _ list (known .ready) (list-known _ list (c .before .before .before .before .before .before .before .before .before .before .before .before .before .before .before .before .test-list .ensures) (c .before .before .before .before .before .before .before .before .before .before .before .before .before .before .enum-told2 .given .1)) (c .before .before .greatest .result)
+    let at-greatest = c .before .before in
+    let at-enum-told2 = at-greatest .before .before .before .before .before .before .before .before .before .before .before .before in
+    let at-test-list = at-enum-told2 .before .before in
+    let at-found = at-test-list .before .before .before in
+    let at-find-replica = at-found .before .before in
+    let entry = at-find-replica .before .before .before .before .before .before .before .before in
+    let list = entry .args .list .now in
+    let known = replica-known _ _ (at-find-replica .find-replica .ensures) (at-found .found .given .1) in
+    listed-there _ _ list (known .ready) (list-known _ list (at-test-list .test-list .ensures) (at-enum-told2 .enum-told2 .given .1))
+    (at-greatest .greatest .result)
 
 issue-requires : tie.Need-issue-requires
 unfolding every
 issue-requires c κs =
-    let known = replica-known _ _ (c .before .before .before .before .before .before .before .before .before .before .before .before .before .before .before .before .before .before .before .before .before .before .before .before .before .before .find-replica .ensures) (c .before .before .before .before .before .before .before .before .before .before .before .before .before .before .before .before .before .before .before .before .before .before .before .before .found .given .1) in
+    let at-found = c .before .before .before .before .before .before .before .before .before .before .before .before .before .before .before .before .before .before .before .before .before .before .before .before in
+    let at-find-replica = at-found .before .before in
+    let known = replica-known _ _ (at-find-replica .find-replica .ensures) (at-found .found .given .1) in
     (issuable _ _ (known .ready), record { paired = refl; within = refl })
 
 returns-4 : tie.Need-returns-4
 unfolding accumulateRule
 returns-4 c =
-    let a = c .before .before .before .before .before .before .before .before .before .before .before .before .before .before .before .before .before .before .before .before .before .before .before .before .before .before .before .before .before .before .before .before .before .before .before .before .before .before .before .args in
+    let at-issue = c .before .before .before .before in
+    let at-certificate-in = at-issue .before .before .before .before .before in
+    let at-greatest = at-certificate-in .before .before .before in
+    let at-enum-told4 = at-greatest .before .before in
+    let at-need2 = at-enum-told4 .before .before in
+    let at-need = at-need2 .before in
+    let at-is-new-view-quorum = at-need .before .before in
+    let at-certificate-word = at-is-new-view-quorum .before .before in
+    let at-enum-told2 = at-certificate-word .before .before .before in
+    let at-test-list = at-enum-told2 .before .before in
+    let at-found = at-test-list .before .before .before in
+    let at-find-replica = at-found .before .before in
+    let entry = at-find-replica .before .before .before .before .before .before .before .before in
+    let a = entry .args in
     let m = memory (a .table .now) (a .log .now) (a .blocks .now) in
     let list = a .list .now in
-    let found = found-replica m _ _ (start _ _ _ _ _ (accumulateRule m _ list) refl) (c .before .before .before .before .before .before .before .before .before .before .before .before .before .before .before .before .before .before .before .before .before .before .before .before .before .before .before .before .before .before .before .find-replica .ensures) (c .before .before .before .before .before .before .before .before .before .before .before .before .before .before .before .before .before .before .before .before .before .before .before .before .before .before .before .before .before .found .given .1) in
-    let past-list = passed _ refl (c .before .before .before .before .before .before .before .before .before .before .before .before .before .before .before .before .before .before .before .before .before .before .before .before .before .before .test-list .ensures) _ (found .at) (c .before .before .before .before .before .before .before .before .before .before .before .before .before .before .before .before .before .before .before .before .before .before .before .before .enum-told2 .given .1) in
-    let some = some-there m _ list (found .ready) (list-known m list (c .before .before .before .before .before .before .before .before .before .before .before .before .before .before .before .before .before .before .before .before .before .before .before .before .before .before .test-list .ensures) (c .before .before .before .before .before .before .before .before .before .before .before .before .before .before .before .before .before .before .before .before .before .before .before .before .enum-told2 .given .1)) in
-    let view = c .before .before .before .before .before .before .before .before .before .before .before .before .before .before .before .before .before .before .before .before .before .certificate-word .ensures ∙ ap (λ (x : Certificate). x .view) (sym (first-of m list some)) in
-    let greatest = c .before .before .before .before .before .before .before .before .before .certificate-in .ensures ∙ ap certificateFrom (c .before .before .before .before .before .before .before .before .before .before .before .before .greatest .ensures .is) in
+    let found = found-replica m _ _ (start _ _ _ _ _ (accumulateRule m _ list) refl) (at-find-replica .find-replica .ensures)
+    (at-found .found .given .1) in
+    let past-list = passed _ refl (at-test-list .test-list .ensures) _ (found .at) (at-enum-told2 .enum-told2 .given .1) in
+    let some = some-there m _ list (found .ready) (list-known m list (at-test-list .test-list .ensures)
+    (at-enum-told2 .enum-told2 .given .1)) in
+    let view = at-certificate-word .certificate-word .ensures ∙ ap (λ (x : Certificate). x .view) (sym (first-of m list some)) in
+    let greatest = at-certificate-in .certificate-in .ensures ∙ ap certificateFrom (at-greatest .greatest .ensures .is) in
     issues _ _ _ _ _
     (passed _ refl
-    (then-need _ _ _ (first-need _ _ (rw (found .read) at (c .before .before .before .before .before .before .before .before .before .before .before .before .before .before .before .before .before .need .ensures)))
-    (rw (c .before .before .before .before .before .before .before .before .before .before .before .before .before .before .before .before .before .before .before .is-new-view-quorum .ensures, view) at (c .before .before .before .before .before .before .before .before .before .before .before .before .before .before .before .before .need2 .ensures)))
-    _ past-list (c .before .before .before .before .before .before .before .before .before .before .before .before .before .before .enum-told4 .given .1))
-    refl (rw (view, greatest)) (c .before .before .before .before .issue .ensures (a .blocks .now))
+    (then-need _ _ _ (first-need _ _ (rw (found .read) at (at-need .need .ensures)))
+    (rw (at-is-new-view-quorum .is-new-view-quorum .ensures, view) at (at-need2 .need2 .ensures)))
+    _ past-list (at-enum-told4 .enum-told4 .given .1))
+    refl (rw (view, greatest)) (at-issue .issue .ensures (a .blocks .now))
 
 pub accumulate-spec : {M : Type 1} → statement M
 accumulate-spec =

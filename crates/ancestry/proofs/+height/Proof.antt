@@ -6,7 +6,7 @@ use borrow.Fn.Kinds.{In}
 use borrow.Fn.PlainCycle.{Measures, is, falls, and}
 use Rattle.protocol.specs.Ancestry.{stepsToRoot}
 use Rattle.protocol.proofs.Ancestors.{height-up}
-use Rattle.ancestry.specs.AncestryFits.{parentIn}
+use Rattle.ancestry.specs.inner.AncestryFits.{parentIn}
 use Rattle.ancestry.proofs.Fitting.{parent-fits}
 use Rattle.ancestry.proofs.Walks.{height-at-most}
 use Rattle.ancestry.proofs.height.Reads as reads

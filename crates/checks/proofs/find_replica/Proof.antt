@@ -4,7 +4,7 @@ use native.Mathlib.Omega.{arith}
 use borrow.Author.Needs.{needs}
 use Rattle.protocol.proofs.Booleans.{tests}
 use Rattle.protocol.proofs.Formed.{formed, sizes}
-use Rattle.checks.specs.Verdicts.{replicaFound}
+use Rattle.checks.specs.inner.Verdicts.{replicaFound}
 use Rattle.checks.proofs.Verdicts.{fails, holds, last}
 use Rattle.checks.proofs.find_replica.Statement.{statement}
 use Rattle.checks.proofs.find_replica.Tie as tie

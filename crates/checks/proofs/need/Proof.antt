@@ -1,6 +1,6 @@
 -- An earlier refusal stays; else this need decides.
 use borrow.Author.Needs.{needs}
-use Rattle.checks.specs.Verdicts.{next}
+use Rattle.checks.specs.inner.Verdicts.{next}
 use Rattle.checks.proofs.need.Statement.{statement}
 use Rattle.checks.proofs.need.Tie as tie
 

@@ -1,7 +1,7 @@
 -- Two needs, one after the other.
 use native.Mathlib.Omega.{arith}
 use borrow.Author.Needs.{needs}
-use Rattle.checks.specs.Verdicts.{tested}
+use Rattle.checks.specs.inner.Verdicts.{tested}
 use Rattle.checks.proofs.test_list.Statement.{statement}
 use Rattle.checks.proofs.test_list.Tie as tie
 

@@ -15,26 +15,39 @@ use Rattle.ledger.proofs.panel.Tie as tie
 returns : tie.Need-returns
 unfolding panelAnswer
 returns c =
-    let a = c .before .before .before .before .before .before .before .before .args in
+    let at-refusal = c .before in
+    let at-enum-told = at-refusal .before in
+    let at-find-replica = at-enum-told .before .before in
+    let entry = at-find-replica .before .before .before .before in
+    let a = entry .args in
     let m = memory (a .table .now) (a .log .now) (a .blocks .now) in
     ap (λ (o : Outcome). o .answer)
-    (no-replica m (a .replica) _ (start (panelRule m (a .replica))) (c .before .before .before .before .find-replica .ensures) (c .before .before .enum-told .given .1)
-    (c .before .refusal .ensures) (c .refused .ensures))
+    (no-replica m (a .replica) _ (start (panelRule m (a .replica))) (at-find-replica .find-replica .ensures)
+    (at-enum-told .enum-told .given .1)
+    (at-refusal .refusal .ensures) (c .refused .ensures))
 
 height-requires : tie.Need-height-requires
 height-requires c κs =
-    let known = replica-known _ _ (c .before .before .before .find-replica .ensures) (c .before .found .given .1) in
-    let b = replica-bounds _ (known .ready .formed) (c .before .before .before .before .before .before .before .args .replica) (omega (tests, known .ready .own)) in
+    let at-found = c .before in
+    let at-find-replica = at-found .before .before in
+    let entry = at-find-replica .before .before .before .before in
+    let known = replica-known _ _ (at-find-replica .find-replica .ensures) (at-found .found .given .1) in
+    let b = replica-bounds _ (known .ready .formed) (entry .args .replica) (omega (tests, known .ready .own)) in
     ancestry-fits _ (known .ready .formed) _ (rw (known .read) (omega (arith, b .decidedBlock)))
 
 returns-2 : tie.Need-returns-2
 unfolding panelAnswer
 returns-2 c =
-    let a = c .before .before .before .before .before .before .before .before .before .args in
+    let at-height = c .before in
+    let at-found = at-height .before .before in
+    let at-find-replica = at-found .before .before in
+    let entry = at-find-replica .before .before .before .before in
+    let a = entry .args in
     let m = memory (a .table .now) (a .log .now) (a .blocks .now) in
-    let found = found-replica m (a .replica) _ (start (panelRule m (a .replica))) (c .before .before .before .before .before .find-replica .ensures) (c .before .before .before .found .given .1) in
+    let found = found-replica m (a .replica) _ (start (panelRule m (a .replica))) (at-find-replica .find-replica .ensures)
+    (at-found .found .given .1) in
     ap (λ (o : Outcome). o .answer)
-    (accepts m {m′ = m} (found .at) (rw (c .before .height .ensures, found .read) at (c .accepted .ensures)) refl)
+    (accepts m {m′ = m} (found .at) (rw (at-height .height .ensures, found .read) at (c .accepted .ensures)) refl)
 
 pub panel-spec : {M : Type 1} → statement M
 panel-spec =

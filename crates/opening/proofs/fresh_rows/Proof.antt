@@ -4,7 +4,7 @@ use mathlib.Core.Path.{_≡_, refl, ap, _∙_}
 use native.Mathlib.Omega.{arith}
 use native.Mathlib.Numerals.{add-one}
 use lib.ListN.{length}
-use Rattle.opening.specs.Fresh.{freshRows}
+use Rattle.opening.specs.inner.Fresh.{freshRows}
 use Rattle.opening.proofs.fresh_rows.Statement.{statement}
 use Rattle.opening.proofs.fresh_rows.Tie as tie
 

@@ -15,18 +15,26 @@ abbrev μ-loop : tie.MeasureT-loop
 μ-loop log list best₀ best-view₀ i₀ best best-view i = length list - i
 
 certificate-word-requires : tie.Need-certificate-word-requires Inv-loop μ-loop
-certificate-word-requires c κs = let there = c .before .before .before .pre .0 .inLog 0 (search needs) in omega (arith, there)
+certificate-word-requires c κs =
+    let entry = c .before .before .before in
+    let there = entry .pre .0 .inLog 0 (search needs) in omega (arith, there)
 
 loop-holds : tie.Need-loop-holds Inv-loop μ-loop
-loop-holds c = (search needs, best-start _ _ _ (c .before .before .before .before .pre .1) (c .certificate-word .ensures))
+loop-holds c =
+    let entry = c .before .before .before .before in
+    (search needs, best-start _ _ _ (entry .pre .1) (c .certificate-word .ensures))
 
 certificate-word-requires-2 : tie.Need-certificate-word-requires-2 Inv-loop μ-loop
-certificate-word-requires-2 c κs = let there = c .before .before .before .before .before .before .before .pre .0 .inLog _ (c .before .loop-test .taken) in omega (arith, there)
+certificate-word-requires-2 c κs =
+    let at-loop-test = c .before in
+    let entry = at-loop-test .before .before .before .before .before .before in
+    let there = entry .pre .0 .inLog _ (at-loop-test .loop-test .taken) in omega (arith, there)
 
 loop-again : tie.Need-loop-again Inv-loop μ-loop
 loop-again c =
-    let read = c .before .certificate-word2 .ensures in
-    let turn = c .before .before .before in
+    let at-certificate-word2 = c .before in
+    let turn = at-certificate-word2 .before .before in
+    let read = at-certificate-word2 .certificate-word2 .ensures in
     let l = turn .before .loop in
     let b = l .inv .1 in (
       search needs,

@@ -3,7 +3,7 @@ use Prim.Native.Nat.{_/_, _^_}
 use mathlib.Core.Path.{refl}
 use lib.Bits.{and-mask}
 use borrow.Author.Needs.{needs}
-use Rattle.quorum.specs.Signers.{holds}
+use Rattle.quorum.specs.inner.Signers.{holds}
 use Rattle.quorum.proofs.is_seen.Statement.{statement}
 use Rattle.quorum.proofs.is_seen.Tie as tie
 

@@ -11,7 +11,12 @@ use Rattle.reader.proofs.field_at.Tie as tie
 add-result : tie.Need-add-result
 add-result c =
     let start = c .before .before .before in
-    omega (arith, start .good, field-within (start .args .line .now) (start .args .column) (rw (c .before .read-at .ensures) at (c .if1 .taken)))
+    omega (
+      arith,
+      start .good,
+      field-within (start .args .line .now) (start .args .column)
+          (rw (c .before .read-at .ensures) at (c .if1 .taken)),
+    )
 
 returns : tie.Need-returns
 unfolding columnAfter

@@ -1,7 +1,7 @@
 -- `next`: a walk of its MIR by hand. The reader is taken apart, `field_at` is called on its line, its column and the number's place, and a
 -- reader of the same line is made at the column that came back.
--- A reader is Copy: of what it owns one copy goes to the callee, one is kept for the exit, and one is what the result owns. The borrow of the
--- number goes to the callee for good.
+-- A reader is Copy: of what it owns one copy goes to the callee, one is kept for the exit, and one is what the result owns. The borrow of
+-- the number goes to the callee for good.
 use mathlib.Core.Path.{_≡_, refl, ap}
 use mathlib.Core.List.{[], _∷_}
 use Prim.Native.Nat.{ℕ, _<_, _^_}
@@ -163,7 +163,8 @@ module _ {M : Type 1} (𝓤 : URA M) (H : Heap 𝓤) (A : Atoms 𝓤) (W : Given
       suffices ! _
       (ends-at 𝓤 H A next.ended stayed (next.clauses 𝓤 H A mem run) W ((κs, (q, (q′, tt)), tt, (d, (x, tt)), at), tt)
       (R′.lowered (back r)) (back r) (tt, (n, tt)) (tt, (tt, tt))) $
-      says ! ((λ i. back (e .0 i)), e .1) $ move ! (1 ∷ []) $ frame ! $ move ! (1 ∷ []) $ fsplit ! $ move ! (0 ∷ 2 ∷ []) $ fjoin ! $ frame ! $
+      says ! ((λ i. back (e .0 i)), e .1) $ move ! (1 ∷ []) $ frame ! $ move ! (1 ∷ []) $ fsplit ! $ move !
+      (0 ∷ 2 ∷ []) $ fjoin ! $ frame ! $
       -- [what the reader owns]: the facts of the column that came back take the place of its column's
       owned ! usize (Is usize) (uint-makes 𝓤 H A W w64) r _ (refl, fits) $ move ! (1 ∷ 0 ∷ []) $
       by ! (own-put 𝓤 H A W (D κs) (L κs) 1 parts r m)
@@ -172,7 +173,8 @@ module _ {M : Type 1} (𝓤 : URA M) (H : Heap 𝓤) (A : Atoms 𝓤) (W : Given
     walk : Holds (hasTy (R′.mir (named 0)) m) × WT m → ent 𝓤 Entry (WpFn 𝓤 H C Λ code.function (m ∷ p ∷ []) Post)
     walk wt =
         qed W (raw Entry ∷ []) ∵ enter ! C Λ code.function (m ∷ p ∷ []) _ $
-        alloc1 ! (λ l₀. alloc1 ! (λ l₁. alloc1 ! (λ l₂. alloc1 ! (λ l₃. alloc1 ! (λ l₄. alloc1 ! (λ l₅. alloc1 ! (λ l₆. alloc1 ! (λ l₇. alloc0 ! $
+        alloc1 ! (λ l₀. alloc1 ! (λ l₁. alloc1 ! (λ l₂. alloc1 ! (λ l₃. alloc1 ! (λ l₄. alloc1 !
+        (λ l₅. alloc1 ! (λ l₆. alloc1 ! (λ l₇. alloc0 ! $
         params1 ! $ pass1 ! (init ! 12 refl wt) $ pass1 ! (init ! 10 refl (tt, tt)) $ pass0 ! $
         assigns ! (of-opd ! (load ! (from ! (fld ! refl (stop !))) (look-in ! 12 (sub ! 0 refl (whole !))))) (from ! (stop !))
         (init ! 6 refl (tt, wt .1 .0)) $

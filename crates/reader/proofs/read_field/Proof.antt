@@ -1,7 +1,7 @@
 -- `read_field`: a walk of its MIR by hand. A reader is made of the line and the column in a local, `next` is called on it, and `read_of` on
 -- the two columns.
--- A `&[u8]` is Copy: one copy of what the line owns is kept for the exit; the other is what the reader's line owns. The borrow of the number
--- goes to `next` for good.
+-- A `&[u8]` is Copy: one copy of what the line owns is kept for the exit; the other is what the reader's line owns. The borrow of the
+-- number goes to `next` for good.
 use mathlib.Core.Path.{_≡_, refl, ap, _∙_}
 use mathlib.Core.List.{List, [], _∷_}
 use Prim.Native.Nat.{ℕ, _<_, _^_}
@@ -201,11 +201,13 @@ module _ {M : Type 1} (𝓤 : URA M) (H : Heap 𝓤) (A : Atoms 𝓤) (W : Given
     walk is fits =
         let typed = shr-slice-lawful 𝓤 H A W (named 0) κ u8 .typed s (v ∷ []) is .0 in
         qed W (raw Entry ∷ []) ∵ enter ! C Λ code.function (v ∷ vint w64 n ∷ p ∷ []) _ $
-        alloc1 ! (λ l₀. alloc1 ! (λ l₁. alloc1 ! (λ l₂. alloc1 ! (λ l₃. alloc1 ! (λ l₄. alloc1 ! (λ l₅. alloc1 ! (λ l₆. alloc1 ! (λ l₇. alloc0 ! $
+        alloc1 ! (λ l₀. alloc1 ! (λ l₁. alloc1 ! (λ l₂. alloc1 ! (λ l₃. alloc1 ! (λ l₄. alloc1 !
+        (λ l₅. alloc1 ! (λ l₆. alloc1 ! (λ l₇. alloc0 ! $
         params1 ! $ pass1 ! (init ! 12 refl typed) $ pass1 ! (init ! 10 refl (tt, record { fits = fits })) $
         pass1 ! (init ! 8 refl (tt, tt)) $ pass0 ! $
         assigns !
-        (agg ! (and-then ! (load ! (from ! (stop !)) (look ! 12 refl)) (and-then ! (load ! (from ! (stop !)) (look ! 10 refl)) (no-more !))))
+        (agg ! (and-then ! (load ! (from ! (stop !)) (look ! 12 refl))
+        (and-then ! (load ! (from ! (stop !)) (look ! 10 refl)) (no-more !))))
         (from ! (stop !)) (init ! 4 refl (tt, (typed .1, (record { fits = fits }, tt)))) $
         assigns ! (addr ! (from ! (hop ! (look ! 8 refl) (stop !)))) (from ! (stop !)) (init ! 2 refl (tt, tt)) $
         move ! (16 ∷ []) $ use1 W (raw Asked ⊛ ‵ Own) (together fits) $ split ! $

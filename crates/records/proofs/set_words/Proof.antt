@@ -7,7 +7,7 @@ use borrow.Author.Needs.{needs}
 use Rattle.protocol.specs.Memory.{rowAt, assign}
 use Rattle.protocol.proofs.Booleans.{tests}
 use Rattle.protocol.proofs.Lists.{every-at}
-use Rattle.records.specs.Replicas.{assignments}
+use Rattle.records.specs.inner.Replicas.{assignments}
 use Rattle.records.proofs.Setting.{set-step, set-end}
 use Rattle.records.proofs.set_words.Statement.{statement}
 use Rattle.records.proofs.set_words.Tie as tie
@@ -34,7 +34,8 @@ set-replica-word-requires : tie.Need-set-replica-word-requires Inv-loop μ-loop
 set-replica-word-requires c κs =
     let looped = c .before .before .before .before in
     let start = looped .before .before .before .before in
-    let own = every-at _ (start .args .offsets .now) 0 (start .pre .1 .within) (looped .loop .i) (c .before .before .before .loop-test .taken) in
+    let own = every-at _ (start .args .offsets .now) 0 (start .pre .1 .within) (looped .loop .i)
+    (c .before .before .before .loop-test .taken) in
     omega (tests, looped .loop .inv .1, start .pre .0)
 
 loop-again : tie.Need-loop-again Inv-loop μ-loop

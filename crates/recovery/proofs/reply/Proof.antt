@@ -13,8 +13,11 @@ use Rattle.recovery.proofs.reply.Tie as tie
 returns : tie.Need-returns
 unfolding replyRule
 returns c =
-    no-replica _ _ _ (start _ _ _ _ _ (replyRule _ _ _) refl) (c .before .before .before .before .find-replica .ensures) (c .before .before .enum-told .given .1)
-    (c .before .refusal .ensures) (c .refused .ensures)
+    let at-refusal = c .before in
+    let at-enum-told = at-refusal .before in
+    let at-find-replica = at-enum-told .before .before in
+    no-replica _ _ _ (start _ _ _ _ _ (replyRule _ _ _) refl) (at-find-replica .find-replica .ensures) (at-enum-told .enum-told .given .1)
+    (at-refusal .refusal .ensures) (c .refused .ensures)
 
 find-certificate-requires : tie.Need-find-certificate-requires
 find-certificate-requires c κs =
@@ -25,24 +28,32 @@ find-certificate-requires c κs =
 returns-2 : tie.Need-returns-2
 unfolding replyRule
 returns-2 c =
-    let at-found = c .before .before .before .before .before .before .before .before in
+    let at-refusal2 = c .before in
+    let at-enum-told2 = at-refusal2 .before in
+    let at-find-certificate = at-enum-told2 .before .before in
+    let at-found = at-find-certificate .before .before .before .before in
+    let entry = at-found .before .before .before .before .before .before .before .before .before in
     let found = found-replica _ _ _ (start _ _ _ _ _ (replyRule _ _ _) refl) (at-found .before .before .find-replica .ensures)
     (at-found .found .given .1) in
-    no-certificate _ _ _ (found .at) (c .before .before .before .before .find-certificate .ensures (c .before .before .before .before .before .before .before .before .before .before .before .before .before .before .before .before .before .args .blocks .now)) (c .before .before .enum-told2 .given .1)
-    (c .before .refusal2 .ensures) (c .refused2 .ensures)
+    no-certificate _ _ _ (found .at) (at-find-certificate .find-certificate .ensures (entry .args .blocks .now))
+    (at-enum-told2 .enum-told2 .given .1)
+    (at-refusal2 .refusal2 .ensures) (c .refused2 .ensures)
 
 returns-3 : tie.Need-returns-3
 unfolding replyRule
 returns-3 c =
-    let tests = c .before .before .before .before in
+    let at-refusal3 = c .before in
+    let at-enum-told4 = at-refusal3 .before in
+    let tests = at-enum-told4 .before .before in
+    let entry = tests .before .before .before .before .before .before .before .before .before .before .before .before .before .before .before .before .before in
     let at-asked = tests .before .before in
     let at-found = at-asked .before .before .before .before .before .before in
     let found = found-replica _ _ _ (start _ _ _ _ _ (replyRule _ _ _) refl) (at-found .before .before .find-replica .ensures)
     (at-found .found .given .1) in
-    let asked = found-certificate _ _ _ (found .at) (at-asked .before .before .find-certificate .ensures (c .before .before .before .before .before .before .before .before .before .before .before .before .before .before .before .before .before .before .before .before .before .args .blocks .now))
+    let asked = found-certificate _ _ _ (found .at) (at-asked .before .before .find-certificate .ensures (entry .args .blocks .now))
     (at-asked .asked .given .1) in
     failed _ refl (rw (found .read, asked .read) at (tests .test-reply .ensures)) _ _ (asked .at)
-    (c .before .before .enum-told4 .given .1) (c .before .refusal3 .ensures) (c .refused3 .ensures)
+    (at-enum-told4 .enum-told4 .given .1) (at-refusal3 .refusal3 .ensures) (c .refused3 .ensures)
 
 issue-requires : tie.Need-issue-requires
 unfolding every
@@ -55,6 +66,7 @@ returns-4 : tie.Need-returns-4
 unfolding replyRule
 returns-4 c =
     let issued = c .before .before .before .before in
+    let entry = issued .before .before .before .before .before .before .before .before .before .before .before .before .before .before .before .before .before .before .before .before .before .before .before .before .before .before .before .before in
     let above = issued .before .before .before .before .before in
     let made = above .before .before .before in
     let told = made .before in
@@ -63,12 +75,12 @@ returns-4 c =
     let at-found = at-asked .before .before .before .before .before .before in
     let found = found-replica _ _ _ (start _ _ _ _ _ (replyRule _ _ _) refl) (at-found .before .before .find-replica .ensures)
     (at-found .found .given .1) in
-    let asked = found-certificate _ _ _ (found .at) (at-asked .before .before .find-certificate .ensures (c .before .before .before .before .before .before .before .before .before .before .before .before .before .before .before .before .before .before .before .before .before .before .before .before .before .before .before .before .before .before .before .before .args .blocks .now))
+    let asked = found-certificate _ _ _ (found .at) (at-asked .before .before .find-certificate .ensures (entry .args .blocks .now))
     (at-asked .asked .given .1) in
     issues _ _ _ _ _
     (passed _ refl (rw (found .read, asked .read) at (tests .test-reply .ensures)) _ (asked .at) (told .enum-told3 .given .1))
     (rw (lt-ltb _ _ (rw (found .read, asked .read) at (above .if1 .taken)), asked .read))
-    (rw (found .read, asked .read) at (made .reply-to .ensures)) (issued .issue .ensures (c .before .before .before .before .before .before .before .before .before .before .before .before .before .before .before .before .before .before .before .before .before .before .before .before .before .before .before .before .before .before .before .before .args .blocks .now))
+    (rw (found .read, asked .read) at (made .reply-to .ensures)) (issued .issue .ensures (entry .args .blocks .now))
 
 issue-requires-2 : tie.Need-issue-requires-2
 unfolding every
@@ -81,6 +93,7 @@ returns-5 : tie.Need-returns-5
 unfolding replyRule
 returns-5 c =
     let issued = c .before .before .before .before in
+    let entry = issued .before .before .before .before .before .before .before .before .before .before .before .before .before .before .before .before .before .before .before .before .before .before .before .before .before .before .before .before in
     let below = issued .before .before .before .before .before in
     let made = below .before .before .before in
     let told = made .before in
@@ -89,12 +102,12 @@ returns-5 c =
     let at-found = at-asked .before .before .before .before .before .before in
     let found = found-replica _ _ _ (start _ _ _ _ _ (replyRule _ _ _) refl) (at-found .before .before .find-replica .ensures)
     (at-found .found .given .1) in
-    let asked = found-certificate _ _ _ (found .at) (at-asked .before .before .find-certificate .ensures (c .before .before .before .before .before .before .before .before .before .before .before .before .before .before .before .before .before .before .before .before .before .before .before .before .before .before .before .before .before .before .before .before .args .blocks .now))
+    let asked = found-certificate _ _ _ (found .at) (at-asked .before .before .find-certificate .ensures (entry .args .blocks .now))
     (at-asked .asked .given .1) in
     issues _ _ _ _ _
     (passed _ refl (rw (found .read, asked .read) at (tests .test-reply .ensures)) _ (asked .at) (told .enum-told3 .given .1))
     (rw (le-ltb _ _ (rw (found .read, asked .read) at (below .if1 .left))))
-    (rw (found .read, asked .read) at (made .reply-to .ensures)) (issued .issue2 .ensures (c .before .before .before .before .before .before .before .before .before .before .before .before .before .before .before .before .before .before .before .before .before .before .before .before .before .before .before .before .before .before .before .before .args .blocks .now))
+    (rw (found .read, asked .read) at (made .reply-to .ensures)) (issued .issue2 .ensures (entry .args .blocks .now))
 
 pub reply-spec : {M : Type 1} → statement M
 reply-spec =

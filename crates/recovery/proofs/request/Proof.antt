@@ -12,18 +12,24 @@ use Rattle.recovery.proofs.request.Tie as tie
 returns : tie.Need-returns
 unfolding requestRule
 returns c =
-    no-replica _ _ _ (start _ _ _ _ _ (requestRule _ _) refl) (c .before .before .before .before .find-replica .ensures) (c .before .before .enum-told .given .1) (c .before .refusal .ensures)
+    let at-refusal = c .before in
+    let at-enum-told = at-refusal .before in
+    let at-find-replica = at-enum-told .before .before in
+    no-replica _ _ _ (start _ _ _ _ _ (requestRule _ _) refl) (at-find-replica .find-replica .ensures) (at-enum-told .enum-told .given .1)
+    (at-refusal .refusal .ensures)
     (c .refused .ensures)
 
 returns-2 : tie.Need-returns-2
 unfolding requestRule
 returns-2 c =
-    let needed = c .before .before .before .before in
+    let at-refusal2 = c .before in
+    let at-enum-told3 = at-refusal2 .before in
+    let needed = at-enum-told3 .before .before in
     let at-found = needed .before .before .before in
     let found = found-replica _ _ _ (start _ _ _ _ _ (requestRule _ _) refl) (at-found .before .before .find-replica .ensures)
     (at-found .found .given .1) in
     failed _ refl (first-need _ _ (rw (found .read) at (needed .need .ensures))) _ _ (found .at)
-    (c .before .before .enum-told3 .given .1) (c .before .refusal2 .ensures) (c .refused2 .ensures)
+    (at-enum-told3 .enum-told3 .given .1) (at-refusal2 .refusal2 .ensures) (c .refused2 .ensures)
 
 issue-requires : tie.Need-issue-requires
 unfolding every
@@ -36,6 +42,7 @@ returns-3 : tie.Need-returns-3
 unfolding requestRule
 returns-3 c =
     let issued = c .before .before .before .before in
+    let entry = issued .before .before .before .before .before .before .before .before .before .before .before .before .before .before .before .before .before .before .before .before in
     let told = issued .before .before .before .before .before .before in
     let needed = told .before .before in
     let at-found = needed .before .before .before in
@@ -43,7 +50,7 @@ returns-3 c =
     (at-found .found .given .1) in
     issues _ _ _ _ _
     (passed _ refl (first-need _ _ (rw (found .read) at (needed .need .ensures))) _ (found .at) (told .enum-told2 .given .1))
-    refl (rw (found .read) at (issued .before .req .ensures)) (issued .issue .ensures (c .before .before .before .before .before .before .before .before .before .before .before .before .before .before .before .before .before .before .before .before .before .before .before .before .args .blocks .now))
+    refl (rw (found .read) at (issued .before .req .ensures)) (issued .issue .ensures (entry .args .blocks .now))
 
 pub request-spec : {M : Type 1} → statement M
 request-spec =

@@ -14,7 +14,11 @@ use Rattle.restart.proofs.reboot.Tie as tie
 returns : tie.Need-returns
 unfolding rebootRule
 returns c =
-    no-replica _ _ _ (start _) (c .before .before .before .before .find-replica .ensures) (c .before .before .enum-told .given .1) (c .before .refusal .ensures) (c .refused .ensures)
+    let at-refusal = c .before in
+    let at-enum-told = at-refusal .before in
+    let at-find-replica = at-enum-told .before .before in
+    no-replica _ _ _ (start _) (at-find-replica .find-replica .ensures) (at-enum-told .enum-told .given .1) (at-refusal .refusal .ensures)
+    (c .refused .ensures)
 
 add-boot : tie.Need-add-boot
 add-boot c =
@@ -24,9 +28,10 @@ add-boot c =
 
 add-limit : tie.Need-add-limit
 add-limit c =
-    let at-found = c .before .before .before .before in
+    let at-counter-step = c .before in
+    let at-found = at-counter-step .before .before .before in
     let found = replica-known _ _ (at-found .before .before .find-replica .ensures) (at-found .found .given .1) in
-    rw (found .read) (record { fits = limit-fits _ _ _ (found .ready) (c .before .counter-step .ensures _) })
+    rw (found .read) (record { fits = limit-fits _ _ _ (found .ready) (at-counter-step .counter-step .ensures _) })
 
 set-replica-word-requires : tie.Need-set-replica-word-requires
 set-replica-word-requires c κs =
@@ -38,11 +43,13 @@ returns-2 : tie.Need-returns-2
 unfolding rebootRule update
 returns-2 c =
     let written = c .before .before .before in
+    let entry = written .before .before .before .before .before .before .before .before .before .before .before .before .before .before .before .before .before in
     let tested = written .before .before .before in
     let step = tested .before .before in
     let at-found = step .before .before .before in
-    let found = found-replica _ _ _ (start (rebootRule _ _)) (at-found .before .before .find-replica .ensures) (at-found .found .given .1) in
-    let a = c .before .before .before .before .before .before .before .before .before .before .before .before .before .before .before .before .before .before .before .before .args in
+    let found = found-replica _ _ _ (start (rebootRule _ _)) (at-found .before .before .find-replica .ensures)
+    (at-found .found .given .1) in
+    let a = entry .args in
     let stepped = rw (found .read) at (step .counter-step .ensures (memory (a .table .now) (a .log .now) (a .blocks .now))) in
     let retires = sym (rw (found .read, stepped) at (tested .retires .ensures)) ∙ written .before .before .if1 .taken in
     accepts _ (found .at) (rw retires (rw (found .read) at (c .accepted .ensures))) (rw (retires, written .set-replica-word .ensures))
@@ -58,12 +65,14 @@ returns-3 : tie.Need-returns-3
 unfolding rebootRule update
 returns-3 c =
     let written = c .before .before .before in
+    let entry = written .before .before .before .before .before .before .before .before .before .before .before .before .before .before .before .before .before .before .before in
     let restarts = written .before .before .before .before in
     let tested = restarts .before in
     let step = tested .before .before in
     let at-found = step .before .before .before in
-    let found = found-replica _ _ _ (start (rebootRule _ _)) (at-found .before .before .find-replica .ensures) (at-found .found .given .1) in
-    let a = c .before .before .before .before .before .before .before .before .before .before .before .before .before .before .before .before .before .before .before .before .before .before .args in
+    let found = found-replica _ _ _ (start (rebootRule _ _)) (at-found .before .before .find-replica .ensures)
+    (at-found .found .given .1) in
+    let a = entry .args in
     let stepped = rw (found .read) at (step .counter-step .ensures (memory (a .table .now) (a .log .now) (a .blocks .now))) in
     let stays = sym (rw (found .read, stepped) at (tested .retires .ensures)) ∙ restarts .if1 .left in
     accepts _ (found .at) (rw stays (rw (found .read) at (c .accepted2 .ensures)))

@@ -13,25 +13,34 @@ use Rattle.restart.proofs.reserve.Tie as tie
 returns : tie.Need-returns
 unfolding reserveRule
 returns c =
-    no-replica _ _ _ (start _) (c .before .before .before .before .find-replica .ensures) (c .before .before .enum-told .given .1) (c .before .refusal .ensures) (c .refused .ensures)
+    let at-refusal = c .before in
+    let at-enum-told = at-refusal .before in
+    let at-find-replica = at-enum-told .before .before in
+    no-replica _ _ _ (start _) (at-find-replica .find-replica .ensures) (at-enum-told .enum-told .given .1) (at-refusal .refusal .ensures)
+    (c .refused .ensures)
 
 add-limit : tie.Need-add-limit
 add-limit c =
-    let at-found = c .before .before .before in
+    let at-counter-step = c .before in
+    let at-found = at-counter-step .before .before in
     let found = replica-known _ _ (at-found .before .before .find-replica .ensures) (at-found .found .given .1) in
-    rw (found .read) (record { fits = limit-fits _ _ _ (found .ready) (c .before .counter-step .ensures _) })
+    rw (found .read) (record { fits = limit-fits _ _ _ (found .ready) (at-counter-step .counter-step .ensures _) })
 
 returns-2 : tie.Need-returns-2
 unfolding reserveRule
 returns-2 c =
-    let tests = c .before .before .before .before in
+    let at-refusal2 = c .before in
+    let at-enum-told3 = at-refusal2 .before in
+    let tests = at-enum-told3 .before .before in
+    let entry = tests .before .before .before .before .before .before .before .before .before .before .before .before .before in
     let step = tests .before .before in
     let at-found = step .before .before in
-    let found = found-replica _ _ _ (start (reserveRule _ _)) (at-found .before .before .find-replica .ensures) (at-found .found .given .1) in
-    let a = c .before .before .before .before .before .before .before .before .before .before .before .before .before .before .before .before .before .args in
+    let found = found-replica _ _ _ (start (reserveRule _ _)) (at-found .before .before .find-replica .ensures)
+    (at-found .found .given .1) in
+    let a = entry .args in
     let stepped = rw (found .read) at (step .counter-step .ensures (memory (a .table .now) (a .log .now) (a .blocks .now))) in
     failed _ refl (rw (found .read, stepped) at (tests .test-reserve .ensures)) _ _ (found .at)
-    (c .before .before .enum-told3 .given .1) (c .before .refusal2 .ensures) (c .refused2 .ensures)
+    (at-enum-told3 .enum-told3 .given .1) (at-refusal2 .refusal2 .ensures) (c .refused2 .ensures)
 
 set-replica-word-requires : tie.Need-set-replica-word-requires
 set-replica-word-requires c κs =
@@ -43,12 +52,14 @@ returns-3 : tie.Need-returns-3
 unfolding reserveRule update
 returns-3 c =
     let written = c .before .before .before in
+    let entry = written .before .before .before .before .before .before .before .before .before .before .before .before .before .before .before .before .before in
     let told = written .before .before in
     let tests = told .before .before in
     let step = tests .before .before in
     let at-found = step .before .before in
-    let found = found-replica _ _ _ (start (reserveRule _ _)) (at-found .before .before .find-replica .ensures) (at-found .found .given .1) in
-    let a = c .before .before .before .before .before .before .before .before .before .before .before .before .before .before .before .before .before .before .before .before .args in
+    let found = found-replica _ _ _ (start (reserveRule _ _)) (at-found .before .before .find-replica .ensures)
+    (at-found .found .given .1) in
+    let a = entry .args in
     let stepped = rw (found .read) at (step .counter-step .ensures (memory (a .table .now) (a .log .now) (a .blocks .now))) in
     let at-end = passed _ refl (rw (found .read, stepped) at (tests .test-reserve .ensures)) _ (found .at)
     (told .enum-told2 .given .1) in

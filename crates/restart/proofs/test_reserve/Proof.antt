@@ -1,6 +1,6 @@
 -- Two needs, one after the other.
 use borrow.Author.Needs.{needs}
-use Rattle.checks.specs.Verdicts.{tested}
+use Rattle.checks.specs.inner.Verdicts.{tested}
 use Rattle.restart.proofs.test_reserve.Statement.{statement}
 use Rattle.restart.proofs.test_reserve.Tie as tie
 

@@ -15,7 +15,8 @@ use Rattle.script.proofs.read_numbers.Tie as tie
 
 abbrev Inv-loop : tie.InvT-loop
 Inv-loop line given₀ count column₀ i₀ given column i =
-    (column ≡ columns * i) × (i ≤ count) × (length given ≡ maxFields) × (allBelow i (isNumber line) ≡ true) × (take i given ≡ numbers line i)
+    (column ≡ columns * i) × (i ≤ count) × (length given ≡ maxFields) × (allBelow i (isNumber line) ≡ true) ×
+    (take i given ≡ numbers line i)
 
 abbrev μ-loop : tie.MeasureT-loop
 μ-loop line given₀ count column₀ i₀ given column i = count - i

@@ -4,7 +4,7 @@ use mathlib.Core.Path.{refl, sym, _∙_}
 use native.Mathlib.Omega.{arith}
 use lib.ListN.{length}
 use Rattle.stream.specs.Stream.{fed}
-use Rattle.stream.specs.Progress.{streamOf}
+use Rattle.stream.specs.inner.Progress.{streamOf}
 use Rattle.stream.proofs.Feeds.{end-within}
 use Rattle.stream.proofs.Feeding.{Going, stopped, at-end, line-fed, rest-held}
 use Rattle.stream.proofs.feed.Statement.{statement}

@@ -1,7 +1,7 @@
 -- The sixteen tests say that the first line feed is among the sixteen bytes.
 use borrow.Author.Needs.{needs}
 use native.Mathlib.Nat.{add-zero}
-use Rattle.stream.specs.Feeds.{feedStep}
+use Rattle.stream.specs.inner.Feeds.{feedStep}
 use Rattle.stream.proofs.Feeds.{any-feed}
 use Rattle.stream.proofs.has_feed.Statement.{statement}
 use Rattle.stream.proofs.has_feed.Tie as tie

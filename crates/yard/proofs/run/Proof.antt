@@ -1,9 +1,9 @@
 -- Between two turns no text is pending, and the stream is the first one after the reads so far. The turns run out.
 use native.Mathlib.Omega.{arith}
 use borrow.Author.Needs.{needs}
-use Rattle.stream.specs.Progress.{streamOf}
+use Rattle.stream.specs.inner.Progress.{streamOf}
 use Rattle.stream.specs.Turns.{Ran}
-use Rattle.yard.specs.Turns.{Flushed}
+use Rattle.yard.specs.inner.Turns.{Flushed}
 use Rattle.yard.proofs.Turning.{begins, turned, goes-on}
 use Rattle.yard.proofs.run.Statement.{statement}
 use Rattle.yard.proofs.run.Tie as tie

@@ -5,7 +5,7 @@ use borrow.Author.Needs.{needs}
 use Rattle.protocol.specs.Form.{allHold}
 use Rattle.protocol.proofs.Booleans.{tests}
 use Rattle.checks.proofs.Verdicts.{fails, last}
-use Rattle.checker.specs.Justifications.{judgementOf}
+use Rattle.checker.specs.inner.Justifications.{judgementOf}
 use Rattle.checker.proofs.Justifications.{quorum-view-bound}
 use Rattle.checker.proofs.justification.judge.Statement.{statement}
 use Rattle.checker.proofs.justification.judge.Tie as tie

@@ -2,7 +2,7 @@
 use mathlib.Core.Bool.{and-true}
 use borrow.Author.Needs.{needs}
 use Rattle.protocol.specs.Quorum.{every}
-use Rattle.checks.specs.Verdicts.{next, tested}
+use Rattle.checks.specs.inner.Verdicts.{next, tested}
 use Rattle.checker.proofs.justification.test_justification.Statement.{statement}
 use Rattle.checker.proofs.justification.test_justification.Tie as tie
 

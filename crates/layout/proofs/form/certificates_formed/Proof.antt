@@ -5,7 +5,7 @@ use mathlib.Core.Bool.{true}
 use borrow.Author.Needs.{needs}
 use native.Mathlib.Omega.{arith}
 use Rattle.protocol.specs.Form.{allBelow}
-use Rattle.layout.specs.Parts.{certificateOk}
+use Rattle.layout.specs.inner.Parts.{certificateOk}
 use Rattle.layout.proofs.Below.{next, next-four, at-end, refuted-one, refuted-four}
 use Rattle.layout.proofs.Joined.{denied, granted}
 use Rattle.layout.proofs.form.certificates_formed.Statement.{statement}

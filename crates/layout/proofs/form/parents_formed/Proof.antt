@@ -9,7 +9,7 @@ use borrow.Author.Needs.{needs}
 use native.Mathlib.Omega.{arith}
 use Rattle.protocol.specs.Form.{allBelow, blockFormed}
 use Rattle.protocol.proofs.Booleans.{tests}
-use Rattle.layout.specs.Parts.{blockOk}
+use Rattle.layout.specs.inner.Parts.{blockOk}
 use Rattle.layout.proofs.Below.{one-more, at-end}
 use Rattle.layout.proofs.form.parents_formed.Statement.{statement}
 use Rattle.layout.proofs.form.parents_formed.Tie as tie

@@ -6,8 +6,8 @@ use Rattle.protocol.specs.declared.Justification.{Justification}
 use Rattle.protocol.specs.Memory.{Certificate, ceiling}
 use Rattle.protocol.specs.Outcome.{Need, _else_, wrongCertificate}
 use Rattle.protocol.specs.Calls.{proposalView, justifiedBlock, isJustified}
-use Rattle.quorum.specs.Lists.{certificateIn, Listed}
-use Rattle.checks.specs.Verdicts.{verdict}
+use Rattle.quorum.specs.inner.Lists.{certificateIn, Listed}
+use Rattle.checks.specs.inner.Verdicts.{verdict}
 use Rattle.checker.specs.declared.justification.Justified.{Justified}
 use Rattle.checker.specs.declared.justification.Judgement.{Judgement}
 use Rattle.checker.specs.declared.justification.Judgement.the-variants.{By, Refused}

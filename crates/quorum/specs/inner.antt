@@ -1,0 +1,3 @@
+-- What the contracts of inner functions cite: nothing to believe.
+pub mod Signers
+pub mod Lists

@@ -1,0 +1,4 @@
+-- What the contracts of inner functions cite: nothing to believe.
+pub mod Progress
+pub mod Feeds
+pub mod Holding

@@ -6,7 +6,7 @@ use Rattle.protocol.specs.Memory.{Certificate, memory}
 use Rattle.protocol.specs.Quorum.{every}
 use Rattle.protocol.specs.Calls.{accumulate as accumulateRule}
 use Rattle.protocol.proofs.Booleans.{tests}
-use Rattle.records.specs.Replicas.{certificateFrom}
+use Rattle.records.specs.inner.Replicas.{certificateFrom}
 use Rattle.quorum.proofs.Accepted.{first-of}
 use Rattle.checks.proofs.Ready.{all-listed, some-there, listed-there}
 use Rattle.checks.proofs.Verdicts.{first-need, then-need}

@@ -6,7 +6,7 @@ use borrow.Author.Tests.{lt-ltb, le-ltb}
 use Rattle.protocol.specs.Memory.{memory, update}
 use Rattle.protocol.specs.Quorum.{every}
 use Rattle.protocol.specs.Calls.{decide as decideRule}
-use Rattle.records.specs.Replicas.{certificateFrom}
+use Rattle.records.specs.inner.Replicas.{certificateFrom}
 use Rattle.quorum.proofs.Accepted.{first-of}
 use Rattle.checks.proofs.Ready.{row-within, all-listed, some-there, listed-there}
 use Rattle.checks.proofs.Verdicts.{first-need}

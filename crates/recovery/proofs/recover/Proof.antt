@@ -5,7 +5,7 @@ use borrow.Author.Needs.{needs}
 use Rattle.protocol.specs.Memory.{memory, update}
 use Rattle.protocol.specs.Quorum.{every}
 use Rattle.protocol.specs.Calls.{recover as recoverRule}
-use Rattle.records.specs.Replicas.{certificateFrom}
+use Rattle.records.specs.inner.Replicas.{certificateFrom}
 use Rattle.checks.proofs.Ready.{row-within, all-listed, some-there, listed-there}
 use Rattle.checks.proofs.Verdicts.{first-need, then-need}
 use Rattle.checks.proofs.Passing.{start, accepts, no-replica, replica-known, found-replica, failed, passed, list-known}

@@ -34,15 +34,15 @@ pub record Claims : Type 0 where
   pub openingTestsFaultsFirst : OpeningTestsFaultsFirst
   -- a number is at most 9, a value at most 1,000,000
   pub valuesFit : ValuesFit
-  -- the cases that document 01 marks P
+  -- the cases that document 01 marks P, and some more
   pub casesHold : CasesHold
-  -- before an accepted opening a line gives 1
+  -- while no f is in use, a readable line that is no opening gives 1
   pub beforeOpening : BeforeOpening
   -- every answer fits in its columns
   pub answersPrintable : AnswersPrintable
   -- the output is that of the bytes, in whatever chunks they come
   pub chunksDoNotMatter : ChunksDoNotMatter
-  -- the texts of the program's reads are the output
+  -- the texts of the program's reads, up to the end of the input, are the output
   pub turnsGiveOutput : TurnsGiveOutput
   -- the worked script, byte for byte
   pub workedScript : WorkedScript
@@ -57,19 +57,19 @@ pub record Claims : Type 0 where
   -- ---- Demand 3: decisions never conflict, and no panel falls.
   -- of two decided blocks one is in the line of the other; no panel falls
   pub agreement : Agreement
-  -- the words are what calls and answers told
+  -- the same of blocks that a Decide would name
+  pub wouldAgree : WouldAgree
+  -- parents and decided words are what calls and answers told
   pub wordsMatchHistory : WordsMatchHistory
   -- certificates and blocks are only ever appended
   pub onlyAppended : OnlyAppended
-  -- the same of blocks that a Decide would name
-  pub wouldAgree : WouldAgree
   -- what a panel reads is the history's panel
   pub panelShowsHistory : PanelShowsHistory
   -- what a panel reads never falls
   pub panelNeverFalls : PanelNeverFalls
   -- demand 3 of lines and their answers
   pub scriptsAgree : ScriptsAgree
-  -- lines after an opening are such a list of calls
+  -- lines after an opening tell and leave what such a list of calls does
   pub scriptIsExecution : ScriptIsExecution
   -- demand 3 of the bytes read and written
   pub programAgrees : ProgramAgrees

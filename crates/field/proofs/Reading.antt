@@ -11,7 +11,7 @@ use lib.Dec.{ltb, leb, eqb}
 use lib.ListN.{length, replicate, getD, take, drop, length-take, length-drop, drop-of-length-le}
 use lib.Seq.{drop-cons}
 use Rattle.field.specs.Digits.{digitZero, digitNine, isDigit, digits}
-use Rattle.field.specs.Field.{columns, blank, maxNumber, noNumber, continued, unpadded, justified, readField}
+use Rattle.field.specs.Field.{columns, blank, maxNumber, noNumber, continued, unpadded, aligned, readField}
 use Rattle.field.proofs.Booleans.{tests, by-test}
 use Rattle.field.proofs.Counts.{next-power}
 
@@ -50,24 +50,24 @@ continued-digits (suc k) v n bs h =
       pow-succ' 10 k,
     )
 
-pub after-blanks : (k : ℕ) (bs : List ℕ) → justified (replicate k blank ++ bs) ≡ justified bs
-unfolding justified
+pub after-blanks : (k : ℕ) (bs : List ℕ) → aligned (replicate k blank ++ bs) ≡ aligned bs
+unfolding aligned
 after-blanks zero bs = refl
 after-blanks (suc k) bs = after-blanks k bs
 
 -- A number whose first digit is not 0.
-pub justified-digits : (k n : ℕ) (bs : List ℕ) → 10 ^ k ≤ n → n < 10 ^ suc k → justified (digits (suc k) n ++ bs) ≡ continued n bs
-unfolding digits justified unpadded
-justified-digits zero n bs l h =
+pub aligned-digits : (k n : ℕ) (bs : List ℕ) → 10 ^ k ≤ n → n < 10 ^ suc k → aligned (digits (suc k) n ++ bs) ≡ continued n bs
+unfolding digits aligned unpadded
+aligned-digits zero n bs l h =
     let s : eqb (digitZero + n % 10) blank ≡ false = omega tests in
     let z : eqb (digitZero + n % 10) digitZero ≡ false = omega tests in
     let e : 10 * 0 + ((digitZero + n % 10) - digitZero) ≡ n = omega arith in
     rw (s, z, continued-digit 0 (digitZero + n % 10) bs (omega arith) (omega arith), e)
-justified-digits (suc k) n bs l h =
+aligned-digits (suc k) n bs l h =
     let l' : 10 * 10 ^ k ≤ n = rw (pow-succ' 10 k) at l in
     let h' : n < 10 * 10 ^ suc k = rw (pow-succ' 10 (suc k)) at h in
     rw (append-assoc (digits (suc k) (n / 10)) ((digitZero + n % 10) ∷ []) bs)
-    (justified-digits k (n / 10) ((digitZero + n % 10) ∷ bs) (omega arith) (omega arith)
+    (aligned-digits k (n / 10) ((digitZero + n % 10) ∷ bs) (omega arith) (omega arith)
     ∙ (continued-digit (n / 10) (digitZero + n % 10) bs (omega arith) (omega arith) ∙ ap (λ x. continued x bs) (omega arith)))
 
 -- ---- digits that were read
@@ -162,23 +162,23 @@ no-leading-zero l i h last =
     rw (t, none))
     (λ t. rw t))
 
-pub skips-blank : (l : List ℕ) (i : ℕ) → i < length l → getD l i 0 ≡ blank → justified (drop (i + 1) l) ≡ justified (drop i l)
-unfolding justified
+pub skips-blank : (l : List ℕ) (i : ℕ) → i < length l → getD l i 0 ≡ blank → aligned (drop (i + 1) l) ≡ aligned (drop i l)
+unfolding aligned
 skips-blank l i h e =
     let t : eqb (getD l i 0) blank ≡ true = omega tests in
     rw (add-one i, drop-cons l i 0 h, t)
 
-pub after-last-blank : (l : List ℕ) (i : ℕ) → i < length l → getD l i 0 ≢ blank → justified (drop i l) ≡ unpadded (drop i l)
-unfolding justified
+pub after-last-blank : (l : List ℕ) (i : ℕ) → i < length l → getD l i 0 ≢ blank → aligned (drop i l) ≡ unpadded (drop i l)
+unfolding aligned
 after-last-blank l i h e =
     let t : eqb (getD l i 0) blank ≡ false = omega tests in
     rw (drop-cons l i 0 h, t)
 
-pub only-blanks : (l : List ℕ) (i : ℕ) → length l ≤ i → justified (drop i l) ≡ noNumber
-unfolding justified
+pub only-blanks : (l : List ℕ) (i : ℕ) → length l ≤ i → aligned (drop i l) ≡ noNumber
+unfolding aligned
 only-blanks l i h = rw (drop-of-length-le l h)
 
-pub eight-columns : (l : List ℕ) → length l ≡ columns → justified l ≡ readField l
+pub eight-columns : (l : List ℕ) → length l ≡ columns → aligned l ≡ readField l
 unfolding readField
 eight-columns l h = let t : eqb (length l) columns ≡ true = omega tests in rw t
 

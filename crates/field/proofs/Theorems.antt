@@ -10,11 +10,11 @@ use lib.Dec.{ltb, leb, eqb}
 use lib.ListN.{length, replicate, length-append, length-replicate}
 use Rattle.field.specs.Digits.{digitZero, digitCount, digits}
 use Rattle.field.specs.Field.{columns, blank, maxNumber, noNumber, fieldOf, writeField}
-use Rattle.field.specs.Field.{continued, isLeadingZero, unpadded, justified, readField}
+use Rattle.field.specs.Field.{continued, isLeadingZero, unpadded, aligned, readField}
 use Rattle.field.specs.Theorems.{WrittenReadsBack, ReadWritesBack, ReadIsBounded}
 use Rattle.field.proofs.Booleans.{tests, by-test}
 use Rattle.field.proofs.Counts.{count-fits, count-of-zero, count-positive, below-power, count-is, first-digit}
-use Rattle.field.proofs.Reading.{by-digit, continued-digit, not-digit, after-blanks, justified-digits, digits-back}
+use Rattle.field.proofs.Reading.{by-digit, continued-digit, not-digit, after-blanks, aligned-digits, digits-back}
 use Rattle.field.proofs.Reading.{continued-low, continued-high}
 
 -- ---- what was written reads back
@@ -30,8 +30,8 @@ length-field n h =
     let l = count-fits n h in
     rw (length-append, length-replicate, length-digits) (omega arith)
 
-reads-digits : (n k : ℕ) → digitCount n ≡ k → justified (digits k n) ≡ n
-unfolding justified unpadded continued digits
+reads-digits : (n k : ℕ) → digitCount n ≡ k → aligned (digits k n) ≡ n
+unfolding aligned unpadded continued digits
 reads-digits n zero e = absurd (let p = count-positive n in omega arith)
 reads-digits n (suc k) e =
     by-test (eqb n 0)
@@ -41,7 +41,7 @@ reads-digits n (suc k) e =
     rw (z, one))
     (λ t.
     let h = rw e at (below-power n) in
-    rw append-nil at (justified-digits k n [] (first-digit n k (omega tests) e) h))
+    rw append-nil at (aligned-digits k n [] (first-digit n k (omega tests) e) h))
 
 pub written-reads-back : WrittenReadsBack
 unfolding WrittenReadsBack fieldOf readField
@@ -91,14 +91,14 @@ after-blank bs n k =
     let e : suc (length bs) - digitCount n ≡ suc (length bs - digitCount n) = omega arith in
     record { fits = omega arith; same = rw (e, k .same) }
 
-justified-back : (bs : List ℕ) → justified bs < noNumber → Back bs (justified bs)
-unfolding justified unpadded
-justified-back [] h = absurd (omega arith)
-justified-back (b ∷ bs) h =
+aligned-back : (bs : List ℕ) → aligned bs < noNumber → Back bs (aligned bs)
+unfolding aligned unpadded
+aligned-back [] h = absurd (omega arith)
+aligned-back (b ∷ bs) h =
     by-test (eqb b blank)
     (λ t.
     let q : b ≡ blank = omega tests in
-    rw (t, q) (after-blank bs (justified bs) (justified-back bs (rw t at h))))
+    rw (t, q) (after-blank bs (aligned bs) (aligned-back bs (rw t at h))))
     (λ t.
     by-test (isLeadingZero b bs) (λ z. absurd (let y = rw (t, z) at h in omega arith))
     (λ z. rw (t, z) (unpadded-back b bs z (rw (t, z) at h))))
@@ -108,22 +108,22 @@ unfolding ReadWritesBack readField writeField fieldOf
 read-writes-back bs h =
     by-test (eqb (length bs) columns)
     (λ t.
-    let k = justified-back bs (let y = rw t at h in omega arith) in
-    let m : leb (justified bs) maxNumber ≡ true = let y = rw t at h in omega tests in
+    let k = aligned-back bs (let y = rw t at h in omega arith) in
+    let m : leb (aligned bs) maxNumber ≡ true = let y = rw t at h in omega tests in
     let l : length bs ≡ columns = omega tests in
     rw (t, m, rw l at (k .same)))
     (λ t. absurd (let y = rw t at h in omega arith))
 
 -- ---- a read is bounded
 
-justified-bounded : (bs : List ℕ) → (justified bs < 10 ^ length bs) ⊎ (justified bs ≡ noNumber)
-unfolding justified unpadded
-justified-bounded [] = inr refl
-justified-bounded (b ∷ bs) =
+aligned-bounded : (bs : List ℕ) → (aligned bs < 10 ^ length bs) ⊎ (aligned bs ≡ noNumber)
+unfolding aligned unpadded
+aligned-bounded [] = inr refl
+aligned-bounded (b ∷ bs) =
     by-test (eqb b blank)
     (λ t.
     rw t
-    (⊎-elim (λ l. inl (let p = pow-succ' 10 (length bs) in omega arith)) (λ e. inr e) (justified-bounded bs)))
+    (⊎-elim (λ l. inl (let p = pow-succ' 10 (length bs) in omega arith)) (λ e. inr e) (aligned-bounded bs)))
     (λ t.
     rw t
     (by-test (isLeadingZero b bs) (λ z. inr (rw z))
@@ -135,5 +135,5 @@ read-is-bounded bs =
     by-test (eqb (length bs) columns)
     (λ t.
     let l : length bs ≡ columns = omega tests in
-    rw t (⊎-elim (λ h. inl (let p = rw l at h in omega arith)) (λ e. inr e) (justified-bounded bs)))
+    rw t (⊎-elim (λ h. inl (let p = rw l at h in omega arith)) (λ e. inr e) (aligned-bounded bs)))
     (λ t. inr (rw t))

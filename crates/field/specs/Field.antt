@@ -68,10 +68,10 @@ unpadded [] = noNumber
 unpadded (byte ∷ rest) = cond (isLeadingZero byte rest) noNumber (continued 0 (byte ∷ rest))
 
 -- The same after blanks. Blanks alone are no number.
-unfoldable pub justified : List ℕ → ℕ
-justified [] = noNumber
-justified (byte ∷ rest) = cond (eqb byte blank) (justified rest) (unpadded (byte ∷ rest))
+unfoldable pub aligned : List ℕ → ℕ
+aligned [] = noNumber
+aligned (byte ∷ rest) = cond (eqb byte blank) (aligned rest) (unpadded (byte ∷ rest))
 
 -- "Its read gives the number, or 4,294,967,295 for bytes that are no such field."
 unfoldable pub readField : List ℕ → ℕ
-readField bytes = cond (eqb (length bytes) columns) (justified bytes) noNumber
+readField bytes = cond (eqb (length bytes) columns) (aligned bytes) noNumber

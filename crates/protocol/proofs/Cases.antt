@@ -11,7 +11,7 @@ use Rattle.protocol.specs.Form.{wellFormed}
 use Rattle.protocol.specs.Certificates.{firstBelow, hasWords, numberFor, isFiled, canFile, file}
 use Rattle.protocol.specs.Leader.{leads}
 use Rattle.protocol.specs.Counter.{counterStep}
-use Rattle.protocol.specs.Quorum.{every, contains, distinct, isCommitQuorum, isNewViewQuorum, isReplyQuorum, greatestFrom}
+use Rattle.protocol.specs.Quorum.{every, contains, distinct, greatestFrom, isQuorum}
 use Rattle.protocol.specs.Outcome.{firstRefusal, answered, follow}
 use Rattle.protocol.specs.Calls.{issuing, freshReplicas, opening, block, prepare, store, view, accumulate, decide, reboot}
 use Rattle.protocol.specs.Calls.{reserve, request, reply, recover}
@@ -53,8 +53,8 @@ same-answers (a ∷ given) (b ∷ wanted) e =
 -- A row's calls get the answers expected. Everything that the rules are made of opens with it.
 unfoldable holds : Case → Bool
 unfolding update appendCertificate appendBlock allHold allBelow blockFormed replicaFormed certificateFormed lengthsFit countsFit wellFormed
-    firstBelow hasWords numberFor isFiled canFile file leads counterStep every contains distinct isCommitQuorum isNewViewQuorum
-    isReplyQuorum greatestFrom firstRefusal answered follow issuing freshReplicas opening block prepare store view accumulate decide
+    firstBelow hasWords numberFor isFiled canFile file leads counterStep every contains distinct isQuorum
+    greatestFrom firstRefusal answered follow issuing freshReplicas opening block prepare store view accumulate decide
     reboot reserve request reply recover ruleOf step run answers isAnswer areAnswers
 holds c = areAnswers (answers (c .start) (c .calls)) (c .expected)
 

@@ -10,7 +10,7 @@ use Rattle.protocol.specs.Memory.{Memory, Replica, Certificate, Assignme
 use Rattle.protocol.specs.Memory.{replica, certificate, live, raised, update}
 use Rattle.protocol.specs.Form.{replicaFormed}
 use Rattle.protocol.specs.Certificates.{PROP, COMMIT, NEWVIEW, REPLY}
-use Rattle.protocol.specs.Quorum.{certificatesOf, signers, firstOf, isCommitQuorum, isNewViewQuorum, isReplyQuorum}
+use Rattle.protocol.specs.Quorum.{certificatesOf, signers, firstOf, isQuorum}
 use Rattle.protocol.specs.FirstNeeds.{isReplica}
 use Rattle.protocol.specs.Calls.{isAhead, decisionWords, store, view, accumulate, decide, reboot}
 use Rattle.protocol.specs.Calls.{hasStatus, issuing, reserve, request, reply, recover}
@@ -140,7 +140,7 @@ view-safe m i w hold safe =
 
 pub accumulate-safe : (m : Memory) (i : ℕ) (list : List ℕ) → Holds (accumulate m i list .needs) → Safe m
     → GoesOn m (accumulate m i list .after)
-unfolding accumulate isNewViewQuorum
+unfolding accumulate isQuorum
 accumulate-safe m i list hold safe =
     let h = issuing-needs m _ i _ _ hold .0 in
     let cs = certificatesOf m list in
@@ -272,7 +272,7 @@ reboot-safe m i h safe =
 
 pub recover-safe : (m : Memory) (i : ℕ) (list : List ℕ) → Holds (recover m i list .needs) → Safe m
     → GoesOn m (recover m i list .after)
-unfolding recover isReplyQuorum
+unfolding recover isQuorum
 recover-safe m i list h safe =
     let r = replica m i in
     let row = safe .rows i (omega tests) in
@@ -303,7 +303,7 @@ recover-safe m i list h safe =
 -- What a Decide accepts is chosen.
 pub chosen : (m : Memory) (i : ℕ) (list : List ℕ) → Holds (decide m i list .needs) → Safe m
     → Chosen m (decide m i list .second) (decide m i list .first)
-unfolding decide isCommitQuorum
+unfolding decide isQuorum
 chosen m i list h safe =
     let cs = certificatesOf m list in
     let v = firstOf cs .view in

@@ -13,7 +13,7 @@ use Rattle.protocol.specs.Memory.{Memory, Replica, faultBound, replica, 
 use Rattle.protocol.specs.Form.{replicaFormed}
 use Rattle.protocol.specs.Certificates.{PROP, COMMIT, ACC}
 use Rattle.protocol.specs.Leader.{leads}
-use Rattle.protocol.specs.Quorum.{every, isIssued, allIssued, certificatesOf, isCommitQuorum}
+use Rattle.protocol.specs.Quorum.{every, isIssued, allIssued, certificatesOf, isQuorum}
 use Rattle.protocol.specs.Calls.{numbersOf, isSized, proposalView, justifiedBlock, isJustified, prepare}
 use Rattle.protocol.proofs.Booleans.{tests, and-true, each}
 use Rattle.protocol.proofs.Needs.{Holds}
@@ -41,7 +41,7 @@ justified-proposed : (m : Memory) (i : ℕ) (j : Justification) (list : List ℕ
     → allIssued m (numbersOf j list) ≡ true → isJustified i j (certificatesOf m (numbersOf j list)) ≡ true → (v : ℕ) → 1 ≤ v
     → v < proposalView j (certificatesOf m (numbersOf j list)) → Choosable m v
     → ProposedFrom m (justifiedBlock j (certificatesOf m (numbersOf j list))) v
-unfolding every isCommitQuorum
+unfolding every isQuorum
 justified-proposed m i (Acc number) list safe size issued justified v positive below ch =
     let known = and-true (isIssued m number) true issued in
     let t = each _ justified in

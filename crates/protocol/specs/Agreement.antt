@@ -44,7 +44,7 @@ unfoldable pub Agreement : Type 0
 Agreement =
     (m : Memory) (f : ℕ) (list : List ℕ) (calls : List Invocation) → Execution m f list calls → Agreed (eventsOf m f list calls)
 
--- ---- The link to the words: what the memory holds at the end is what the calls and answers told.
+-- ---- The link to the words: parents, decided views and decided blocks at the end are what the calls and answers told.
 
 pub record Told (f : ℕ) (events : List Event) (m : Memory) : Type 0 where
   pub parents : (b : ℕ) → b < blockCount m → parent m b ≡ givenParent events b

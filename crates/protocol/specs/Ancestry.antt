@@ -6,7 +6,8 @@ use lib.Dec.{eqb}
 use Rattle.protocol.specs.Memory.{Memory, parent}
 
 -- "A block is in another's line if it is that block or is in the line of that block's parent; block 0 has only itself in its line."
--- Whether block a is in the line of block b, at most so many steps up, where each block has the parent that the function gives.
+-- Whether block a is in the line of block b, at most so many steps up, where each block has the parent that the function gives. A block is
+-- its own ancestor.
 unfoldable pub ancestorWithin : (ℕ → ℕ) → ℕ → ℕ → ℕ → Bool
 ancestorWithin parentOf zero a b = eqb a b
 ancestorWithin parentOf (suc steps) a b = eqb a b || (not (eqb b 0) && ancestorWithin parentOf steps a (parentOf b))

@@ -1,6 +1,6 @@
 -- The rules of the twelve calls (document 01, "Calls"), each with its sentence. The needs of each stand in rising order, as in the
--- table of refusals; opening alone tests f (2) before lengths (1). First come the needs that calls share; those that are a call's own
--- are stated once, over the replica and the certificates that it reads, and the code's tests cite them.
+-- table of refusals; opening alone tests f (2) before lengths (1). The first needs of most are those of FirstNeeds.antt. What a call asks
+-- of the replica and the certificates that it reads is a list of its own above the rule (as storeNeeds), which the code's tests cite too.
 use Prim.Native.Nat.{ℕ, zero, suc, _+_, max}
 use mathlib.Core.Bool.{Bool, true, cond, not, _||_}
 use mathlib.Core.List.{List, [], _∷_, _++_}
@@ -40,11 +40,11 @@ issuing m needs i changes c =
 
 -- "Open(f): boxes live, boot 0, low 1, bound 64, all else 0;" the bound is the step of boot 0
 abbrev pub freshReplica : ℕ → List Assignment
-freshReplica bound =
+freshReplica limit =
     statusAt becomes live
     ∷ bootAt becomes 0
     ∷ minViewAt becomes 1
-    ∷ viewLimitAt becomes bound
+    ∷ viewLimitAt becomes limit
     ∷ flagAt becomes lowered
     ∷ storedViewAt becomes 0
     ∷ storedBlockAt becomes 0
@@ -175,7 +175,7 @@ store m i number =
 abbrev pub isAhead : Replica → ℕ → Bool
 isAhead r w = ltb (r .minView) w
 
--- "1 ≤ w ≤ 1,000,000 [..] live [..] w ≥ low, w < bound"
+-- "live; 1 ≤ w ≤ 1,000,000, w ≥ low, w < bound", by their numbers
 abbrev pub viewNeeds : Replica → ℕ → List Need
 viewNeeds r w =
     leb 1 w else outOfRange
@@ -229,7 +229,7 @@ decide m i list =
 abbrev pub retires : Replica → ℕ → ℕ → Bool
 retires r boot limit = hasStatus retired r || ltb ceiling boot || ltb ceiling limit
 
--- "bound grows by the new boot's step"
+-- Reboot: "bound grows by the new boot's step"; reserve: "bound grows by its boot's step".
 abbrev pub limitAfter : Memory → Replica → ℕ → ℕ
 limitAfter m r boot = r .viewLimit + counterStep m boot
 

@@ -1,4 +1,4 @@
--- The cases that document 01 marks P ("Edges"), in one table: a start, calls, and the answers expected of them.
+-- The cases that document 01 marks P ("Edges"), and some beside them, in one table: a start, calls, and the answers expected of them.
 use Prim.Native.Nat.{ℕ}
 use mathlib.Core.List.{List, [], _∷_, map}
 use mathlib.Core.Path.{_≡_}

@@ -58,8 +58,8 @@ abbrev pub rowAt : ℕ → ℕ
 rowAt i = rowStart + replicaWords * i
 
 -- "then nine words a box: status (0 live, 1 waiting, 2 spent), boot, low, bound, flag, stored view, stored block, shown view, shown block."
--- Here low is minView, the lowest view that the replica may still sign in; bound is viewLimit, the first that it may not sign in before
--- its counter is moved; shown is decided; waiting is recovering and spent is retired.
+-- Here low is minView, the lowest view that the replica may still propose, store or enter in; bound is viewLimit, the first that it may
+-- not before its counter is moved; shown is decided; waiting is recovering and spent is retired.
 abbrev pub statusAt : ℕ
 statusAt = 0
 

@@ -72,7 +72,7 @@ pub record Rule : Type 0 where
   pub second : ℕ
   pub after : Memory
 
--- "0, accepted, as above"; otherwise the number, "0, 0" and "all words as before".
+-- 0, "accepted": "as above"; otherwise the number, "0, 0" and "all words as before".
 unfoldable pub answered : ℕ → Memory → Rule → Outcome
 answered zero m rule = record { answer = record { number = 0; first = rule .first; second = rule .second }; memory = rule .after }
 answered (suc n) m rule = record { answer = record { number = suc n; first = 0; second = 0 }; memory = m }

@@ -44,33 +44,37 @@ distinct (x ∷ xs) = not (contains x xs) && distinct xs
 abbrev pub signers : List Certificate → List ℕ
 signers cs = map (λ c. c .signer) cs
 
+-- A quorum: a test holds of each certificate, and the signers are different.
+unfoldable pub isQuorum : (Certificate → Bool) → List Certificate → Bool
+isQuorum test cs = allHold (every test cs ∷ distinct (signers cs) ∷ [])
+
 -- "“Matching commits” are a list of COMMITs with equal view and block and different signers." A commit quorum, of this view and block.
-unfoldable pub isCommitQuorum : ℕ → ℕ → List Certificate → Bool
-isCommitQuorum view block cs =
-    allHold
-    (every (λ c. allHold (isKind COMMIT c ∷ eqb (c .view) view ∷ eqb (c .block) block ∷ [])) cs ∷ distinct (signers cs) ∷ [])
+abbrev pub isCommitOf : ℕ → ℕ → Certificate → Bool
+isCommitOf view block c = allHold (isKind COMMIT c ∷ eqb (c .view) view ∷ eqb (c .block) block ∷ [])
+
+abbrev pub isCommitQuorum : ℕ → ℕ → List Certificate → Bool
+isCommitQuorum view block = isQuorum (isCommitOf view block)
 
 -- Accumulate: "NEWVIEWs of one view, different signers."
-unfoldable pub isNewViewQuorum : ℕ → List Certificate → Bool
-isNewViewQuorum view cs =
-    allHold (every (λ c. allHold (isKind NEWVIEW c ∷ eqb (c .view) view ∷ [])) cs ∷ distinct (signers cs) ∷ [])
+abbrev pub isNewViewOf : ℕ → Certificate → Bool
+isNewViewOf view c = allHold (isKind NEWVIEW c ∷ eqb (c .view) view ∷ [])
+
+abbrev pub isNewViewQuorum : ℕ → List Certificate → Bool
+isNewViewQuorum view = isQuorum (isNewViewOf view)
 
 -- Recover: "REPLYs with this subject, its boot, view = low, different signers, none the box."
-unfoldable pub isReplyQuorum : ℕ → ℕ → ℕ → List Certificate → Bool
-isReplyQuorum replica boot view cs =
+abbrev pub isReplyTo : ℕ → ℕ → ℕ → Certificate → Bool
+isReplyTo replica boot view c =
     allHold
-    (every
-    (λ c.
-    allHold
-    (isKind REPLY c ∷ eqb (c .subject) replica ∷ eqb (c .boot) boot ∷ eqb (c .view) view ∷ not (eqb (c .signer) replica) ∷ []))
-    cs
-    ∷ distinct (signers cs)
-    ∷ [])
+    (isKind REPLY c ∷ eqb (c .subject) replica ∷ eqb (c .boot) boot ∷ eqb (c .view) view ∷ not (eqb (c .signer) replica) ∷ [])
 
--- Of two, the one with the greater of-view; the first if they are equal.
+abbrev pub isReplyQuorum : ℕ → ℕ → ℕ → List Certificate → Bool
+isReplyQuorum replica boot view = isQuorum (isReplyTo replica boot view)
+
 abbrev pub isGreater : Certificate → Certificate → Bool
 isGreater c best = ltb (best .ofView) (c .ofView)
 
+-- Of two, the one with the greater of-view; the first if they are equal.
 abbrev pub greater : Certificate → Certificate → Certificate
 greater best c = cond (isGreater c best) c best
 

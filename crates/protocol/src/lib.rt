@@ -7,7 +7,7 @@ pub struct Answer {
     pub second: u32,
 }
 
-// The numbers of the table under "Calls" in document 01. They have the names of specs/Outcome.antt, in upper case.
+// The numbers of the table under "Calls" in document 01. The refusals have the names of specs/Outcome.antt, in upper case.
 pub const ACCEPTED: u32 = 0;
 
 pub const WRONG_FORM: u32 = 1;

@@ -8,7 +8,7 @@ use lib.ListN.{length, getD, length-map, List·getD-map}
 use Rattle.protocol.specs.Memory.{Memory, Certificate, certificateCount, certificate}
 use Rattle.protocol.specs.Form.{lengthsFit, certificateFormed}
 use Rattle.protocol.specs.Certificates.{COMMIT}
-use Rattle.protocol.specs.Quorum.{every, isQuorumSize, isIssued, allIssued, certificatesOf, firstOf}
+use Rattle.protocol.specs.Quorum.{every, isQuorumSize, isIssued, allIssued, certificatesOf, firstOf, isQuorum}
 use Rattle.protocol.specs.Quorum.{isCommitQuorum}
 use Rattle.protocol.proofs.Booleans.{tests, each}
 use Rattle.protocol.proofs.Lists.{every-at}
@@ -52,7 +52,7 @@ pub record IsCommit (view block : ℕ) (c : Certificate) : Type 0 where
 
 pub commit-at : (m : Memory) (list : List ℕ) (view block : ℕ) → isCommitQuorum view block (certificatesOf m list) ≡ true
     → (i : ℕ) → i < length list → IsCommit view block (certificate m (getD list i 0))
-unfolding isCommitQuorum
+unfolding isQuorum
 commit-at m list view block e i h =
     let all = every-at _ (certificatesOf m list) (certificate m 0) (each _ e .0) i (simp length-map h) in
     let w = each _ (rw (List·getD-map (certificate m) list i 0) at all) in

@@ -4,14 +4,13 @@ ghost use mathlib.Core.Path.{_≡_};
 ghost use lib.Bits.{bitOr};
 ghost use lib.Dec.{ltb};
 ghost use lib.ListN.{length};
-ghost use Rattle.protocol.specs.Quorum.{every, isCommitQuorum, isNewViewQuorum, isReplyQuorum};
+ghost use Rattle.protocol.specs.Quorum.{every, isQuorum, isCommitQuorum, isNewViewQuorum, isReplyQuorum};
 ghost use Rattle.quorum.specs.inner.Lists.{
   certificateIn,
   certificatesIn,
   maxSigners,
   InLog,
   Listed,
-  isQuorum,
   wants,
   Greatest,
 };

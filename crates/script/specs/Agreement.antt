@@ -41,7 +41,7 @@ acceptedLine given a = getD (eventTable (replicaIn given) (numberIn given) a) (c
 unfoldable pub lineEvent : List ℕ → Answer → Event
 lineEvent line a = cond (eqb (a .number) 0) (acceptedLine (numbersIn line) a) other
 
--- The events of lines, the newest first, after those of earlier lines; "each call gets the three slices as the last left them".
+-- The events of lines, the newest first, after those of earlier lines; "Each call gets the three slices as the last left them".
 unfoldable pub lineHistory : List Event → Session → List (List ℕ) → List Event
 lineHistory past s [] = past
 lineHistory past s (line ∷ lines) =
@@ -80,7 +80,7 @@ ledgerOf s = lent (s .faultBound) (s .memory)
 
 -- Calls after the same opening, of this f and with this list beside it, that tell what the lines tell and leave what they leave. (The proof
 -- takes for each line its own call, or an opening of f = 0, which is refused, where the line makes none or is a refused opening.)
-pub record LifeOf (s : Session) (opening : List ℕ) (lines : List (List ℕ)) (f : ℕ) (list : List ℕ) : Type 0 where
+pub record ExecutionOf (s : Session) (opening : List ℕ) (lines : List (List ℕ)) (f : ℕ) (list : List ℕ) : Type 0 where
   pub calls : List Invocation
   pub execution : Execution (lent f (s .memory)) f list calls
   pub events : eventsOf (lent f (s .memory)) f list calls ≡ toldAfter s opening lines
@@ -89,4 +89,4 @@ pub record LifeOf (s : Session) (opening : List ℕ) (lines : List (List ℕ)) (
 unfoldable pub ScriptIsExecution : Type 0
 ScriptIsExecution =
     (s : Session) (opening : List ℕ) (lines : List (List ℕ)) → OpenedOnce s opening lines
-    → LifeOf s opening lines (replicaIn (numbersIn opening)) (listIn (numbersIn opening))
+    → ExecutionOf s opening lines (replicaIn (numbersIn opening)) (listIn (numbersIn opening))

@@ -12,13 +12,13 @@ use Rattle.script.specs.Session.{Session, codeIn, openCode, answerLine}
 use Rattle.script.specs.Agreement.{numbersIn, lineEvent, lineHistory, ScriptsAgree}
 use Rattle.script.proofs.Agreement.{scripts-agree}
 use Rattle.stream.specs.Output.{linesOf, maxLines, newSession, output}
-use Rattle.stream.specs.Agreement.{linesRead, answerShown, shownHistory, ProgramAgrees}
+use Rattle.stream.specs.Agreement.{linesRead, answerRead, toldHistory, ProgramAgrees}
 use Rattle.stream.proofs.Shown.{Shows, output-shows}
 
 -- What is shown is what was answered.
 shown-told : (n : ℕ) (past : List Event) (s : Session) (lines texts : List (List ℕ)) → Shows s lines texts
-    → shownHistory past (take n lines) (take n texts) ≡ lineHistory past s (take n lines)
-unfolding shownHistory lineHistory
+    → toldHistory past (take n lines) (take n texts) ≡ lineHistory past s (take n lines)
+unfolding toldHistory lineHistory
 shown-told zero past s lines texts h = refl
 shown-told (suc n) past s [] [] h = refl
 shown-told (suc n) past s [] (text ∷ texts) h = absurd h
@@ -27,9 +27,9 @@ shown-told (suc n) past s (line ∷ lines) (text ∷ texts) h =
     rw (h .0) (shown-told n (lineEvent line (answerLine s line .answer) ∷ past) (answerLine s line .session) lines texts (h .1))
 
 agrees : (i n : ℕ) (s : Session) (lines texts : List (List ℕ)) → Shows s lines texts
-    → codeIn (numbersIn (getD lines i [])) ≡ openCode → answerShown (getD texts i []) .number ≡ 0
-    → (List·Memᴰ reopened (shownHistory [] (take n (drop (suc i) lines)) (take n (drop (suc i) texts))) → ⊥)
-    → Agreed (shownHistory [] (take n (drop (suc i) lines)) (take n (drop (suc i) texts)))
+    → codeIn (numbersIn (getD lines i [])) ≡ openCode → answerRead (getD texts i []) .number ≡ 0
+    → (List·Memᴰ reopened (toldHistory [] (take n (drop (suc i) lines)) (take n (drop (suc i) texts))) → ⊥)
+    → Agreed (toldHistory [] (take n (drop (suc i) lines)) (take n (drop (suc i) texts)))
 unfolding ScriptsAgree readField
 agrees i n s [] [] h opens accepted once = absurd (omega arith)
 agrees i n s [] (text ∷ texts) h opens accepted once = absurd h

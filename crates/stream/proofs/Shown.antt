@@ -19,7 +19,7 @@ use Rattle.script.specs.Text.{lineFeed, answerText, Printable}
 use Rattle.script.specs.Theorems.{AnswersPrintable}
 use Rattle.script.proofs.Theorems.{answers-printable}
 use Rattle.stream.specs.Output.{linesFrom, linesOf, answersTo, maxLines}
-use Rattle.stream.specs.Agreement.{answerShown}
+use Rattle.stream.specs.Agreement.{answerRead}
 use Rattle.stream.proofs.Theorems.{lines-next}
 
 -- ---- no line feed in a field
@@ -78,7 +78,7 @@ module _ (n : ℕ) (small : n ≤ maxNumber) (rest : List ℕ) where
       let e : columns * suc i ≡ length (fieldOf n) + columns * i = omega (arith, w .0) in
       rw (e, drop-append-add)
 
-shows : (line : ℕ) (a : Answer) → line ≤ maxNumber → Printable a → answerShown (fields line a) ≡ a
+shows : (line : ℕ) (a : Answer) → line ≤ maxNumber → Printable a → answerRead (fields line a) ≡ a
 shows line a small p =
     let after-first = field-after (a .first) (p .first) _ 0 ∙ field-here (a .second) (p .second) [] in
     let after-number = field-after (a .number) (p .number) _ in
@@ -95,7 +95,7 @@ abbrev pub Shows : Session → List (List ℕ) → List (List ℕ) → Type 0
 Shows s [] [] = Unit {0}
 Shows s [] (text ∷ texts) = ⊥
 Shows s (line ∷ lines) [] = ⊥
-Shows s (line ∷ lines) (text ∷ texts) = (answerShown text ≡ answerLine s line .answer) × Shows (answerLine s line .session) lines texts
+Shows s (line ∷ lines) (text ∷ texts) = (answerRead text ≡ answerLine s line .answer) × Shows (answerLine s line .session) lines texts
 
 pub output-shows : (s : Session) (count : ℕ) (lines : List (List ℕ)) → count + length lines ≤ maxLines
     → Shows s lines (linesOf (answersTo s count lines))

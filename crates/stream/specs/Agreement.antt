@@ -16,24 +16,24 @@ abbrev pub linesRead : List ℕ → List (List ℕ)
 linesRead bytes = take maxLines (linesOf bytes)
 
 -- "Each line yields line number, answer and both values": the answer that a line of the output shows.
-abbrev pub answerShown : List ℕ → Answer
-answerShown text = record { number = numberAt text 1; first = numberAt text 2; second = numberAt text 3 }
+abbrev pub answerRead : List ℕ → Answer
+answerRead text = record { number = numberAt text 1; first = numberAt text 2; second = numberAt text 3 }
 
 -- What lines of the input tell with the lines of the output beside them, the newest first, after earlier events.
-unfoldable pub shownHistory : List Event → List (List ℕ) → List (List ℕ) → List Event
-shownHistory past [] texts = past
-shownHistory past (line ∷ lines) [] = past
-shownHistory past (line ∷ lines) (text ∷ texts) = shownHistory (lineEvent line (answerShown text) ∷ past) lines texts
+unfoldable pub toldHistory : List Event → List (List ℕ) → List (List ℕ) → List Event
+toldHistory past [] texts = past
+toldHistory past (line ∷ lines) [] = past
+toldHistory past (line ∷ lines) (text ∷ texts) = toldHistory (lineEvent line (answerRead text) ∷ past) lines texts
 
 -- What the n lines tell that come after the line at index i, counted from 0.
 abbrev pub toldWithin : List ℕ → ℕ → ℕ → List Event
-toldWithin bytes i n = shownHistory [] (take n (drop (suc i) (linesRead bytes))) (take n (drop (suc i) (linesOf (output bytes))))
+toldWithin bytes i n = toldHistory [] (take n (drop (suc i) (linesRead bytes))) (take n (drop (suc i) (linesOf (output bytes))))
 
 -- The line at index i is an opening, the output shows 0 for it, and shows 0 for no opening among the n lines after it. (A line without
 -- numbers has code 0 here too, but the output shows 10 for it; past the last line it shows nothing.)
 pub record OpenedAt (bytes : List ℕ) (i n : ℕ) : Type 0 where
   pub opens : codeIn (numbersIn (getD (linesRead bytes) i [])) ≡ openCode
-  pub accepted : answerShown (getD (linesOf (output bytes)) i []) .number ≡ 0
+  pub accepted : answerRead (getD (linesOf (output bytes)) i []) .number ≡ 0
   pub once : List·Memᴰ reopened (toldWithin bytes i n) → ⊥
 
 -- For every input: of the blocks that any two Decides among these lines named for which the output shows 0, one is in the other's line,

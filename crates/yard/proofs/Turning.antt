@@ -8,7 +8,7 @@ use Rattle.stream.specs.inner.Progress.{streamOf}
 use Rattle.stream.specs.Turns.{taken, after, Ran}
 use Rattle.yard.specs.declared.Written.{Written}
 use Rattle.yard.specs.declared.Written.the-variants.{All}
-use Rattle.yard.specs.inner.Turns.{InPlace, Flushed, Writes}
+use Rattle.yard.specs.inner.Writing.{InPlace, Flushed, Writes}
 
 pub begins : (s : Stream) → Ran s s
 unfolding after

@@ -1,2 +1,2 @@
 -- What the contracts of inner functions cite: nothing to believe.
-pub mod Turns
+pub mod Writing

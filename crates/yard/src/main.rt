@@ -6,7 +6,7 @@ ghost use Rattle.io.specs.Counts.{clamped};
 ghost use Rattle.stream.specs.Stream.{newStream};
 ghost use Rattle.stream.specs.inner.Progress.{streamOf};
 ghost use Rattle.stream.specs.Turns.{taken, Ran};
-ghost use Rattle.yard.specs.inner.Turns.{chunkBytes, InPlace, Flushed, Writes};
+ghost use Rattle.yard.specs.inner.Writing.{chunkBytes, InPlace, Flushed, Writes};
 use libc::STDIN_FILENO;
 use libc::STDOUT_FILENO;
 use stream::MAX_LINES;

@@ -4,13 +4,13 @@ use mathlib.Core.Path.{_≡_, sym, _∙_}
 use native.Mathlib.Omega.{arith}
 use borrow.Author.Needs.{needs}
 use lib.ListN.{length, drop}
-use Rattle.field.specs.Field.{columns, justified, readField}
+use Rattle.field.specs.Field.{columns, aligned, readField}
 use Rattle.field.proofs.Reading.{not-eight, eight-columns, skips-blank, after-last-blank, only-blanks}
 use Rattle.field.proofs.read_number.Statement.{statement}
 use Rattle.field.proofs.read_number.Tie as tie
 
 abbrev Inv-loop : tie.InvT-loop
-Inv-loop bytes i₀ i = (i ≤ columns) × (length bytes ≡ columns) × (justified (drop i bytes) ≡ readField bytes)
+Inv-loop bytes i₀ i = (i ≤ columns) × (length bytes ≡ columns) × (aligned (drop i bytes) ≡ readField bytes)
 
 abbrev μ-loop : tie.MeasureT-loop
 μ-loop bytes i₀ i = columns - i

@@ -5,7 +5,8 @@ use mathlib.Core.Bool.{_&&_}
 use native.Mathlib.Omega.{arith}
 use lib.ListN.{length, drop}
 use borrow.Author.Needs.{needs}
-use Rattle.quorum.specs.inner.Lists.{certificatesIn, wants, isQuorum}
+use Rattle.protocol.specs.Quorum.{isQuorum}
+use Rattle.quorum.specs.inner.Lists.{certificatesIn, wants}
 use Rattle.quorum.proofs.Passes.{passes, passes-quorum, passes-step, passes-end}
 use Rattle.quorum.proofs.is_quorum.Statement.{statement}
 use Rattle.quorum.proofs.is_quorum.Tie as tie

@@ -1,15 +1,12 @@
 -- What the contracts say of a list of certificate numbers, beside the definitions of protocol's Quorum.
 use Prim.Native.Nat.{ℕ, _+_, _≤_, _<_}
 use mathlib.Core.Path.{_≡_}
-use mathlib.Core.Bool.{Bool, true, not}
+use mathlib.Core.Bool.{Bool}
 use mathlib.Core.List.{List, [], _∷_}
 use lib.ListN.{length, getD}
-use lib.Dec.{eqb}
 use Rattle.protocol.specs.Memory.{Certificate, memory, certificateWords, certificateAt, certificate}
 use Rattle.protocol.specs.Memory.{maxCertificates}
-use Rattle.protocol.specs.Form.{allHold}
-use Rattle.protocol.specs.Certificates.{isKind, COMMIT, NEWVIEW, REPLY}
-use Rattle.protocol.specs.Quorum.{every, certificatesOf, distinct, signers, greatest}
+use Rattle.protocol.specs.Quorum.{certificatesOf, isCommitOf, isNewViewOf, isReplyTo, greatest}
 use Rattle.quorum.specs.declared.Wanted.{Wanted}
 use Rattle.quorum.specs.declared.Wanted.the-variants.{Commit, NewView, Reply}
 
@@ -34,21 +31,11 @@ pub record Listed (log list : List ℕ) : Type 0 where
   pub inLog : (i : ℕ) → i < length list → InLog log (getD list i 0)
   pub signed : (i : ℕ) → i < length list → certificateIn log (getD list i 0) .signer < maxSigners
 
--- A test of one certificate, for each of the three quorums; then what all three ask.
+-- What each certificate of a quorum has to be, for each of the three.
 abbrev pub wants : Wanted → Certificate → Bool
-wants (Commit view block) c = allHold (isKind COMMIT c ∷ eqb (c .view) view ∷ eqb (c .block) block ∷ [])
-wants (NewView view) c = allHold (isKind NEWVIEW c ∷ eqb (c .view) view ∷ [])
-wants (Reply subject boot view) c =
-    allHold
-    (isKind REPLY c
-    ∷ eqb (c .subject) subject
-    ∷ eqb (c .boot) boot
-    ∷ eqb (c .view) view
-    ∷ not (eqb (c .signer) subject)
-    ∷ [])
-
-unfoldable pub isQuorum : (Certificate → Bool) → List Certificate → Bool
-isQuorum test cs = allHold (every test cs ∷ distinct (signers cs) ∷ [])
+wants (Commit view block) = isCommitOf view block
+wants (NewView view) = isNewViewOf view
+wants (Reply subject boot view) = isReplyTo subject boot view
 
 -- An index of the list, where its greatest certificate stands.
 pub record Greatest (log list : List ℕ) (r : ℕ) : Type 0 where

@@ -1,4 +1,4 @@
--- Replicas and certificates of the code, as the rules have them, and back; and the words of a replica that are set together.
+-- A replica of the code as the rules have it, replicas and certificates of the rules as the code has them, and words set together.
 use Prim.Native.Nat.{ℕ, _<_}
 use mathlib.Core.Path.{_≡_}
 use mathlib.Core.Bool.{true}

@@ -3,7 +3,7 @@ use native.Mathlib.Omega.{arith}
 use borrow.Author.Needs.{needs}
 use Rattle.stream.specs.inner.Progress.{streamOf}
 use Rattle.stream.specs.Turns.{Ran}
-use Rattle.yard.specs.inner.Turns.{Flushed}
+use Rattle.yard.specs.inner.Writing.{Flushed}
 use Rattle.yard.proofs.Turning.{begins, turned, goes-on}
 use Rattle.yard.proofs.run.Statement.{statement}
 use Rattle.yard.proofs.run.Tie as tie

@@ -1,15 +1,18 @@
 -- How a call goes from one need to the next, from what the code's tests answer: refused, with the number handed up, or on to the rest.
-use Prim.Native.Nat.{ℕ}
+use Prim.Native.Nat.{ℕ, _+_, _≤_, _<_}
 use mathlib.Core.Path.{_≡_, refl, sym, _∙_}
 use mathlib.Core.Bool.{Bool, true, false}
 use mathlib.Core.List.{List, [], _∷_, _++_}
 use Rattle.protocol.specs.declared.Answer.{Answer}
-use Rattle.protocol.specs.Memory.{Memory, replica, certificate}
-use Rattle.protocol.specs.Quorum.{isIssued}
+use lib.ListN.{length, getD}
+use Rattle.protocol.specs.Memory.{Memory, replica, certificate, certificateAt, certificateWords}
+use Rattle.protocol.specs.Quorum.{isIssued, certificatesOf, firstOf}
 use Rattle.protocol.specs.Outcome.{Need, _else_, Rule, firstRefusal, follow}
 use Rattle.protocol.specs.FirstNeeds.{replicaNeeds, numberNeeds, listNeeds}
 use Rattle.protocol.proofs.Needs as Needs
 use Rattle.protocol.proofs.Needs.{Holds, positive, all-needs, refused-first, all-pass}
+use Rattle.quorum.specs.inner.Lists.{Listed}
+use Rattle.quorum.proofs.Accepted.{first-of}
 use Rattle.certificates.specs.declared.Certificate.{Certificate}
 use Rattle.records.specs.declared.Replica.{Replica}
 use Rattle.records.specs.inner.Replicas.{replicaFrom, certificateFrom}
@@ -20,7 +23,7 @@ use Rattle.checks.specs.declared.FoundReplica.the-variants as OfReplica
 use Rattle.checks.specs.declared.FoundCertificate.{FoundCertificate}
 use Rattle.checks.specs.declared.FoundCertificate.the-variants as OfCertificate
 use Rattle.checks.specs.inner.Verdicts.{tested, replicaFound, certificateFound, testRefusal, replicaRefusal, certificateRefusal}
-use Rattle.checks.proofs.Ready.{Ready, ready, ReadyList}
+use Rattle.checks.proofs.Ready.{Ready, ready, ReadyList, all-listed, some-there, listed-there}
 use Rattle.checks.proofs.Verdicts.{was-refused, was-found, tested-is}
 
 -- The needs of a rule up to these hold: what the rest refuses, the rule refuses.
@@ -127,3 +130,33 @@ module _ (ns : List Need) (numbered : positive ns ≡ true) {t : Tested} (is : t
 
 pub list-known : (m : Memory) (list : List ℕ) {t : Tested} → t ≡ tested (listNeeds m list) → t ≡ Test.Passed → ReadyList m list
 list-known m list is told = let h = held (listNeeds m list) refl is told in record { size = h .0; issued = h .1 .0 }
+
+-- ---- a replica and a list
+
+-- What is known once both are found; the first of the list is the one that is read there.
+pub record ListFound (m : Memory) (i : ℕ) (list : List ℕ) (rule : Rule) (rest : List Need) (r : Replica) : Type 0 where
+  pub ready : Ready m i
+  pub read : r ≡ replicaFrom (replica m i)
+  pub quorum : ReadyList m list
+  pub all : Listed (m .log) list
+  pub some : 0 < length list
+  pub there : (k : ℕ) → certificateAt (getD list k 0) + certificateWords ≤ length (m .log)
+  pub first : certificate m (getD list 0 0) ≡ firstOf (certificatesOf m list)
+  pub at : At rule rest
+
+pub found-list : {m : Memory} {i : ℕ} {list : List ℕ} {rule : Rule} {rest : List Need} {r : Replica}
+    → ReplicaFound m i rule (listNeeds m list ++ rest) r → {t : Tested} → t ≡ tested (listNeeds m list) → t ≡ Test.Passed
+    → ListFound m i list rule rest r
+found-list {m} {i} {list} {rest = rest} f is told =
+    let l = list-known m list is told in
+    let some = some-there m i list (f .ready) l in
+    record {
+      ready = f .ready;
+      read = f .read;
+      quorum = l;
+      all = all-listed m i list (f .ready) l;
+      some = some;
+      there = listed-there m i list (f .ready) l;
+      first = sym (first-of m list some);
+      at = passed (listNeeds m list) refl is rest (f .at) told;
+    }

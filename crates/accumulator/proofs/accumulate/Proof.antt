@@ -1,205 +1,113 @@
 -- Refused by the form, the replica, the list or a need of its own; else an ACC is issued, of the greatest of-view.
-use mathlib.Core.Path.{refl, sym, ap, _∙_}
+use Prim.Native.Nat.{ℕ}
+use mathlib.Core.Path.{_≡_, refl, ap, _∙_}
+use mathlib.Core.List.{List, _++_}
 use native.Mathlib.Omega.{arith}
 use borrow.Author.Needs.{needs}
-use Rattle.protocol.specs.Memory.{Certificate, memory}
-use Rattle.protocol.specs.Quorum.{every}
-use Rattle.protocol.specs.Calls.{accumulate as accumulateRule}
+use Rattle.protocol.specs.Memory.{Memory, Certificate, memory, replica}
+use Rattle.protocol.specs.Certificates.{accOf}
+use Rattle.protocol.specs.Quorum.{every, certificatesOf, firstOf, greatest}
+use Rattle.protocol.specs.Outcome.{Need}
+use Rattle.protocol.specs.FirstNeeds.{listNeeds}
+use Rattle.protocol.specs.Calls.{accumulateNeeds, accumulate as accumulateRule}
 use Rattle.protocol.proofs.Booleans.{tests}
 use Rattle.records.specs.inner.Replicas.{certificateFrom}
-use Rattle.quorum.proofs.Accepted.{first-of}
-use Rattle.checks.proofs.Ready.{all-listed, some-there, listed-there}
+use Rattle.checks.specs.inner.Verdicts.{tested}
 use Rattle.checks.proofs.Verdicts.{first-need, then-need}
-use Rattle.checks.proofs.Passing.{no-replica, replica-known, found-replica, failed, passed, list-known}
-use Rattle.issuing.proofs.Issues.{issuable, start, issues}
+use Rattle.checks.proofs.Passing.{ReplicaFound, no-replica, found-replica, ListFound, found-list, failed, passed}
+use Rattle.issuing.proofs.Issues.{issuable, slot, start, issues}
 use Rattle.accumulator.proofs.accumulate.Statement.{statement}
 use Rattle.accumulator.proofs.accumulate.Tie as tie
+
+abbrev of {ℓ} : {P : Type ℓ} → (Memory → ℕ → List ℕ → P) → tie.After-found → P
+of f c =
+    let a = c .before .before .before .before .before .before .before .before .before .before .args in
+    f (memory (a .table .now) (a .log .now) (a .blocks .now)) (a .replica) (a .list .now)
+
+abbrev rest : Memory → ℕ → List ℕ → List Need
+rest m i list =
+    let cs = certificatesOf m list in
+    accumulateNeeds (replica m i) cs ++ slot m (accOf i (firstOf cs .view) (greatest cs .block) (greatest cs .ofView))
+
+found : (c : tie.After-found) →
+    of (λ m i list. ReplicaFound m i (accumulateRule m i list) (listNeeds m list ++ rest m i list) (c .found .given .0 .0)) c
+unfolding accumulateRule
+found c = found-replica _ _ _ (start _ _ _ _ _ _ refl) (c .before .before .find-replica .ensures) (c .found .given .1)
+
+abbrev Known : tie.After-enum-told2 → Type 0
+Known c =
+    let f = c .before .before .before .before .before in
+    of (λ m i list. ListFound m i list (accumulateRule m i list) (rest m i list) (f .found .given .0 .0)) f
+
+listed : (c : tie.After-enum-told2) → Known c
+listed c = found-list (found (c .before .before .before .before .before)) (c .before .before .test-list .ensures) (c .enum-told2 .given .1)
+
+view : (c : tie.After-certificate-word) → let f = c .before .before .before .before .before .before .before .before in
+    of (λ m i list. c .certificate-word .result ≡ firstOf (certificatesOf m list) .view) f
+view c = c .certificate-word .ensures ∙ ap (λ (x : Certificate). x .view) (listed (c .before .before .before) .first)
+
+own-tested : (c : tie.After-need2) → let l = c .before .before .before .before .before .before .before .before .before .before in
+    c .need2 .result ≡ tested (of (λ m i list. accumulateNeeds (replica m i) (certificatesOf m list)) (l .before .before .before))
+own-tested c =
+    let l = listed (c .before .before .before .before .before .before .before .before) in
+    then-need _ _ _ (first-need _ _ (rw (l .read) at (c .before .need .ensures)))
+    (rw (c .before .before .before .is-new-view-quorum .ensures, view (c .before .before .before .before .before)) at (c .need2 .ensures))
+
+known : (c : tie.After-greatest) → Known (c .before .before .before .before .before .before .before .before .before .before .before .before)
+known c = listed (c .before .before .before .before .before .before .before .before .before .before .before .before)
 
 returns : tie.Need-returns
 unfolding accumulateRule
 returns c =
-    let at-refusal = c .before in
-    let at-enum-told = at-refusal .before in
-    let at-find-replica = at-enum-told .before .before in
-    let entry = at-find-replica .before .before .before .before .before .before .before .before in
-    no-replica _ _ _ (start _ _ _ _ _ (accumulateRule _ _ (entry .args .list .now)) refl) (at-find-replica .find-replica .ensures)
-    (at-enum-told .enum-told .given .1)
-    (at-refusal .refusal .ensures) (c .refused .ensures)
-
-test-list-requires : tie.Need-test-list-requires
-test-list-requires c κs =
-    let at-found = c .before .before in
-    let at-find-replica = at-found .before .before in
-    omega (arith, replica-known _ _ (at-find-replica .find-replica .ensures) (at-found .found .given .1) .ready .sizes)
+    no-replica _ _ _ (start _ _ _ _ _ _ refl) (c .before .before .before .before .find-replica .ensures)
+    (c .before .before .enum-told .given .1) (c .before .refusal .ensures) (c .refused .ensures)
 
 returns-2 : tie.Need-returns-2
-unfolding accumulateRule
 returns-2 c =
-    let at-refusal2 = c .before in
-    let at-enum-told3 = at-refusal2 .before in
-    let at-test-list = at-enum-told3 .before .before in
-    let at-found = at-test-list .before .before .before in
-    let at-find-replica = at-found .before .before in
-    let entry = at-find-replica .before .before .before .before .before .before .before .before in
-    let found = found-replica _ _ _ (start _ _ _ _ _ (accumulateRule _ _ (entry .args .list .now)) refl)
-    (at-find-replica .find-replica .ensures)
-    (at-found .found .given .1) in
-    failed _ refl (at-test-list .test-list .ensures) _ _ (found .at) (at-enum-told3 .enum-told3 .given .1)
-    (at-refusal2 .refusal2 .ensures) (c .refused2 .ensures)
-
-shared-slice-read-certificate-word : tie.Need-shared-slice-read-certificate-word
-shared-slice-read-certificate-word c =
-    let at-enum-told2 = c .before .before in
-    let at-test-list = at-enum-told2 .before .before in
-    let at-found = at-test-list .before .before .before in
-    let at-find-replica = at-found .before .before in
-    let entry = at-find-replica .before .before .before .before .before .before .before .before in
-    let list = entry .args .list .now in
-    let known = replica-known _ _ (at-find-replica .find-replica .ensures) (at-found .found .given .1) in
-    some-there _ _ list (known .ready) (list-known _ list (at-test-list .test-list .ensures) (at-enum-told2 .enum-told2 .given .1))
-
-certificate-word-requires : tie.Need-certificate-word-requires
-certificate-word-requires c κs =
-    let at-enum-told2 = c .before .before in
-    let at-test-list = at-enum-told2 .before .before in
-    let at-found = at-test-list .before .before .before in
-    let at-find-replica = at-found .before .before in
-    let entry = at-find-replica .before .before .before .before .before .before .before .before in
-    let list = entry .args .list .now in
-    let known = replica-known _ _ (at-find-replica .find-replica .ensures) (at-found .found .given .1) in
-    omega (
-      arith,
-      listed-there _ _ list (known .ready) (list-known _ list (at-test-list .test-list .ensures)
-          (at-enum-told2 .enum-told2 .given .1)) 0,
-    )
-
-is-new-view-quorum-requires : tie.Need-is-new-view-quorum-requires
-is-new-view-quorum-requires c κs =
-    let at-enum-told2 = c .before .before .before .before in
-    let at-test-list = at-enum-told2 .before .before in
-    let at-found = at-test-list .before .before .before in
-    let at-find-replica = at-found .before .before in
-    let entry = at-find-replica .before .before .before .before .before .before .before .before in
-    let list = entry .args .list .now in
-    let known = replica-known _ _ (at-find-replica .find-replica .ensures) (at-found .found .given .1) in
-    all-listed _ _ list (known .ready) (list-known _ list (at-test-list .test-list .ensures) (at-enum-told2 .enum-told2 .given .1))
+    let t = c .before .before .before .before in
+    failed _ refl (t .test-list .ensures) _ _ (found (t .before .before .before) .at)
+    (c .before .before .enum-told3 .given .1) (c .before .refusal2 .ensures) (c .refused2 .ensures)
 
 returns-3 : tie.Need-returns-3
-unfolding accumulateRule
 returns-3 c =
-    let at-refusal3 = c .before in
-    let at-enum-told5 = at-refusal3 .before in
-    let at-need2 = at-enum-told5 .before .before in
-    let at-need = at-need2 .before in
-    let at-is-new-view-quorum = at-need .before .before in
-    let at-certificate-word = at-is-new-view-quorum .before .before in
-    let at-enum-told2 = at-certificate-word .before .before .before in
-    let at-test-list = at-enum-told2 .before .before in
-    let at-found = at-test-list .before .before .before in
-    let at-find-replica = at-found .before .before in
-    let entry = at-find-replica .before .before .before .before .before .before .before .before in
-    let a = entry .args in
-    let m = memory (a .table .now) (a .log .now) (a .blocks .now) in
-    let list = a .list .now in
-    let found = found-replica m _ _ (start _ _ _ _ _ (accumulateRule m _ list) refl) (at-find-replica .find-replica .ensures)
-    (at-found .found .given .1) in
-    let past-list = passed _ refl (at-test-list .test-list .ensures) _ (found .at) (at-enum-told2 .enum-told2 .given .1) in
-    let some = some-there m _ list (found .ready) (list-known m list (at-test-list .test-list .ensures)
-    (at-enum-told2 .enum-told2 .given .1)) in
-    let view = at-certificate-word .certificate-word .ensures ∙ ap (λ (x : Certificate). x .view) (sym (first-of m list some)) in
-    failed _ refl
-    (then-need _ _ _ (first-need _ _ (rw (found .read) at (at-need .need .ensures)))
-    (rw (at-is-new-view-quorum .is-new-view-quorum .ensures, view) at (at-need2 .need2 .ensures)))
-    _ _ past-list (at-enum-told5 .enum-told5 .given .1) (at-refusal3 .refusal3 .ensures) (c .refused3 .ensures)
+    let t = c .before .before .before .before in
+    failed _ refl (own-tested t) _ _ (listed (t .before .before .before .before .before .before .before .before) .at)
+    (c .before .before .enum-told5 .given .1) (c .before .refusal3 .ensures) (c .refused3 .ensures)
 
 greatest-requires : tie.Need-greatest-requires
 greatest-requires c κs =
-    let at-enum-told2 = c .before .before .before .before .before .before .before .before .before .before .before in
-    let at-test-list = at-enum-told2 .before .before in
-    let at-found = at-test-list .before .before .before in
-    let at-find-replica = at-found .before .before in
-    let entry = at-find-replica .before .before .before .before .before .before .before .before in
-    let list = entry .args .list .now in
-    let known = replica-known _ _ (at-find-replica .find-replica .ensures) (at-found .found .given .1) in
-    let listed = list-known _ list (at-test-list .test-list .ensures) (at-enum-told2 .enum-told2 .given .1) in
-    (all-listed _ _ list (known .ready) listed, some-there _ _ list (known .ready) listed)
+    let l = listed (c .before .before .before .before .before .before .before .before .before .before .before) in
+    (l .all, l .some)
 
 mul-certificate-in : tie.Need-mul-certificate-in
 mul-certificate-in c =
-    let at-greatest = c .before in
-    let at-enum-told2 = at-greatest .before .before .before .before .before .before .before .before .before .before .before .before in
-    let at-test-list = at-enum-told2 .before .before in
-    let at-found = at-test-list .before .before .before in
-    let at-find-replica = at-found .before .before in
-    let entry = at-find-replica .before .before .before .before .before .before .before .before in
-    let a = entry .args in
-    let m = memory (a .table .now) (a .log .now) (a .blocks .now) in
-    let known = replica-known m _ (at-find-replica .find-replica .ensures) (at-found .found .given .1) in
-    let listed = list-known m (a .list .now) (at-test-list .test-list .ensures) (at-enum-told2 .enum-told2 .given .1) in
-    omega (tests, at-greatest .greatest .ensures .within, listed .size, known .ready .sizes .faultsHigh)
-
-certificate-in-requires : tie.Need-certificate-in-requires
-certificate-in-requires c κs =
-    let at-greatest = c .before .before in
-    let at-enum-told2 = at-greatest .before .before .before .before .before .before .before .before .before .before .before .before in
-    let at-test-list = at-enum-told2 .before .before in
-    let at-found = at-test-list .before .before .before in
-    let at-find-replica = at-found .before .before in
-    let entry = at-find-replica .before .before .before .before .before .before .before .before in
-    let list = entry .args .list .now in
-    let known = replica-known _ _ (at-find-replica .find-replica .ensures) (at-found .found .given .1) in
-    listed-there _ _ list (known .ready) (list-known _ list (at-test-list .test-list .ensures) (at-enum-told2 .enum-told2 .given .1))
-    (at-greatest .greatest .result)
+    let l = known (c .before) in
+    omega (tests, c .before .greatest .ensures .within, l .quorum .size, l .ready .sizes .faultsHigh)
 
 issue-requires : tie.Need-issue-requires
 unfolding every
 issue-requires c κs =
-    let at-found = c .before .before .before .before .before .before .before .before .before .before .before .before .before .before .before .before .before .before .before .before .before .before .before .before in
-    let at-find-replica = at-found .before .before in
-    let known = replica-known _ _ (at-find-replica .find-replica .ensures) (at-found .found .given .1) in
-    (issuable _ _ (known .ready), record { paired = refl; within = refl })
+    (issuable _ _ (known (c .before .before .before .before .before .before .before) .ready), record { paired = refl; within = refl })
 
 returns-4 : tie.Need-returns-4
 unfolding accumulateRule
 returns-4 c =
-    let at-issue = c .before .before .before .before in
-    let at-certificate-in = at-issue .before .before .before .before .before in
-    let at-greatest = at-certificate-in .before .before .before in
-    let at-enum-told4 = at-greatest .before .before in
-    let at-need2 = at-enum-told4 .before .before in
-    let at-need = at-need2 .before in
-    let at-is-new-view-quorum = at-need .before .before in
-    let at-certificate-word = at-is-new-view-quorum .before .before in
-    let at-enum-told2 = at-certificate-word .before .before .before in
-    let at-test-list = at-enum-told2 .before .before in
-    let at-found = at-test-list .before .before .before in
-    let at-find-replica = at-found .before .before in
-    let entry = at-find-replica .before .before .before .before .before .before .before .before in
-    let a = entry .args in
-    let m = memory (a .table .now) (a .log .now) (a .blocks .now) in
-    let list = a .list .now in
-    let found = found-replica m _ _ (start _ _ _ _ _ (accumulateRule m _ list) refl) (at-find-replica .find-replica .ensures)
-    (at-found .found .given .1) in
-    let past-list = passed _ refl (at-test-list .test-list .ensures) _ (found .at) (at-enum-told2 .enum-told2 .given .1) in
-    let some = some-there m _ list (found .ready) (list-known m list (at-test-list .test-list .ensures)
-    (at-enum-told2 .enum-told2 .given .1)) in
-    let view = at-certificate-word .certificate-word .ensures ∙ ap (λ (x : Certificate). x .view) (sym (first-of m list some)) in
-    let greatest = at-certificate-in .certificate-in .ensures ∙ ap certificateFrom (at-greatest .greatest .ensures .is) in
-    issues _ _ _ _ _
-    (passed _ refl
-    (then-need _ _ _ (first-need _ _ (rw (found .read) at (at-need .need .ensures)))
-    (rw (at-is-new-view-quorum .is-new-view-quorum .ensures, view) at (at-need2 .need2 .ensures)))
-    _ past-list (at-enum-told4 .enum-told4 .given .1))
-    refl (rw (view, greatest)) (at-issue .issue .ensures (a .blocks .now))
+    let e = c .before .before .before .before .before .before .before .before .before in
+    let g = e .before .before .before in
+    let t = g .before .before .before .before in
+    let at-slot = passed _ refl (own-tested t) _ (known g .at) (g .before .before .enum-told4 .given .1) in
+    let best = e .certificate-in .ensures ∙ ap certificateFrom (g .greatest .ensures .is) in
+    issues _ _ _ _ _ at-slot refl (rw (view (t .before .before .before .before .before), best))
+    (c .before .before .before .before .issue .ensures _)
 
 pub accumulate-spec : {M : Type 1} → statement M
-accumulate-spec =
-    tie.close
-    (tie.spec (λ c κs. search needs) (λ c. search needs) (λ c. search needs) (λ c κs. search needs)
-    (λ c κs. search needs) (λ c. search needs) (λ c. search needs) (λ c. search needs) returns test-list-requires
-    (λ c. search needs) (λ c. search needs) (λ c κs. search needs) (λ c κs. search needs) (λ c. search needs)
-    (λ c. search needs) (λ c. search needs) returns-2 shared-slice-read-certificate-word certificate-word-requires
-    is-new-view-quorum-requires (λ c κs. search needs) (λ c κs. search needs) (λ c. search needs) (λ c. search needs)
-    (λ c κs. search needs) (λ c κs. search needs) (λ c. search needs) (λ c. search needs) (λ c. search needs)
-    returns-3 greatest-requires mul-certificate-in (λ c. search needs) certificate-in-requires (λ c. search needs)
-    (λ c. search needs) issue-requires (λ c. search needs) (λ c. search needs) (λ c. search needs) returns-4)
+accumulate-spec = tie.close
+    (tie.spec (λ c κs. search needs) (λ c. search needs) (λ c. search needs) (λ c κs. search needs) (λ c κs. search needs)
+    (λ c. search needs) (λ c. search needs) (λ c. search needs) returns (λ c κs. omega (arith, found (c .before .before) .ready .sizes))
+    (λ c. search needs) (λ c. search needs) (λ c κs. search needs) (λ c κs. search needs) (λ c. search needs) (λ c. search needs)
+    (λ c. search needs) returns-2 (λ c. listed (c .before .before) .some) (λ c κs. omega (arith, listed (c .before .before) .there 0))
+    (λ c κs. listed (c .before .before .before .before) .all) (λ c κs. search needs) (λ c κs. search needs) (λ c. search needs)
+    (λ c. search needs) (λ c κs. search needs) (λ c κs. search needs) (λ c. search needs) (λ c. search needs) (λ c. search needs) returns-3
+    greatest-requires mul-certificate-in (λ c. search needs)
+    (λ c κs. known (c .before .before) .there (c .before .before .greatest .result)) (λ c. search needs) (λ c. search needs) issue-requires
+    (λ c. search needs) (λ c. search needs) (λ c. search needs) returns-4)

@@ -1,88 +1,74 @@
 -- Refused, retired, or started again; what was found of the replica is what the rule speaks of.
-use mathlib.Core.Path.{refl, sym, _∙_}
+use Prim.Native.Nat.{ℕ, _+_}
+use mathlib.Core.Path.{_≡_, refl, sym, _∙_}
+use mathlib.Core.List.{[]}
 use native.Mathlib.Omega.{arith}
 use borrow.Author.Needs.{needs}
-use Rattle.protocol.specs.Memory.{memory, update}
+use Rattle.protocol.specs.Memory.{Memory, memory, replica, update}
 use Rattle.protocol.specs.Quorum.{every}
-use Rattle.protocol.specs.Calls.{reboot as rebootRule}
+use Rattle.protocol.specs.Counter.{counterStep}
+use Rattle.protocol.specs.Calls.{limitAfter, retires as retiresRule, reboot as rebootRule}
 use Rattle.checks.proofs.Ready.{row-within}
-use Rattle.checks.proofs.Passing.{start, accepts, no-replica, replica-known, found-replica}
+use Rattle.checks.proofs.Passing.{start, accepts, ReplicaFound, no-replica, found-replica}
 use Rattle.restart.proofs.Limits.{boot-fits, limit-fits}
 use Rattle.restart.proofs.reboot.Statement.{statement}
 use Rattle.restart.proofs.reboot.Tie as tie
 
+abbrev of {ℓ} : {P : Type ℓ} → (Memory → ℕ → P) → tie.After-found → P
+of f c =
+    let a = c .before .before .before .before .before .before .before .before .before .args in
+    f (memory (a .table .now) (a .log .now) (a .blocks .now)) (a .replica)
+
+found : (c : tie.After-found) → of (λ m i. ReplicaFound m i (rebootRule m i) [] (c .found .given .0 .0)) c
+unfolding rebootRule
+found c = found-replica _ _ [] (start _) (c .before .before .find-replica .ensures) (c .found .given .1)
+
+step : (c : tie.After-counter-step) →
+    of (λ m i. c .counter-step .result ≡ counterStep m (replica m i .boot + 1)) (c .before .before .before)
+step c = rw (found (c .before .before .before) .read) at (c .counter-step .ensures (of (λ m i. m) (c .before .before .before)))
+
 returns : tie.Need-returns
 unfolding rebootRule
 returns c =
-    let at-refusal = c .before in
-    let at-enum-told = at-refusal .before in
-    let at-find-replica = at-enum-told .before .before in
-    no-replica _ _ _ (start _) (at-find-replica .find-replica .ensures) (at-enum-told .enum-told .given .1) (at-refusal .refusal .ensures)
-    (c .refused .ensures)
-
-add-boot : tie.Need-add-boot
-add-boot c =
-    let at-found = c .before .before in
-    let found = replica-known _ _ (at-found .before .before .find-replica .ensures) (at-found .found .given .1) in
-    rw (found .read) (record { fits = boot-fits _ _ (found .ready) })
+    no-replica _ _ [] (start _) (c .before .before .before .before .find-replica .ensures)
+    (c .before .before .enum-told .given .1) (c .before .refusal .ensures) (c .refused .ensures)
 
 add-limit : tie.Need-add-limit
 add-limit c =
-    let at-counter-step = c .before in
-    let at-found = at-counter-step .before .before .before in
-    let found = replica-known _ _ (at-found .before .before .find-replica .ensures) (at-found .found .given .1) in
-    rw (found .read) (record { fits = limit-fits _ _ _ (found .ready) (at-counter-step .counter-step .ensures _) })
-
-set-replica-word-requires : tie.Need-set-replica-word-requires
-set-replica-word-requires c κs =
-    let at-found = c .before .before .before .before .before .before .before in
-    let found = replica-known _ _ (at-found .before .before .find-replica .ensures) (at-found .found .given .1) in
-    omega (arith, row-within _ _ (found .ready))
+    let r = found (c .before .before .before .before) in
+    rw (r .read) (record { fits = limit-fits _ _ _ (r .ready) (step (c .before)) })
 
 returns-2 : tie.Need-returns-2
 unfolding rebootRule update
 returns-2 c =
-    let written = c .before .before .before in
-    let entry = written .before .before .before .before .before .before .before .before .before .before .before .before .before .before .before .before .before in
-    let tested = written .before .before .before in
-    let step = tested .before .before in
-    let at-found = step .before .before .before in
-    let found = found-replica _ _ _ (start (rebootRule _ _)) (at-found .before .before .find-replica .ensures)
-    (at-found .found .given .1) in
-    let a = entry .args in
-    let stepped = rw (found .read) at (step .counter-step .ensures (memory (a .table .now) (a .log .now) (a .blocks .now))) in
-    let retires = sym (rw (found .read, stepped) at (tested .retires .ensures)) ∙ written .before .before .if1 .taken in
-    accepts _ (found .at) (rw retires (rw (found .read) at (c .accepted .ensures))) (rw (retires, written .set-replica-word .ensures))
+    let w = c .before .before .before in
+    let t = w .before .before .before in
+    let r = found (t .before .before .before .before .before) in
+    let retires = sym (rw (r .read, step (t .before .before)) at (t .retires .ensures)) ∙ w .before .before .if1 .taken in
+    accepts _ (r .at) (rw retires (rw (r .read) at (c .accepted .ensures))) (rw (retires, w .set-replica-word .ensures))
 
 set-words-requires : tie.Need-set-words-requires
 unfolding every
 set-words-requires c κs =
-    let at-found = c .before .before .before .before .before .before .before .before .before in
-    let found = replica-known _ _ (at-found .before .before .find-replica .ensures) (at-found .found .given .1) in
-    (row-within _ _ (found .ready), record { paired = refl; within = refl })
+    let r = found (c .before .before .before .before .before .before .before .before .before) in
+    (row-within _ _ (r .ready), record { paired = refl; within = refl })
 
 returns-3 : tie.Need-returns-3
 unfolding rebootRule update
 returns-3 c =
-    let written = c .before .before .before in
-    let entry = written .before .before .before .before .before .before .before .before .before .before .before .before .before .before .before .before .before .before .before in
-    let restarts = written .before .before .before .before in
-    let tested = restarts .before in
-    let step = tested .before .before in
-    let at-found = step .before .before .before in
-    let found = found-replica _ _ _ (start (rebootRule _ _)) (at-found .before .before .find-replica .ensures)
-    (at-found .found .given .1) in
-    let a = entry .args in
-    let stepped = rw (found .read) at (step .counter-step .ensures (memory (a .table .now) (a .log .now) (a .blocks .now))) in
-    let stays = sym (rw (found .read, stepped) at (tested .retires .ensures)) ∙ restarts .if1 .left in
-    accepts _ (found .at) (rw stays (rw (found .read) at (c .accepted2 .ensures)))
-    (rw (stays, written .set-words .ensures, found .read, stepped))
+    let w = c .before .before .before in
+    let t = w .before .before .before .before .before in
+    let r = found (t .before .before .before .before .before) in
+    let s = step (t .before .before) in
+    let stays = sym (rw (r .read, s) at (t .retires .ensures)) ∙ w .before .before .before .before .if1 .left in
+    accepts _ (r .at) (rw stays (rw (r .read) at (c .accepted2 .ensures))) (rw (stays, w .set-words .ensures, r .read, s))
 
 pub reboot-spec : {M : Type 1} → statement M
-reboot-spec =
-    tie.close
-    (tie.spec (λ c κs. search needs) (λ c. search needs) (λ c. search needs) (λ c κs. search needs)
-    (λ c κs. search needs) (λ c. search needs) (λ c. search needs) (λ c. search needs) returns add-boot
-    (λ c κs. search needs) add-limit (λ c κs. search needs) set-replica-word-requires (λ c κs. search needs)
-    (λ c. search needs) (λ c. search needs) (λ c. search needs) returns-2 (λ c. search needs) (λ c. search needs)
+reboot-spec = tie.close
+    (tie.spec (λ c κs. search needs) (λ c. search needs) (λ c. search needs) (λ c κs. search needs) (λ c κs. search needs)
+    (λ c. search needs) (λ c. search needs) (λ c. search needs) returns
+    (λ c. let r = found (c .before .before) in rw (r .read) (record { fits = boot-fits _ _ (r .ready) })) (λ c κs. search needs) add-limit
+    (λ c κs. search needs)
+    (λ c κs. omega (arith, row-within _ _ (found (c .before .before .before .before .before .before .before) .ready)))
+    (λ c κs. search needs) (λ c. search needs) (λ c. search needs) (λ c. search needs) returns-2 (λ c. search needs) (λ c. search needs)
     set-words-requires (λ c κs. search needs) (λ c. search needs) (λ c. search needs) (λ c. search needs) returns-3)

@@ -1,77 +1,58 @@
 -- Refused, or the limit is written; what was found of the replica is what the rule speaks of.
-use mathlib.Core.Path.{refl}
+use Prim.Native.Nat.{ℕ}
+use mathlib.Core.Path.{_≡_, refl}
 use native.Mathlib.Omega.{arith}
 use borrow.Author.Needs.{needs}
-use Rattle.protocol.specs.Memory.{memory, update}
-use Rattle.protocol.specs.Calls.{reserve as reserveRule}
+use Rattle.protocol.specs.Memory.{Memory, memory, replica, update}
+use Rattle.protocol.specs.Counter.{counterStep}
+use Rattle.protocol.specs.Calls.{limitAfter, reserveNeeds, reserve as reserveRule}
 use Rattle.checks.proofs.Ready.{row-within}
-use Rattle.checks.proofs.Passing.{start, accepts, no-replica, replica-known, found-replica, failed, passed}
+use Rattle.checks.proofs.Passing.{start, accepts, ReplicaFound, no-replica, found-replica, failed, passed}
 use Rattle.restart.proofs.Limits.{limit-fits}
 use Rattle.restart.proofs.reserve.Statement.{statement}
 use Rattle.restart.proofs.reserve.Tie as tie
 
+abbrev of {ℓ} : {P : Type ℓ} → (Memory → ℕ → P) → tie.After-found → P
+of f c =
+    let a = c .before .before .before .before .before .before .before .before .before .args in
+    f (memory (a .table .now) (a .log .now) (a .blocks .now)) (a .replica)
+
+found : (c : tie.After-found) → let limit = of (λ m i. limitAfter m (replica m i) (replica m i .boot)) c in
+    of (λ m i. ReplicaFound m i (reserveRule m i) (reserveNeeds (replica m i) limit) (c .found .given .0 .0)) c
+unfolding reserveRule
+found c = found-replica _ _ _ (start _) (c .before .before .find-replica .ensures) (c .found .given .1)
+
+step : (c : tie.After-counter-step) → of (λ m i. c .counter-step .result ≡ counterStep m (replica m i .boot)) (c .before .before)
+step c = rw (found (c .before .before) .read) at (c .counter-step .ensures (of (λ m i. m) (c .before .before)))
+
 returns : tie.Need-returns
 unfolding reserveRule
 returns c =
-    let at-refusal = c .before in
-    let at-enum-told = at-refusal .before in
-    let at-find-replica = at-enum-told .before .before in
-    no-replica _ _ _ (start _) (at-find-replica .find-replica .ensures) (at-enum-told .enum-told .given .1) (at-refusal .refusal .ensures)
-    (c .refused .ensures)
-
-add-limit : tie.Need-add-limit
-add-limit c =
-    let at-counter-step = c .before in
-    let at-found = at-counter-step .before .before in
-    let found = replica-known _ _ (at-found .before .before .find-replica .ensures) (at-found .found .given .1) in
-    rw (found .read) (record { fits = limit-fits _ _ _ (found .ready) (at-counter-step .counter-step .ensures _) })
+    no-replica _ _ _ (start _) (c .before .before .before .before .find-replica .ensures)
+    (c .before .before .enum-told .given .1) (c .before .refusal .ensures) (c .refused .ensures)
 
 returns-2 : tie.Need-returns-2
-unfolding reserveRule
 returns-2 c =
-    let at-refusal2 = c .before in
-    let at-enum-told3 = at-refusal2 .before in
-    let tests = at-enum-told3 .before .before in
-    let entry = tests .before .before .before .before .before .before .before .before .before .before .before .before .before in
-    let step = tests .before .before in
-    let at-found = step .before .before in
-    let found = found-replica _ _ _ (start (reserveRule _ _)) (at-found .before .before .find-replica .ensures)
-    (at-found .found .given .1) in
-    let a = entry .args in
-    let stepped = rw (found .read) at (step .counter-step .ensures (memory (a .table .now) (a .log .now) (a .blocks .now))) in
-    failed _ refl (rw (found .read, stepped) at (tests .test-reserve .ensures)) _ _ (found .at)
-    (at-enum-told3 .enum-told3 .given .1) (at-refusal2 .refusal2 .ensures) (c .refused2 .ensures)
-
-set-replica-word-requires : tie.Need-set-replica-word-requires
-set-replica-word-requires c κs =
-    let at-found = c .before .before .before .before .before .before .before in
-    let found = replica-known _ _ (at-found .before .before .find-replica .ensures) (at-found .found .given .1) in
-    omega (arith, row-within _ _ (found .ready))
+    let t = c .before .before .before .before in
+    let r = found (t .before .before .before .before) in
+    failed _ refl (rw (r .read, step (t .before .before)) at (t .test-reserve .ensures)) _ _ (r .at)
+    (c .before .before .enum-told3 .given .1) (c .before .refusal2 .ensures) (c .refused2 .ensures)
 
 returns-3 : tie.Need-returns-3
 unfolding reserveRule update
 returns-3 c =
-    let written = c .before .before .before in
-    let entry = written .before .before .before .before .before .before .before .before .before .before .before .before .before .before .before .before .before in
-    let told = written .before .before in
-    let tests = told .before .before in
-    let step = tests .before .before in
-    let at-found = step .before .before in
-    let found = found-replica _ _ _ (start (reserveRule _ _)) (at-found .before .before .find-replica .ensures)
-    (at-found .found .given .1) in
-    let a = entry .args in
-    let stepped = rw (found .read) at (step .counter-step .ensures (memory (a .table .now) (a .log .now) (a .blocks .now))) in
-    let at-end = passed _ refl (rw (found .read, stepped) at (tests .test-reserve .ensures)) _ (found .at)
-    (told .enum-told2 .given .1) in
-    accepts _ at-end (rw (found .read, stepped) at (c .accepted .ensures))
-    (rw (written .set-replica-word .ensures, found .read, stepped))
+    let t = c .before .before .before .before .before in
+    let r = found (t .before .before .before .before .before .before) in
+    let s = step (t .before .before .before .before) in
+    let own = passed _ refl (rw (r .read, s) at (t .before .before .test-reserve .ensures)) _ (r .at) (t .enum-told2 .given .1) in
+    accepts _ own (rw (r .read, s) at (c .accepted .ensures)) (rw (c .before .before .before .set-replica-word .ensures, r .read, s))
 
 pub reserve-spec : {M : Type 1} → statement M
-reserve-spec =
-    tie.close
-    (tie.spec (λ c κs. search needs) (λ c. search needs) (λ c. search needs) (λ c κs. search needs)
-    (λ c κs. search needs) (λ c. search needs) (λ c. search needs) (λ c. search needs) returns (λ c κs. search needs)
-    add-limit (λ c κs. search needs) (λ c. search needs) (λ c. search needs) (λ c κs. search needs)
-    (λ c κs. search needs) (λ c. search needs) (λ c. search needs) (λ c. search needs) returns-2
-    set-replica-word-requires (λ c κs. search needs) (λ c. search needs) (λ c. search needs) (λ c. search needs)
-    returns-3)
+reserve-spec = tie.close
+    (tie.spec (λ c κs. search needs) (λ c. search needs) (λ c. search needs) (λ c κs. search needs) (λ c κs. search needs)
+    (λ c. search needs) (λ c. search needs) (λ c. search needs) returns (λ c κs. search needs)
+    (λ c. let r = found (c .before .before .before) in rw (r .read) (record { fits = limit-fits _ _ _ (r .ready) (step (c .before)) }))
+    (λ c κs. search needs) (λ c. search needs) (λ c. search needs) (λ c κs. search needs) (λ c κs. search needs) (λ c. search needs)
+    (λ c. search needs) (λ c. search needs) returns-2
+    (λ c κs. omega (arith, row-within _ _ (found (c .before .before .before .before .before .before .before) .ready)))
+    (λ c κs. search needs) (λ c. search needs) (λ c. search needs) (λ c. search needs) returns-3)

@@ -1,6 +1,6 @@
 -- One need after the other.
 use borrow.Author.Needs.{needs}
-use Rattle.checks.specs.Verdicts.{tested}
+use Rattle.checks.specs.inner.Verdicts.{tested}
 use Rattle.recovery.proofs.test_reply.Statement.{statement}
 use Rattle.recovery.proofs.test_reply.Tie as tie
 

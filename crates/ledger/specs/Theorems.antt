@@ -1,4 +1,5 @@
--- What holds of the front panel, as `panelAnswer` reads it from the words. Proved in proofs/ under the same name in lower case with hyphens.
+-- What holds of the front panel, as `panelAnswer` reads it from the words. Proved in proofs/ under the same name in lower case with
+-- hyphens.
 use Prim.Native.Nat.{ℕ, _≤_, _<_}
 use mathlib.Core.Path.{_≡_}
 use mathlib.Core.List.{List, _++_}

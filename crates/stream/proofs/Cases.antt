@@ -19,7 +19,7 @@ use Rattle.protocol.specs.Calls.{issuing, freshReplicas, opening, block, prepar
 use Rattle.protocol.specs.Runs.{ruleOf, step}
 use Rattle.codes.specs.Codes.{claimedWord, when, codeTable}
 use Rattle.field.specs.Digits.{leastFrom, digitCount, digits}
-use Rattle.field.specs.Field.{fieldOf, continued, unpadded, justified, readField}
+use Rattle.field.specs.Field.{fieldOf, continued, unpadded, aligned, readField}
 use Rattle.ledger.specs.Called.{calledBy, called}
 use Rattle.script.specs.Lines.{numbers, hasNumbers}
 use Rattle.script.specs.Session.{lentLength, lending, answerNumbers, answerLine}
@@ -35,13 +35,13 @@ unfolding update appendCertificate appendBlock allHold allBelow blockFormed repl
     countsFit wellFormed firstBelow hasWords numberFor isFiled canFile file leads counterStep every contains
     distinct isQuorum greatestFrom firstRefusal answered follow issuing freshReplicas
     opening block prepare store view accumulate decide reboot ruleOf step claimedWord when codeTable leastFrom
-    digitCount digits fieldOf continued unpadded justified readField calledBy called numbers hasNumbers lentLength
+    digitCount digits fieldOf continued unpadded aligned readField calledBy called numbers hasNumbers lentLength
     lending answerNumbers answerLine answerText linesFrom answersTo output lineOf textOf
     workedInput workedOutput WorkedScript
 worked-script = refl
 
 pub worked-script-tells : WorkedScriptTells
-unfolding leastFrom digitCount digits fieldOf continued unpadded justified readField numbers linesFrom lineOf textOf workedInput
+unfolding leastFrom digitCount digits fieldOf continued unpadded aligned readField numbers linesFrom lineOf textOf workedInput
     workedOutput WorkedScript eventTable lineEvent toldHistory WorkedScriptTells
 worked-script-tells = rw worked-script refl
 
@@ -60,7 +60,7 @@ not-reopened (x ∷ events) e w =
     (not-reopened events (both .1)) (List·Memᴰ·cases-cons w)
 
 pub worked-script-opens : WorkedScriptOpens
-unfolding leastFrom digitCount digits fieldOf continued unpadded justified readField numbers linesFrom lineOf textOf workedInput
+unfolding leastFrom digitCount digits fieldOf continued unpadded aligned readField numbers linesFrom lineOf textOf workedInput
     workedOutput WorkedScript every WorkedScriptTells WorkedScriptOpens
 worked-script-opens =
     record {

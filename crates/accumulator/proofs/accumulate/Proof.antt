@@ -65,13 +65,14 @@ returns c =
 returns-2 : tie.Need-returns-2
 returns-2 c =
     let t = c .before .before .before .before in
-    failed _ refl (t .test-list .ensures) _ _ (found (t .before .before .before) .at)
+    failed _ refl (t .test-list .ensures) (of (λ m i list. m) (t .before .before .before)) _ (found (t .before .before .before) .at)
     (c .before .before .enum-told3 .given .1) (c .before .refusal2 .ensures) (c .refused2 .ensures)
 
 returns-3 : tie.Need-returns-3
 returns-3 c =
     let t = c .before .before .before .before in
-    failed _ refl (own-tested t) _ _ (listed (t .before .before .before .before .before .before .before .before) .at)
+    let l = t .before .before .before .before .before .before .before .before in
+    failed _ refl (own-tested t) (of (λ m i list. m) (l .before .before .before .before .before)) _ (listed l .at)
     (c .before .before .enum-told5 .given .1) (c .before .refusal3 .ensures) (c .refused3 .ensures)
 
 greatest-requires : tie.Need-greatest-requires

@@ -5,7 +5,7 @@ use mathlib.Core.List.{List, [], _++_}
 use native.Mathlib.Omega.{arith}
 use borrow.Author.Needs.{needs}
 use borrow.Author.Tests.{lt-ltb, le-ltb}
-use Rattle.protocol.specs.Memory.{Memory, memory, update}
+use Rattle.protocol.specs.Memory.{Memory, memory, replica, update}
 use Rattle.protocol.specs.Quorum.{every, certificatesOf, firstOf}
 use Rattle.protocol.specs.FirstNeeds.{listNeeds}
 use Rattle.protocol.specs.Calls.{decideNeeds, decide as decideRule}
@@ -54,20 +54,24 @@ returns c =
 returns-2 : tie.Need-returns-2
 returns-2 c =
     let t = c .before .before .before .before in
-    failed _ refl (t .test-list .ensures) _ _ (found (t .before .before .before) .at)
+    failed _ refl (t .test-list .ensures) (of (λ m i list. m) (t .before .before .before)) _ (found (t .before .before .before) .at)
     (c .before .before .enum-told3 .given .1) (c .before .refusal2 .ensures) (c .refused2 .ensures)
 
 returns-3 : tie.Need-returns-3
 returns-3 c =
     let t = c .before .before .before .before in
-    failed _ refl (own-tested t) _ _ (listed (t .before .before .before .before .before .before) .at)
+    let l = t .before .before .before .before .before .before in
+    failed _ refl (own-tested t) (of (λ m i list. m) (l .before .before .before .before .before)) _ (listed l .at)
     (c .before .before .enum-told5 .given .1) (c .before .refusal3 .ensures) (c .refused3 .ensures)
 
 returns-4 : tie.Need-returns-4
 unfolding decideRule update
 returns-4 c =
     let e = c .before .before .before .before .before .before .before .before .before in
-    let shown = le-ltb _ _ (rw (first e, listed (e .before .before .before) .read) at (c .before .if1 .taken)) in
+    let f = e .before .before .before .before .before .before .before .before in
+    let view = of (λ m i list. firstOf (certificatesOf m list) .view) f in
+    let kept = rw (first e, listed (e .before .before .before) .read) at (c .before .if1 .taken) in
+    let shown = le-ltb (of (λ m i list. replica m i .decidedView) f) view (omega (arith, kept)) in
     accepts _ (decided (c .before .before .before .before)) (rw (first e) at (c .accepted .ensures)) (rw shown)
 
 set-words-requires : tie.Need-set-words-requires

@@ -7,7 +7,7 @@ use borrow.Author.Needs.{needs}
 use Rattle.protocol.specs.Memory.{Memory, memory, replica, update}
 use Rattle.protocol.specs.Quorum.{every}
 use Rattle.protocol.specs.Counter.{counterStep}
-use Rattle.protocol.specs.Calls.{limitAfter, retires as retiresRule, reboot as rebootRule}
+use Rattle.protocol.specs.Calls.{reboot as rebootRule}
 use Rattle.checks.proofs.Ready.{row-within}
 use Rattle.checks.proofs.Passing.{start, accepts, ReplicaFound, no-replica, found-replica}
 use Rattle.restart.proofs.Limits.{boot-fits, limit-fits}

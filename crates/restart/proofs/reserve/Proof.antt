@@ -34,8 +34,9 @@ returns c =
 returns-2 : tie.Need-returns-2
 returns-2 c =
     let t = c .before .before .before .before in
-    let r = found (t .before .before .before .before) in
-    failed _ refl (rw (r .read, step (t .before .before)) at (t .test-reserve .ensures)) _ _ (r .at)
+    let f = t .before .before .before .before in
+    let own = rw (found f .read, step (t .before .before)) at (t .test-reserve .ensures) in
+    failed _ refl own (of (λ m i. m) f) _ (found f .at)
     (c .before .before .enum-told3 .given .1) (c .before .refusal2 .ensures) (c .refused2 .ensures)
 
 returns-3 : tie.Need-returns-3

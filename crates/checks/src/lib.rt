@@ -106,10 +106,9 @@ pub fn need(before: Tested, test: bool, number: u32) -> Tested
         return before;
     };
     if test {
-        Tested::Passed
-    } else {
-        Tested::Refused(number)
+        return Tested::Passed;
     }
+    Tested::Refused(number)
 }
 
 // The form (1), then the replica (2).

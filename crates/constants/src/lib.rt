@@ -1,9 +1,10 @@
-// The numbers of document 01 as the code has them. They have the names of protocol/specs/, in upper case. A function for each group, that
+// The numbers of documents 01 and 02 as the code has them. They have the names of protocol/specs/, in upper case. A function for each group, that
 // nothing calls, holds them to the definitions: where a number differs, the check names it here, before it looks at any crate above.
 ghost use mathlib.Core.Path.{_≡_};
 ghost use mathlib.Core.List.{[], _∷_};
 ghost use Rattle.protocol.specs.Memory.{
   maxFaultBound,
+  replicaCount,
   ceiling,
   faultBoundAt,
   certificateCountAt,
@@ -37,9 +38,20 @@ ghost use Rattle.protocol.specs.Memory.{
 };
 ghost use Rattle.protocol.specs.Form.{lastKind};
 ghost use Rattle.protocol.specs.Certificates as Kinds;
+ghost use Rattle.protocol.specs.Movements.{
+  movementWords,
+  movementBlockAt,
+  giverAt,
+  takerAt,
+  palletsAt,
+  maxPallets,
+  maxMovements,
+};
 ghost use Rattle.protocol.specs.Outcome as Refusals;
 
 pub const MAX_FAULT_BOUND: u32 = 30;
+
+pub const MAX_REPLICAS: usize = 61;
 
 // The largest view, view limit and boot.
 pub const CEILING: u32 = 1000000;
@@ -123,18 +135,46 @@ pub const LAST_KIND: u32 = REPLY;
 // The blocks.
 pub const MAX_BLOCKS: u32 = 4096;
 
-// The largest f, view, view limit and boot, number of certificates and of blocks.
-pub fn limits() -> [u32; 4]
-    ensures { λ r. ⌜ r ≡ maxFaultBound ∷ ceiling ∷ maxCertificates ∷ maxBlocks ∷ [] ⌝ }
+// The movements.
+pub const MOVEMENT_WORDS: usize = 4;
+
+pub const MOVEMENT_BLOCK_AT: usize = 0;
+
+pub const GIVER_AT: usize = 1;
+
+pub const TAKER_AT: usize = 2;
+
+pub const PALLETS_AT: usize = 3;
+
+pub const MAX_PALLETS: u32 = 10000;
+
+pub const MAX_MOVEMENTS: usize = 2048;
+
+// The largest f, view, view limit and boot, number of certificates and of blocks, and pallets of a movement.
+pub fn limits() -> [u32; 5]
+    ensures { λ r. ⌜ r ≡ maxFaultBound ∷ ceiling ∷ maxCertificates ∷ maxBlocks ∷ maxPallets ∷ [] ⌝ }
 {
-    [MAX_FAULT_BOUND, CEILING, MAX_CERTIFICATES, MAX_BLOCKS]
+    [
+        MAX_FAULT_BOUND,
+        CEILING,
+        MAX_CERTIFICATES,
+        MAX_BLOCKS,
+        MAX_PALLETS,
+    ]
 }
 
-// The words of the header, a replica and a certificate.
-pub fn widths() -> [usize; 3]
-    ensures { λ r. ⌜ r ≡ rowStart ∷ replicaWords ∷ certificateWords ∷ [] ⌝ }
+// The most replicas and movements.
+pub fn most() -> [usize; 2]
+    ensures { λ r. ⌜ r ≡ replicaCount maxFaultBound ∷ maxMovements ∷ [] ⌝ }
 {
-    [ROW_START, REPLICA_WORDS, CERTIFICATE_WORDS]
+    [MAX_REPLICAS, MAX_MOVEMENTS]
+}
+
+// The words of the header, a replica, a certificate and a movement.
+pub fn widths() -> [usize; 4]
+    ensures { λ r. ⌜ r ≡ rowStart ∷ replicaWords ∷ certificateWords ∷ movementWords ∷ [] ⌝ }
+{
+    [ROW_START, REPLICA_WORDS, CERTIFICATE_WORDS, MOVEMENT_WORDS]
 }
 
 pub fn header_offsets() -> [usize; ROW_START]
@@ -180,6 +220,12 @@ pub fn certificate_offsets() -> [usize; CERTIFICATE_WORDS]
     ]
 }
 
+pub fn movement_offsets() -> [usize; MOVEMENT_WORDS]
+    ensures { λ r. ⌜ r ≡ movementBlockAt ∷ giverAt ∷ takerAt ∷ palletsAt ∷ [] ⌝ }
+{
+    [MOVEMENT_BLOCK_AT, GIVER_AT, TAKER_AT, PALLETS_AT]
+}
+
 pub fn kinds() -> [u32; 7]
     ensures { λ r. ⌜ r
         ≡ Kinds.PROP ∷ Kinds.COMMIT ∷ Kinds.NEWVIEW ∷ Kinds.ACC ∷ Kinds.REQ ∷ Kinds.REPLY ∷ lastKind ∷ [] ⌝ }
@@ -188,10 +234,11 @@ pub fn kinds() -> [u32; 7]
 }
 
 // The refusals' numbers stand with the answer that holds them.
-pub fn refusals() -> [u32; 10]
+pub fn refusals() -> [u32; 11]
     ensures { λ r. ⌜ r
         ≡ Refusals.wrongForm ∷ Refusals.outOfRange ∷ Refusals.unknownNumber ∷ Refusals.wrongStatus ∷ Refusals.wrongCertificate
-        ∷ Refusals.wrongBlock ∷ Refusals.wrongView ∷ Refusals.counterLimit ∷ Refusals.noRoom ∷ Refusals.unreadable ∷ [] ⌝ }
+        ∷ Refusals.wrongBlock ∷ Refusals.wrongView ∷ Refusals.counterLimit ∷ Refusals.noRoom ∷ Refusals.unreadable
+        ∷ Refusals.wrongMovement ∷ [] ⌝ }
 {
     [
         protocol::WRONG_FORM,
@@ -204,5 +251,6 @@ pub fn refusals() -> [u32; 10]
         protocol::COUNTER_LIMIT,
         protocol::NO_ROOM,
         protocol::UNREADABLE,
+        protocol::WRONG_MOVEMENT,
     ]
 }

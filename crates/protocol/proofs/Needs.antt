@@ -114,7 +114,7 @@ outcome-memory P m rule before after = go (firstRefusal (rule .needs)) refl
     go (suc n) e = before
 
 -- A refusal is that of a need that fails.
-failing-need : (ns : List Need) → (firstRefusal ns ≡ 0 → ⊥) → List·Memᴰ (false else firstRefusal ns) ns
+pub failing-need : (ns : List Need) → (firstRefusal ns ≡ 0 → ⊥) → List·Memᴰ (false else firstRefusal ns) ns
 unfolding firstRefusal
 failing-need [] h = absurd (h refl)
 failing-need ((true else n) ∷ rest) h = List·Memᴰ·tail (failing-need rest h)

@@ -1,5 +1,5 @@
 -- What is promised, in the order of document 01: its memory, its calls, lists of calls; then the theorems' statements and the table of
--- cases.
+-- cases; and the movements of document 02.
 pub mod Memory
 pub mod Ancestry
 pub mod Form
@@ -15,3 +15,4 @@ pub mod History
 pub mod Theorems
 pub mod Agreement
 pub mod Cases
+pub mod Movements

@@ -54,6 +54,10 @@ noRoom = 9
 abbrev pub unreadable : ℕ
 unreadable = 10
 
+-- Document 02, #101: a movement outside its rules. No call returns it; a netting does.
+abbrev pub wrongMovement : ℕ
+wrongMovement = 11
+
 -- A test that a call makes, and what it returns where the test fails.
 pub data Need : Type 0 where
   _else_ : Bool → ℕ → Need

@@ -1,4 +1,4 @@
-// What the code and the definitions share: a call, the answer to it with its refusals, and what lets a leader propose.
+// What the code and the definitions share: a call, the answer to it with its refusals, what lets a leader propose, and a movement.
 
 // The number that a call returns, 0 where it is accepted, and its two values.
 pub struct Answer {
@@ -7,7 +7,7 @@ pub struct Answer {
     pub second: u32,
 }
 
-// The numbers of the table under "Calls" in document 01. The refusals have the names of specs/Outcome.antt, in upper case.
+// The numbers of the table under "Calls" in document 01, and 11 of document 02. The refusals have the names of specs/Outcome.antt, in upper case.
 pub const ACCEPTED: u32 = 0;
 
 pub const WRONG_FORM: u32 = 1;
@@ -30,6 +30,9 @@ pub const NO_ROOM: u32 = 9;
 
 // "script line unreadable": for a line or a code that gives no call.
 pub const UNREADABLE: u32 = 10;
+
+// "a movement outside these rules" (document 02, #101): for a netting.
+pub const WRONG_MOVEMENT: u32 = 11;
 
 // What lets a leader propose (document 01: the ground of a proposal): the number of an ACC, or the view and the block of a
 // commit quorum, whose numbers are the list beside the call.
@@ -62,4 +65,12 @@ pub enum Call {
     Reply(u32, u32),
     // replica
     Recover(u32),
+}
+
+// A movement of pallets (document 02, #101): the block that it stands in, the replica whose firm gave, the one whose firm took, how many.
+pub struct Movement {
+    pub block: u32,
+    pub giver: u32,
+    pub taker: u32,
+    pub pallets: u32,
 }

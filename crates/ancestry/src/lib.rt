@@ -1,22 +1,47 @@
-// Lines of parents: whether a block is in the line of another, and how far a block is from block 0.
+// Lines of parents: which blocks are in a block's line, and how far the block is from block 0.
 ghost use mathlib.Core.Path.{_≡_};
-ghost use Rattle.protocol.specs.Ancestry.{isAncestorBy, heightBy};
-ghost use Rattle.ancestry.specs.inner.AncestryFits.{AncestryFits, parentIn};
+ghost use Rattle.protocol.specs.Ancestry.{heightBy};
+ghost use Rattle.ancestry.specs.inner.AncestryFits.{AncestryFits, parentIn, Markable, LineMarked, Climbed};
+use constants::MAX_BLOCKS;
 
 // The block that has only itself in its line.
 const ROOT: u32 = 0;
 
-// Whether block a is in the line of block b, as agreement says it; no call tests it. The numbers fall on the way up, so once b is not
-// above a, only b itself can be a.
-pub fn is_ancestor(blocks: &[u32], a: u32, b: u32) -> bool
-    requires { ⌜ AncestryFits (now blocks) b ⌝ }
-    ensures { λ r. ⌜ r ≡ isAncestorBy (parentIn (now (blocks .entry))) a b ⌝ }
+// Marks block b, and gives its parent.
+fn mark_block(blocks: &[u32], b: u32, marks: &mut [bool; MAX_BLOCKS as usize]) -> u32
+    requires { ⌜ Markable (now blocks) b (now marks) ⌝ }
+    ensures { λ r. ⌜ Climbed (now (blocks .entry)) b r (now (marks .entry)) (now (marks .exit)) ⌝ }
 {
-    if b <= a {
-        return a == b;
+    marks[b as usize] = true;
+    blocks[b as usize]
+}
+
+// Four blocks of the line, or fewer: block 0 is its own parent.
+fn mark_four(blocks: &[u32], b: u32, marks: &mut [bool; MAX_BLOCKS as usize]) -> u32
+    requires { ⌜ Markable (now blocks) b (now marks) ⌝ }
+    ensures { λ r. ⌜ Climbed (now (blocks .entry)) b r (now (marks .entry)) (now (marks .exit)) ⌝ }
+{
+    let first = mark_block(blocks, b, marks);
+    let second = mark_block(blocks, first, marks);
+    let third = mark_block(blocks, second, marks);
+    mark_block(blocks, third, marks)
+}
+
+// Marks the blocks of block b's line, and leaves the other marks. Sixteen blocks a call: a return costs more than a step up, and so
+// the stack is a sixteenth as deep.
+pub fn mark_line(blocks: &[u32], b: u32, marks: &mut [bool; MAX_BLOCKS as usize])
+    requires { ⌜ Markable (now blocks) b (now marks) ⌝ }
+    ensures { λ _. ⌜ LineMarked (now (blocks .entry)) b (now (marks .entry)) (now (marks .exit)) ⌝ }
+{
+    let first = mark_four(blocks, b, marks);
+    let second = mark_four(blocks, first, marks);
+    let third = mark_four(blocks, second, marks);
+    let top = mark_four(blocks, third, marks);
+    if top == ROOT {
+        marks[ROOT as usize] = true;
+        return;
     }
-    let parent = blocks[b as usize];
-    is_ancestor(blocks, a, parent)
+    mark_line(blocks, top, marks);
 }
 
 // The number of steps from block b up to block 0.

@@ -1,9 +1,11 @@
--- What a walk up the parents asks: the block is in the slice, and the numbers fall on the way up.
+-- What a walk up the parents asks: the block is in the slice, and the numbers fall on the way up to block 0, its own parent.
 use Prim.Native.Nat.{ℕ, suc, _<_}
+use mathlib.Core.Path.{_≡_}
+use mathlib.Core.Bool.{Bool, false, _||_}
 use mathlib.Core.List.{List}
 use lib.ListN.{length, getD}
-use Rattle.protocol.specs.Memory.{blockAt}
-use Rattle.protocol.specs.Ancestry.{Falls}
+use Rattle.protocol.specs.Memory.{blockAt, maxBlocks}
+use Rattle.protocol.specs.Ancestry.{Falls, isAncestorBy}
 
 -- The parent of a block, in the blocks' words.
 abbrev pub parentIn : List ℕ → ℕ → ℕ
@@ -12,3 +14,21 @@ parentIn blocks b = getD blocks (blockAt b) 0
 pub record AncestryFits (blocks : List ℕ) (b : ℕ) : Type 0 where
   pub inSlice : blockAt b < length blocks
   pub falls : Falls (parentIn blocks) (suc b)
+  pub root : parentIn blocks 0 ≡ 0
+
+-- What the walk that marks asks besides: a mark for each block.
+pub record Markable (blocks : List ℕ) (b : ℕ) (marks : List Bool) : Type 0 where
+  pub walk : AncestryFits blocks b
+  pub below : b < maxBlocks
+  pub size : length marks ≡ maxBlocks
+
+-- The marks before and after a walk up the line of block b: those of the line are set, the others are as they were.
+pub record LineMarked (blocks : List ℕ) (b : ℕ) (before after : List Bool) : Type 0 where
+  pub size : length after ≡ length before
+  pub marks : (a : ℕ) → getD after a false ≡ (isAncestorBy (parentIn blocks) a b || getD before a false)
+
+-- Some steps up the line of block b, to block top, each block left being marked: what is still to be marked is the line of top.
+pub record Climbed (blocks : List ℕ) (b top : ℕ) (before after : List Bool) : Type 0 where
+  pub markable : Markable blocks top after
+  pub lower : (top ≡ 0 → ⊥) → top < b
+  pub rest : (marks : List Bool) → LineMarked blocks top after marks → LineMarked blocks b before marks

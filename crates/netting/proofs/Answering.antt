@@ -1,0 +1,67 @@
+-- What a netting answers, once its first needs hold.
+use Prim.Native.Nat.{ℕ, _<_}
+use mathlib.Core.Path.{_≡_, refl, sym, ap, _∙_}
+use mathlib.Core.Bool.{Bool, true, false, or-false}
+use mathlib.Core.List.{List}
+use native.Mathlib.Omega.{arith}
+use lib.Dec.{ltb}
+use lib.ListN.{length, getD, replicate, getD-replicate, length-replicate, List·getD-eq-default}
+use lib.IntN.{ℤ, pos}
+use mir.Syntax.{w32}
+use mir.Val.{ofZ, toZ}
+use mir.Facts.{toZ-ofZ}
+use Rattle.protocol.specs.declared.Movement.{Movement}
+use Rattle.protocol.specs.Memory.{maxFaultBound, replicaCount, maxBlocks}
+use Rattle.protocol.specs.Form.{allBelow}
+use Rattle.protocol.specs.Outcome.{firstRefusal, wrongMovement}
+use Rattle.protocol.specs.Movements.{movement, movementCount, movementAllowed}
+use Rattle.protocol.proofs.Booleans.{tests, by-test, at-below}
+use Rattle.ancestry.specs.inner.AncestryFits.{parentIn, LineMarked}
+use Rattle.netting.specs.declared.Netted.{Netted}
+use Rattle.netting.specs.Netting.{countsBy, balanceAfter, balanceBy, nettingAnswer}
+use Rattle.netting.specs.inner.Tallies.{marked, Talliable, Tallied, Nettable, balanceAnswer}
+use Rattle.netting.proofs.Nettings.{balance-same, balance-small, is-allowed, list-short}
+use Rattle.netting.proofs.Moving.{small-fits}
+
+-- A list of one value has it everywhere.
+all-same : {A : Type 0} (n i : ℕ) (x : A) → getD (replicate n x) i x ≡ x
+all-same n i x =
+    by-test (ltb i n) (λ e. getD-replicate n i x x (omega tests))
+    (λ e. List·getD-eq-default (replicate n x) x (rw (length-replicate n x) (omega tests)))
+
+module _ (blocks movements : List ℕ) (b i replicas added : ℕ) (h : Nettable blocks movements b i replicas added)
+    (line : List Bool) (walked : LineMarked blocks b (replicate maxBlocks false) line) where
+  -- The marked blocks are those of the line.
+  counts-marked : (x : Movement) → marked line x ≡ countsBy (parentIn blocks) b x
+  counts-marked x = walked .marks (x .block) ∙ rw (all-same maxBlocks (x .block) false) (or-false _)
+
+  pub talliable : Talliable movements line replicas added (replicate (replicaCount maxFaultBound) (pos 0))
+  talliable =
+      record {
+        list = h .list;
+        blocks = omega (arith, walked .size, h .blocksFew);
+        firms = h .firmsFew;
+        zeros = λ j. all-same (replicaCount maxFaultBound) j (pos 0);
+      }
+
+  module _ (allowed : Bool) (xs : List ℤ) (t : Tallied movements line replicas added allowed xs) where
+    pub breaks : allowed ≡ false → {r : Netted} → r ≡ record { number = wrongMovement; balance = pos 0; second = 0 }
+        → r ≡ balanceAnswer blocks movements b i replicas added
+    unfolding balanceAnswer nettingAnswer firstRefusal
+    breaks e answer = answer ∙ rw (← t .tested, e) refl
+
+    -- A balance reads back from its bits.
+    reads-back : allowed ≡ true → toZ w32 (ofZ w32 (getD xs i (pos 0))) ≡ balanceBy (parentIn blocks) movements b i
+    reads-back e =
+        let each = at-below (movementCount movements) _ (sym (t .tested) ∙ e) in
+        let small = balance-small (marked line) movements (movementCount movements)
+        (λ k l. is-allowed replicas added (movement movements k) (each k l) .few) (list-short movements (h .list)) i in
+        rw (t .firms e i (h .firm))
+        (toZ-ofZ (small-fits (balanceAfter (marked line) movements (movementCount movements) i) (omega arith))
+        ∙ balance-same (marked line) movements (countsBy (parentIn blocks) b) counts-marked (movementCount movements) i)
+
+    pub nets-all : allowed ≡ true → {r : Netted}
+        → r ≡ record { number = 0; balance = toZ w32 (ofZ w32 (getD xs i (pos 0))); second = 0 }
+        → r ≡ balanceAnswer blocks movements b i replicas added
+    unfolding balanceAnswer nettingAnswer firstRefusal
+    nets-all e answer = answer ∙ rw (reads-back e, ← t .tested, e) refl

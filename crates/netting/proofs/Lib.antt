@@ -1,0 +1,10 @@
+-- What follows from the rule, and what the code's proofs share.
+pub mod Signed
+pub mod Sums
+pub mod Lines
+pub mod Nettings
+pub mod Theorems
+pub mod Moving
+pub mod Tallying
+pub mod Answering
+pub mod Refusing

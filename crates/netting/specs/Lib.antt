@@ -1,0 +1,4 @@
+pub mod Netting
+pub mod Theorems
+pub mod Cases
+pub mod inner

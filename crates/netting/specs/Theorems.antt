@@ -1,0 +1,125 @@
+-- What holds of nettings. Each unfoldable type here is a statement, proved in proofs/ under the same name in lower case with hyphens.
+use Prim.Native.Nat.{ℕ, zero, suc, _+_, _≤_, _<_}
+use mathlib.Core.Path.{_≡_}
+use mathlib.Core.Bool.{true, false, cond}
+use mathlib.Core.List.{List, List·Memᴰ}
+use lib.IntN.{ℤ, pos, _+ℤ_, natAbs}
+use Rattle.protocol.specs.declared.Movement.{Movement}
+use Rattle.protocol.specs.Memory.{Memory, replicaCount, faultBound, blockCount, parent}
+use Rattle.protocol.specs.Ancestry.{isAncestorBy}
+use Rattle.protocol.specs.Outcome.{Need, _else_}
+use Rattle.protocol.specs.FirstNeeds.{isBlock}
+use Rattle.protocol.specs.Movements.{movement, movementCount, movementAllowed, isMovementList}
+use Rattle.protocol.specs.Runs.{Invocation}
+use Rattle.protocol.specs.Theorems.{Alike}
+use Rattle.protocol.specs.History.{decided, givenParent}
+use Rattle.protocol.specs.Agreement.{Execution, eventsOf, endOf}
+use Rattle.netting.specs.declared.Netted.{Netted}
+use Rattle.netting.specs.Netting.{NettingOutcome, countsBy, sumBelow, balanceBy, nettingNeeds, netting}
+
+abbrev pub AcceptedNetting : NettingOutcome → Type 0
+AcceptedNetting o = o .answer .number ≡ 0
+
+-- ---- A netting changes no word, refused or not.
+
+pub record Unchanged (m : Memory) (movements : List ℕ) (o : NettingOutcome) : Type 0 where
+  pub memory : o .memory ≡ m
+  pub list : o .movements ≡ movements
+
+unfoldable pub NettingChangesNothing : Type 0
+NettingChangesNothing = (m : Memory) (movements : List ℕ) (b i : ℕ) → Unchanged m movements (netting m movements b i)
+
+-- ---- A refused netting returns the number of a need that fails and two zeros.
+
+pub record RefusedNetting (needs : List Need) (a : Netted) : Type 0 where
+  pub number : List·Memᴰ (false else a .number) needs
+  pub balance : a .balance ≡ pos 0
+  pub second : a .second ≡ 0
+
+unfoldable pub RefusedNettingIsZero : Type 0
+RefusedNettingIsZero =
+    (m : Memory) (movements : List ℕ) (b i : ℕ) → (AcceptedNetting (netting m movements b i) → ⊥)
+    → RefusedNetting (nettingNeeds m movements b i) (netting m movements b i .answer)
+
+-- Where a need fails the netting is refused, with a number that is not above that of the need.
+unfoldable pub NettingLowestWins : Type 0
+NettingLowestWins =
+    (m : Memory) (movements : List ℕ) (b i number : ℕ) → List·Memᴰ (false else number) (nettingNeeds m movements b i)
+    → let refusal = netting m movements b i .answer .number in (1 ≤ refusal) × (refusal ≤ number)
+
+-- ---- Words past the counts are not read.
+
+unfoldable pub NettingPastCountsUnread : Type 0
+NettingPastCountsUnread =
+    (m m′ : Memory) → Alike m m′ → (movements : List ℕ) (b i : ℕ)
+    → netting m movements b i .answer ≡ netting m′ movements b i .answer
+
+-- ---- "All balances add up to 0."
+
+-- A signed sum over the numbers below a count.
+unfoldable pub totalBelow : ℕ → (ℕ → ℤ) → ℤ
+totalBelow zero term = pos 0
+totalBelow (suc k) term = totalBelow k term +ℤ term k
+
+-- Where one firm's netting is accepted, every firm's is, and the answers add up to 0.
+pub record Balanced (m : Memory) (movements : List ℕ) (b : ℕ) : Type 0 where
+  pub accepted : (i : ℕ) → i < replicaCount (faultBound m) → AcceptedNetting (netting m movements b i)
+  pub total : totalBelow (replicaCount (faultBound m)) (λ i. netting m movements b i .answer .balance) ≡ pos 0
+
+unfoldable pub BalancesAddUp : Type 0
+BalancesAddUp = (m : Memory) (movements : List ℕ) (b i : ℕ) → AcceptedNetting (netting m movements b i) → Balanced m movements b
+
+-- ---- Every balance is within 20,480,000 either way (document 01, "Where to use each form").
+
+abbrev pub maxBalance : ℕ
+maxBalance = 20480000
+
+unfoldable pub BalancesBounded : Type 0
+BalancesBounded = (m : Memory) (movements : List ℕ) (b i : ℕ) → natAbs (netting m movements b i .answer .balance) ≤ maxBalance
+
+-- ---- "Of two blocks decided in one list of demand 3, the one with the longer line counts every movement that the other counts." By the
+-- calls and their answers alone, and of any movement, allowed or not. Two with equally long lines are one block.
+
+-- How many blocks are in the line of a block; none above it is, as parents fall.
+abbrev pub lineLength : (ℕ → ℕ) → ℕ → ℕ
+lineLength parentOf b = sumBelow (b + 1) (λ a. cond (isAncestorBy parentOf a b) 1 0)
+
+unfoldable pub LongerCountsMore : Type 0
+LongerCountsMore =
+    (m : Memory) (f : ℕ) (list : List ℕ) (calls : List Invocation) → Execution m f list calls
+    → let events = eventsOf m f list calls in
+    (i b v j c w : ℕ) → List·Memᴰ (decided i b v) events → List·Memᴰ (decided j c w) events
+    → lineLength (givenParent events) b ≤ lineLength (givenParent events) c
+    → (x : Movement) → countsBy (givenParent events) b x ≡ true → countsBy (givenParent events) c x ≡ true
+
+unfoldable pub EquallyLongIsOne : Type 0
+EquallyLongIsOne =
+    (m : Memory) (f : ℕ) (list : List ℕ) (calls : List Invocation) → Execution m f list calls
+    → let events = eventsOf m f list calls in
+    (i b v j c w : ℕ) → List·Memᴰ (decided i b v) events → List·Memᴰ (decided j c w) events
+    → lineLength (givenParent events) b ≡ lineLength (givenParent events) c → b ≡ c
+
+-- ---- The link to the words, at the end of an execution.
+
+-- What counts by the parents in the memory counts by the parents that the calls were given,
+unfoldable pub CountsMatchHistory : Type 0
+CountsMatchHistory =
+    (m : Memory) (f : ℕ) (list : List ℕ) (calls : List Invocation) → Execution m f list calls → (b : ℕ)
+    → isBlock (endOf m f list calls) b ≡ true → (x : Movement)
+    → countsBy (parent (endOf m f list calls)) b x ≡ countsBy (givenParent (eventsOf m f list calls)) b x
+
+-- so an accepted netting answers the balance by these;
+unfoldable pub NettingMatchesHistory : Type 0
+NettingMatchesHistory =
+    (m : Memory) (f : ℕ) (list : List ℕ) (calls : List Invocation) → Execution m f list calls → (movements : List ℕ) (b i : ℕ)
+    → AcceptedNetting (netting (endOf m f list calls) movements b i)
+    → netting (endOf m f list calls) movements b i .answer .balance ≡ balanceBy (givenParent (eventsOf m f list calls)) movements b i
+
+-- and every decided block can be netted, over any list of allowed movements.
+unfoldable pub DecidedCanBeNetted : Type 0
+DecidedCanBeNetted =
+    (m : Memory) (f : ℕ) (list : List ℕ) (calls : List Invocation) → Execution m f list calls → (j b v : ℕ)
+    → List·Memᴰ (decided j b v) (eventsOf m f list calls) → (movements : List ℕ) → isMovementList movements ≡ true
+    → ((k : ℕ) → k < movementCount movements
+    → movementAllowed (replicaCount f) (blockCount (endOf m f list calls)) (movement movements k) ≡ true)
+    → (i : ℕ) → i < replicaCount f → AcceptedNetting (netting (endOf m f list calls) movements b i)

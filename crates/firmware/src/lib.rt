@@ -4,6 +4,7 @@ ghost use Rattle.protocol.specs.Memory.{memory};
 ghost use Rattle.protocol.specs.Outcome.{outcome};
 ghost use Rattle.ledger.specs.Called.{called};
 ghost use Rattle.ledger.specs.Panel.{panelAnswer};
+ghost use Rattle.netting.specs.Netting.{nettingOutcome, netting};
 ghost use Rattle.field.specs.Field.{readField, written, writeField};
 
 // A call by its code; both values are always written.
@@ -43,6 +44,27 @@ pub extern "C" fn yard_panel(
 {
     let answer = ledger::panel(table, log, blocks, replica);
     *height = answer.first;
+    answer.number
+}
+
+// The balance of a replica's firm at a block, over the movements lent; always written.
+#[no_mangle]
+pub extern "C" fn yard_balance(
+    table: &[u32],
+    log: &[u32],
+    blocks: &[u32],
+    movements: &[u32],
+    block: u32,
+    replica: u32,
+    balance: &mut i32,
+) -> u32
+    ensures { λ r. ⌜ nettingOutcome (record { number = r; balance = now (balance .exit); second = 0 }) (now (table .exit))
+        (now (log .exit)) (now (blocks .exit)) (now (movements .exit))
+        ≡ netting (memory (now (table .entry)) (now (log .entry)) (now (blocks .entry))) (now (movements .entry)) block replica ⌝ }
+{
+    let answer = netting::net(table, log, blocks, movements, block, replica);
+    let net = answer.balance;
+    *balance = net;
     answer.number
 }
 

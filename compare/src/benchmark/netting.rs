@@ -3,10 +3,10 @@
 use super::fit::straight;
 use super::tables::thousands;
 use super::timing::best_in_turn;
-use crate::call::{BLOCK, OPEN};
+use crate::call::BLOCK;
 use crate::comparison::checkers::{Checker, Library};
 use crate::comparison::nettings::netting_difference;
-use crate::driver::{Driver, Line};
+use crate::driver::Driver;
 use crate::generate::memory::Sample;
 use crate::generate::netting::{Netting, LONG_CHAIN};
 use crate::memory::{MAX_BLOCKS, MAX_F, MAX_MOVEMENTS, MAX_PALLETS, MAX_REPLICAS};
@@ -17,6 +17,8 @@ use std::hint::black_box;
 
 const HEIGHTS: [usize; 2] = [BLOCK_SLOTS - 1, MAX_BLOCKS - 1];
 const MOVEMENTS: [usize; 5] = [0, MAX_MOVEMENTS / 8, MAX_MOVEMENTS / 4, MAX_MOVEMENTS / 2, MAX_MOVEMENTS];
+
+const NO_FIRMWARE: &str = "This was built without the feature `firmware`: there is no firmware to time.\n\n";
 
 type Named<'a> = (&'static str, &'a dyn Checker);
 
@@ -45,12 +47,7 @@ fn chain(height: usize, movements: usize) -> Netting {
     };
     Netting {
         sort: LONG_CHAIN,
-        memory: Sample {
-            table: driver.table,
-            log: driver.log,
-            blocks: driver.blocks,
-            line: Line::new(OPEN, 0, 0, &[]),
-        },
+        memory: Sample::left_by(driver),
         movements: (0..movements).flat_map(|place| movement(place).words()).collect(),
         block: height as u32,
         replica: 0,
@@ -66,8 +63,8 @@ pub fn section(firmware: Option<&dyn Checker>, calls: usize, runs: u64) -> Resul
         HEIGHTS.iter().map(|&height| measured(&checkers, height, calls, runs)).collect::<Result<_, _>>()?;
     let names: Vec<&str> = checkers.iter().map(|(name, _)| *name).collect();
     let steps: Vec<String> = names.iter().enumerate().map(|(place, name)| step(&all, place, name)).collect();
-    let none = if firmware.is_none() { "There is no firmware in this build (feature `firmware`). " } else { "" };
-    Ok((table(&names, &all), format!("{none}{}.", steps.join("; "))))
+    let none = if firmware.is_none() { NO_FIRMWARE } else { "" };
+    Ok((none.to_string() + &table(&names, &all), steps.join("; ") + "."))
 }
 
 fn measured(checkers: &[Named], height: usize, calls: usize, runs: u64) -> Result<Measured, String> {

@@ -99,6 +99,8 @@ impl Checker for Firmware {
     fn balance(&self, netting: &mut Netting) -> (u32, i32) {
         let mut balance = NO_BALANCE;
         let Netting { memory: Sample { table, log, blocks, .. }, movements, block, replica, .. } = netting;
+        // An empty list is lent as a caller in C may have it.
+        let list = if movements.is_empty() { std::ptr::null() } else { movements.as_ptr() };
         let answer = unsafe {
             yard_balance(
                 table.as_ptr(),
@@ -107,7 +109,7 @@ impl Checker for Firmware {
                 log.len(),
                 blocks.as_ptr(),
                 blocks.len(),
-                movements.as_ptr(),
+                list,
                 movements.len(),
                 *block,
                 *replica,

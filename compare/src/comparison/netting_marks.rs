@@ -130,8 +130,8 @@ const REASONS: &[(&str, u32, Test)] = &[
     ("wrong form", WRONG_FORM, |seen| !seen.sound_memory),
     ("broken records", WRONG_FORM, |seen| !seen.netting.movements.len().is_multiple_of(MOVEMENT_WORDS)),
     ("too many movements", WRONG_FORM, |seen| seen.netting.movements.len() > MOVEMENT_WORDS * MAX_MOVEMENTS),
-    ("the chosen replica is none", OUT_OF_RANGE, |seen| !seen.is_replica(seen.netting.replica)),
-    ("the chosen block is not added", UNKNOWN_NUMBER, |seen| seen.netting.block >= seen.added),
+    ("a chosen replica that is none", OUT_OF_RANGE, |seen| !seen.is_replica(seen.netting.replica)),
+    ("a chosen block not added", UNKNOWN_NUMBER, |seen| seen.netting.block >= seen.added),
     ("a movement of block 0", WRONG_MOVEMENT, |seen| seen.any(|m| m.block == 0)),
     ("a movement of a block not added", WRONG_MOVEMENT, |seen| seen.any(|m| m.block >= seen.added)),
     ("a giver that is no replica", WRONG_MOVEMENT, |seen| seen.any(|m| !seen.is_replica(m.giver))),
@@ -214,7 +214,7 @@ pub fn reached(seed: u64, nettings: u64) -> Result<Vec<(String, u64)>, String> {
 
 fn names() -> Vec<String> {
     let sorts = NETTING_SORTS.iter().map(|sort| sort.to_string());
-    let reasons = REASONS.iter().map(|(name, number, _)| format!("{number}, {name} alone"));
+    let reasons = REASONS.iter().map(|(name, number, _)| format!("{number} for {name} alone"));
     let pairs = PAIRS.iter().map(|(first, second)| format!("{first} where {second} holds too"));
     let marks = MARKS.iter().map(|(name, _)| name.to_string());
     sorts.chain(reasons).chain(pairs).chain(marks).collect()

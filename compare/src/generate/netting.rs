@@ -4,8 +4,8 @@ use super::memory::{sample, Sample};
 use super::movements::{any_list, extreme_list, Limits};
 use super::progress::ledger_in_progress;
 use crate::ancestry::ancestors;
-use crate::call::{BLOCK, OPEN};
-use crate::driver::{Driver, Line};
+use crate::call::BLOCK;
+use crate::driver::Driver;
 use crate::memory::*;
 use crate::mistake::{Correct, Rules};
 use crate::netting::balance;
@@ -84,7 +84,7 @@ fn decided_blocks(random: &mut Random) -> Sample {
     let slots = driver.issued() + random.below(2);
     driver.log.truncate(CERTIFICATE_WORDS * slots as usize);
     driver.blocks.truncate((driver.added() + random.below(2)) as usize);
-    left_by(driver)
+    Sample::left_by(driver)
 }
 
 /// Fresh replicas over up to as many blocks as there may be, each on the one before but for some forks.
@@ -98,9 +98,5 @@ fn long_chain(random: &mut Random) -> Sample {
         driver.blocks[block as usize] = if random.once_in(fork) { random.below(block) } else { block - 1 };
     }
     driver.table[header::ADDED] = added;
-    left_by(driver)
-}
-
-fn left_by(driver: Driver<Correct>) -> Sample {
-    Sample { table: driver.table, log: driver.log, blocks: driver.blocks, line: Line::new(OPEN, 0, 0, &[]) }
+    Sample::left_by(driver)
 }

@@ -167,7 +167,7 @@ fn any_memory_of_wrong_form() {
 /// Damaged memories and lists, with each mistake: no netting goes past a slice or a number's end.
 #[test]
 fn any_netting_is_answered() {
-    for seed in 1..=400 {
+    for seed in 1..=500 {
         let mut netting = netting(seed);
         let before = netting.clone();
         let answer = netting.run(Correct);

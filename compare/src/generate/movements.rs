@@ -48,6 +48,7 @@ pub fn any_list(random: &mut Random, limits: Limits, ancestry: &[u32]) -> Vec<u3
 /// As many movements as there may be, each of the most pallets, to one replica or from it.
 pub fn extreme_list(random: &mut Random, limits: Limits, ancestry: &[u32], replica: u32) -> Vec<u32> {
     let receives = random.once_in(2);
+    let replica = replica % limits.n;
     let mut movement = || {
         let other = (replica + random.within(1, limits.n - 1)) % limits.n;
         let (giver, taker) = if receives { (other, replica) } else { (replica, other) };

@@ -10,6 +10,11 @@ pub fn height(parents: &[u32], block: u32) -> u32 {
     fallen(parents, block).map_or(0, |parent| 1 + height(parents, parent))
 }
 
+/// The block, its parent, and so on up to block 0.
+pub fn ancestors(parents: &[u32], block: u32) -> impl Iterator<Item = u32> + '_ {
+    std::iter::successors(Some(block), |&block| fallen(parents, block))
+}
+
 /// The parent, where it is below the block (as in every memory of sound form).
 fn fallen(parents: &[u32], block: u32) -> Option<u32> {
     let parent = *parents.get(block as usize)?;

@@ -1,4 +1,5 @@
-//! An independent second implementation of the yard ledger's checker, written from document 01 alone.
+//! An independent second implementation of the yard ledger's checker, written from document 01 alone, and of the
+//! netting of movements, from document 02 alone.
 //!
 //! Simple before clever: each call looks for its refusal in the order of document 01's table, changes nothing if it
 //! finds one, and otherwise applies the change. Every call is total on any memory.
@@ -19,6 +20,7 @@ pub mod host;
 pub mod hunt;
 pub mod memory;
 pub mod mistake;
+pub mod netting;
 pub mod options;
 pub mod panel;
 pub mod quorum;

@@ -1,4 +1,4 @@
-//! The three lent slices and a replica's words (document 01, "Memory").
+//! The three lent slices and a replica's words (document 01, "Memory"); a movement's words (document 02, #101).
 
 /// Views, boots and the counter never pass this.
 pub const CEILING: u32 = 1_000_000;
@@ -10,6 +10,11 @@ pub const MAX_BLOCKS: usize = 4096;
 pub const HEADER: usize = 3;
 pub const REPLICA_WORDS: usize = 9;
 pub const CERTIFICATE_WORDS: usize = 7;
+pub const MOVEMENT_WORDS: usize = 4;
+/// Most movements that may be lent.
+pub const MAX_MOVEMENTS: usize = 2048;
+/// Most pallets of one movement.
+pub const MAX_PALLETS: u32 = 10_000;
 
 /// Where the table has its header's words.
 pub mod header {
@@ -29,6 +34,14 @@ pub mod replica_word {
     pub const STORED_BLOCK: usize = 6;
     pub const DECIDED_VIEW: usize = 7;
     pub const DECIDED_BLOCK: usize = 8;
+}
+
+/// Where a movement has each of its words.
+pub mod movement_word {
+    pub const BLOCK: usize = 0;
+    pub const GIVER: usize = 1;
+    pub const TAKER: usize = 2;
+    pub const PALLETS: usize = 3;
 }
 
 pub const LIVE: u32 = 0;

@@ -1,11 +1,11 @@
 //! Mistakes that can be switched on, one at a time, to show that the hunt and the comparison see them.
 
-/// The rules a call goes by: document 01's, or document 01's with one mistake.
+/// The rules a call or a netting goes by: the documents', or the documents' with one mistake.
 pub trait Rules: Copy {
     fn has(self, mistake: Mistake) -> bool;
 }
 
-/// Document 01 as it stands. Every question about a mistake folds away.
+/// The documents as they stand. Every question about a mistake folds away.
 #[derive(Clone, Copy, Debug)]
 pub struct Correct;
 
@@ -149,6 +149,33 @@ mistakes! {
     FormSubject "form-subject" "a certificate's subject is not tested" "no list of calls reaches it";
     FormCertificateBoot "form-certificate-boot" "a certificate's boot is not tested" "no list of calls reaches it";
     FormLastCertificate "form-last-certificate" "the last certificate is not tested" "no list of calls reaches it";
+    // Netting.
+    NettingSwapped "netting-swapped" "giver and taker stand for one another" "no call: netting changes no word";
+    NettingOnlyReceived "netting-only-received" "pallets given are not taken off" "no call: netting changes no word";
+    NettingUnsigned "netting-unsigned" "a balance below 0 is told as 0" "no call: netting changes no word";
+    NettingOutsideLine "netting-outside-line" "a movement outside the chosen block's ancestry counts" "no call: netting changes no word";
+    NettingByNumber "netting-by-number" "a movement of any block up to the chosen one's number counts" "no call: netting changes no word";
+    NettingNotItself "netting-not-itself" "the chosen block's own movements do not count" "no call: netting changes no word";
+    NettingOnlyItself "netting-only-itself" "only the chosen block's own movements count" "no call: netting changes no word";
+    NettingCountedOnly "netting-counted-only" "only movements that count are tested" "no call: netting changes no word";
+    NettingLast "netting-last" "the last movement is not looked at" "no call: netting changes no word";
+    NettingMostRefused "netting-most-refused" "a movement of 10,000 pallets is refused" "no call: netting changes no word";
+    NettingPastMost "netting-past-most" "a movement of 10,001 pallets is taken" "no call: netting changes no word";
+    NettingNoPallets "netting-no-pallets" "a movement of 0 pallets is taken" "no call: netting changes no word";
+    NettingBlockZero "netting-block-zero" "a movement of block 0 is taken" "no call: netting changes no word";
+    NettingNotAdded "netting-not-added" "a movement of a block not added is taken" "no call: netting changes no word";
+    NettingGiver "netting-giver" "the giver is not tested" "no call: netting changes no word";
+    NettingTaker "netting-taker" "the taker is not tested" "no call: netting changes no word";
+    NettingSelf "netting-self" "giver and taker may be one replica" "no call: netting changes no word";
+    NettingLong "netting-long" "a list of 2,049 movements is taken" "no call: netting changes no word";
+    NettingBroken "netting-broken" "of a list of broken records the whole ones are read" "no call: netting changes no word";
+    NettingEmpty "netting-empty" "an empty list is refused" "no call: netting changes no word";
+    NettingChosenZero "netting-chosen-zero" "block 0 is refused as the chosen block" "no call: netting changes no word";
+    NettingAnyBlock "netting-any-block" "the chosen block is not tested" "no call: netting changes no word";
+    NettingAnyReplica "netting-any-replica" "the chosen replica is not tested" "no call: netting changes no word";
+    NettingReplicaFirst "netting-replica-first" "the chosen replica is tested before the list: 2 before 1" "no call: netting changes no word";
+    NettingBlockFirst "netting-block-first" "the chosen block is tested before the replica: 3 before 2" "no call: netting changes no word";
+    NettingMovementsFirst "netting-movements-first" "the movements are tested before the chosen block: 11 before 3" "no call: netting changes no word";
     // Text.
     TextLeadingZero "text-leading-zero" "a field may have leading zeros" "a matter of text";
     TextBlankField "text-blank-field" "a field of blanks reads as 0" "a matter of text";
@@ -162,6 +189,11 @@ mistakes! {
 impl Mistake {
     pub fn named(name: &str) -> Option<Mistake> {
         Mistake::ALL.iter().copied().find(|m| m.name() == name)
+    }
+
+    /// Only a netting can show it.
+    pub fn is_of_netting(self) -> bool {
+        self.name().starts_with("netting-")
     }
 
     /// Demand 3 (no two conflicting decisions, no panel that falls) is broken by some list of calls.

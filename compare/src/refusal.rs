@@ -1,4 +1,4 @@
-//! The numbers that a call returns (document 01, the table under "Calls"), and the test that gives one.
+//! The numbers that a call returns (document 01, the table under "Calls"; document 02), and the test that gives one.
 
 pub const ACCEPTED: u32 = 0;
 /// Lengths or form wrong.
@@ -20,6 +20,8 @@ pub const COUNTER_LIMIT: u32 = 8;
 pub const NO_ROOM: u32 = 9;
 /// The line or the numbers make no call.
 pub const UNREADABLE: u32 = 10;
+/// Netting: a movement outside the rules.
+pub const WRONG_MOVEMENT: u32 = 11;
 
 /// What a call gives: two values, or the number of the refusal.
 pub type Answer = Result<(u32, u32), u32>;

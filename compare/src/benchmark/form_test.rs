@@ -1,9 +1,9 @@
 //! The form test of a full memory beside a bare sum of the same words, in one process.
 
 use super::timing::best_own;
-use crate::call::{BLOCK, OPEN};
+use crate::call::BLOCK;
 use crate::comparison::checkers::{Checker, Library};
-use crate::driver::{Driver, Line};
+use crate::driver::Driver;
 use crate::generate::memory::Sample;
 use crate::memory::{MAX_F, MAX_REPLICAS};
 use crate::mistake::Correct;
@@ -19,7 +19,7 @@ fn full_memory() -> Sample {
     for number in 0..CERTIFICATE_SLOTS as u32 {
         driver.enter(number % MAX_REPLICAS, number / MAX_REPLICAS + 1);
     }
-    Sample { table: driver.table, log: driver.log, blocks: driver.blocks, line: Line::new(OPEN, 0, 0, &[]) }
+    Sample::left_by(driver)
 }
 
 fn sum(sample: &Sample) -> u32 {

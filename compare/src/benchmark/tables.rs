@@ -3,7 +3,7 @@
 use super::fit::straight;
 use super::plot::Series;
 use super::timing::best;
-use super::{form_test, inputs};
+use super::{form_test, inputs, netting};
 use crate::comparison::checkers::Checker;
 use crate::comparison::programs::{output, Arrival};
 use crate::memory::MAX_F;
@@ -97,6 +97,16 @@ impl Bench<'_> {
             table += &format!("| {name} | {time:.2} | {:.2} |\n", time / times[0].1);
         }
         Ok(table)
+    }
+
+    /// One netting by its height and movements, and what a step of it costs.
+    pub fn netting(&self, firmware: Option<&dyn Checker>) -> Result<(String, String), String> {
+        netting::section(firmware, self.netting_calls(), self.runs)
+    }
+
+    /// Fewer than of other calls, as a netting takes longer.
+    pub fn netting_calls(&self) -> usize {
+        (self.calls / 10).max(1)
     }
 }
 

@@ -67,3 +67,14 @@ pub fn best_own(mut action: impl FnMut(), calls: usize, runs: u64) -> Result<f64
     }
     Ok(least)
 }
+
+/// The best time of many calls of each action in this process; the actions take turns.
+pub fn best_in_turn(actions: &mut [Box<dyn FnMut() + '_>], calls: usize, runs: u64) -> Result<Vec<f64>, Error> {
+    let mut times = vec![f64::INFINITY; actions.len()];
+    for _ in 0..runs.max(1) {
+        for (time, action) in times.iter_mut().zip(actions.iter_mut()) {
+            *time = time.min(best_own(action, calls, 1)?);
+        }
+    }
+    Ok(times)
+}

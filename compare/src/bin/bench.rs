@@ -6,6 +6,7 @@
 
 use judge::benchmark::inputs::LONG_LINE;
 use judge::benchmark::machine;
+use judge::benchmark::netting::most_steps;
 use judge::benchmark::plot::svg;
 use judge::benchmark::tables::{fit, thousands, Bench};
 use judge::comparison::checkers::Checker;
@@ -40,27 +41,40 @@ fn work(options: &Options) -> Result<(), String> {
     };
     let (ratios, text) = bench.ratios()?;
     let (growth, series) = bench.growth()?;
-    let parts = [
+    let (netting, steps) = bench.netting(firmware())?;
+    let measured = [
         ("machine", machine::description()),
         ("ratios", ratios),
         ("text", text),
         ("growth", growth),
         ("fit", fit(&series)),
         ("form", bench.form(firmware())?),
+        ("netting", netting),
+        ("steps", steps),
+    ];
+    measured.iter().for_each(|(_, part)| println!("{}\n", part.trim_end()));
+    write(options.text("svg").unwrap_or("../docs/benchmark.svg"), &svg(&series))?;
+    match options.text("page") {
+        Some(path) => write(path, &page(&[&measured[..], &sizes(&bench)].concat())),
+        None => Ok(()),
+    }
+}
+
+/// What the page says of how much was run.
+fn sizes(bench: &Bench) -> [(&'static str, String); 10] {
+    let (most_steps, steps_of_walks) = most_steps();
+    [
         ("runs", bench.runs.to_string()),
         ("calls", thousands(bench.calls)),
+        ("netting calls", thousands(bench.netting_calls())),
+        ("most steps", thousands(most_steps)),
+        ("steps of walks", thousands(steps_of_walks)),
         ("f", MAX_F.to_string()),
         ("replicas", MAX_REPLICAS.to_string()),
         ("certificates", thousands(CERTIFICATE_SLOTS)),
         ("blocks", thousands(BLOCK_SLOTS)),
         ("long", thousands(LONG_LINE)),
-    ];
-    parts[..6].iter().for_each(|(_, part)| println!("{}\n", part.trim_end()));
-    write(options.text("svg").unwrap_or("../docs/benchmark.svg"), &svg(&series))?;
-    match options.text("page") {
-        Some(path) => write(path, &page(&parts)),
-        None => Ok(()),
-    }
+    ]
 }
 
 /// The page with its parts in their places.

@@ -1,18 +1,23 @@
-//! `compare`: two programs on generated scripts, the firmware and the library on random memories.
+//! `compare`: two programs on generated scripts, the firmware and the library on random memories and nettings.
 //!
 //! compare --yard PATH --second PATH [--scenarios DIR] [--seconds N] [--seed N]   scripts, byte for byte
 //! compare --memories [--seconds N] [--seed N]   memories: the firmware (feature `firmware`), else the library itself
+//! compare --nettings [--seconds N] [--seed N]   lists of movements on memories, the same two
 //! compare --self [--mistake NAME] [--seconds N] [--seed N]   the library, with a mistake if one is named, and itself
 //! compare --mistakes [--seed N]                 which mistakes the generators tell apart, and by what
 //! compare --coverage [--seed N]                 what the generators reach, and how often
 //! compare --script SEED                         prints the script of a seed
 
 use judge::comparison::checkers::{Checker, Library};
+use judge::comparison::mistakes::Most;
+use judge::comparison::nettings::netting_difference;
 use judge::comparison::programs::{first_difference, output, Arrival};
 use judge::comparison::samples::{call_difference, difference, panel_difference};
 use judge::comparison::shrink::{sample_text, shrink_sample, shrink_script};
+use judge::comparison::shrink_netting::{netting_text, shrink_netting};
 use judge::comparison::{coverage, mistakes};
 use judge::field::COLUMNS;
+use judge::generate::netting::netting;
 use judge::generate::scripts::script;
 use judge::mistake::{Correct, Mistake};
 use judge::options::Options;
@@ -24,8 +29,10 @@ use std::time::{Duration, Instant};
 type Run<'a> = &'a dyn Fn(&[u8], Arrival) -> Result<Vec<u8>, String>;
 
 fn main() -> ExitCode {
-    let known = ["yard", "second", "scenarios", "seconds", "seed", "script", "scripts", "count", "mistake"];
-    match Options::read(&known, &["memories", "self", "mistakes", "coverage"]).and_then(|options| work(&options)) {
+    let known =
+        ["yard", "second", "scenarios", "seconds", "seed", "script", "scripts", "count", "netting-count", "mistake"];
+    let flags = ["memories", "nettings", "self", "mistakes", "coverage"];
+    match Options::read(&known, &flags).and_then(|options| work(&options)) {
         Ok(()) => ExitCode::SUCCESS,
         Err(message) => {
             eprintln!("compare: {message}");
@@ -41,11 +48,12 @@ fn work(options: &Options) -> Result<(), String> {
         return std::io::stdout().write_all(&script(seed).text).map_err(|error| error.to_string());
     }
     let (scripts, memories) = (options.number("scripts"), options.number("count").unwrap_or(400_000));
+    let nettings = options.number("netting-count").unwrap_or(100_000);
     if options.flag("coverage") {
-        return coverage::tell(seed, scripts.unwrap_or(1000), memories);
+        return coverage::tell(seed, scripts.unwrap_or(1000), memories, nettings);
     }
     if options.flag("mistakes") {
-        return mistakes::tell(seed, scripts.unwrap_or(300), memories)
+        return mistakes::tell(seed, scripts.unwrap_or(300), Most { memories, nettings })
             .then_some(())
             .ok_or("a mistake is missed".to_string());
     }
@@ -55,8 +63,11 @@ fn work(options: &Options) -> Result<(), String> {
     if options.flag("memories") {
         return compare_memories(checker().as_ref(), seed, time);
     }
+    if options.flag("nettings") {
+        return compare_nettings(checker().as_ref(), seed, time);
+    }
     let (Some(yard), Some(second)) = (options.text("yard"), options.text("second")) else {
-        return Err("give --yard PATH and --second PATH, or --memories, --self or --mistakes".to_string());
+        return Err("give --yard PATH and --second PATH, or --memories, --nettings, --self or --mistakes".to_string());
     };
     if let Some(directory) = options.text("scenarios") {
         compare_scenarios(directory, &[yard, second])?;
@@ -70,7 +81,8 @@ fn compare_library(mistake: Option<&str>, seed: u64, time: Duration) -> Result<(
     let rules = mistake.map(|name| Mistake::named(name).ok_or(format!("no mistake {name}"))).transpose()?;
     let scripts = compare_scripts(&|text, _| Ok(run(rules, text)), &|text, _| Ok(run(Correct, text)), seed, time);
     let memories = compare_memories(&Library(rules), seed, time);
-    scripts.and(memories)
+    let nettings = compare_nettings(&Library(rules), seed, time);
+    scripts.and(memories).and(nettings)
 }
 
 #[cfg(feature = "firmware")]
@@ -156,6 +168,24 @@ fn compare_memories(checker: &dyn Checker, seed: u64, time: Duration) -> Result<
         count += 1;
     }
     println!("{count} memories, no difference (seeds {seed} to {})", seed + count - 1);
+    Ok(())
+}
+
+fn compare_nettings(checker: &dyn Checker, seed: u64, time: Duration) -> Result<(), String> {
+    let start = Instant::now();
+    let tell = |netting: &_| netting_difference(checker, &Library(Correct), netting);
+    let mut count = 0;
+    while count == 0 || count % 256 != 0 || start.elapsed() < time {
+        let netting = netting(seed + count);
+        if let Some(told) = tell(&netting) {
+            println!("seed {} ({}): {told}", seed + count, netting.sort);
+            let small = shrink_netting(&netting, |netting| tell(netting).is_some());
+            println!("smallest netting:\n{}  {}", netting_text(&small), tell(&small).unwrap_or_default());
+            return Err("nettings differ".to_string());
+        }
+        count += 1;
+    }
+    println!("{count} nettings, no difference (seeds {seed} to {})", seed + count - 1);
     Ok(())
 }
 

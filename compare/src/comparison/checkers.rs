@@ -1,17 +1,20 @@
-//! What is compared on memories: the library by any rules, and (feature `firmware`) the proved firmware.
+//! What is compared on memories and nettings: the library by any rules, and (feature `firmware`) the proved firmware.
 
 use crate::call::Outcome;
 use crate::field::{read_number, write_number};
 use crate::generate::memory::Sample;
+use crate::generate::netting::Netting;
 use crate::mistake::Rules;
 use crate::panel::panel;
 use crate::refusal::ACCEPTED;
 
-/// The four functions of the C interface.
+/// The five functions of the C interface.
 pub trait Checker {
     fn call(&self, sample: &mut Sample) -> Outcome;
     /// Number returned and height.
     fn panel(&self, sample: &mut Sample, replica: u32) -> (u32, u32);
+    /// Number returned and balance.
+    fn balance(&self, netting: &mut Netting) -> (u32, i32);
     fn read_number(&self, bytes: &[u8]) -> u32;
     fn write_number(&self, number: u32, bytes: &mut [u8]) -> u32;
 }
@@ -27,6 +30,13 @@ impl<R: Rules> Checker for Library<R> {
     fn panel(&self, sample: &mut Sample, replica: u32) -> (u32, u32) {
         match panel(self.0, &sample.memory(), replica) {
             Ok(height) => (ACCEPTED, height),
+            Err(refusal) => (refusal, 0),
+        }
+    }
+
+    fn balance(&self, netting: &mut Netting) -> (u32, i32) {
+        match netting.run(self.0) {
+            Ok(balance) => (ACCEPTED, balance),
             Err(refusal) => (refusal, 0),
         }
     }

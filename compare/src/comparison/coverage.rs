@@ -1,7 +1,8 @@
 //! What the generators reach: how often each call gets each answer, which f are opened, and the marks that the
-//! comparison is meant to hit.
+//! comparison is meant to hit, on script lines and on nettings.
 
 use super::marks::{seen_lines, Seen, MARKS};
+use super::netting_marks;
 use crate::call::{LAST_CODE, OPEN};
 use crate::generate::memory::sample;
 use crate::generate::scripts::{script, Script, SORTS};
@@ -15,7 +16,7 @@ type Counts = [[u64; UNREADABLE as usize + 1]; OTHER_CODE as usize + 1];
 const OTHER_CODE: u32 = LAST_CODE + 1;
 
 /// Prints it all; what is not reached at all is an error.
-pub fn tell(seed: u64, scripts: u64, memories: u64) -> Result<(), String> {
+pub fn tell(seed: u64, scripts: u64, memories: u64, nettings: u64) -> Result<(), String> {
     let mut counts: Counts = Default::default();
     for seed in seed..seed + memories {
         let mut sample = sample(seed);
@@ -30,7 +31,16 @@ pub fn tell(seed: u64, scripts: u64, memories: u64) -> Result<(), String> {
         marks: vec![0; MARKS.len()],
     };
     (seed..seed + scripts).for_each(|seed| reached.add(&script(seed)));
-    reached.tell()
+    print("script lines", &reached.counts);
+    let mut all = reached.named();
+    all.extend(netting_marks::reached(seed, nettings)?);
+    all.iter().for_each(|(name, count)| println!("{name:64}{count:9}"));
+    let missed: Vec<&str> = all.iter().filter(|(_, count)| *count == 0).map(|(name, _)| name.as_str()).collect();
+    if missed.is_empty() {
+        Ok(())
+    } else {
+        Err(format!("not reached: {}", missed.join(", ")))
+    }
 }
 
 fn count(counts: &mut Counts, code: u32, answer: u32) {
@@ -73,18 +83,10 @@ impl Reached {
         }
     }
 
-    fn tell(&self) -> Result<(), String> {
-        print("script lines", &self.counts);
+    fn named(&self) -> Vec<(String, u64)> {
         let sorts = SORTS.iter().map(|sort| sort.to_string()).zip(&self.sorts);
         let opened = (1..=MAX_F).map(|f| format!("openings with f = {f}")).zip(&self.opened);
         let marks = MARKS.iter().map(|(mark, _)| mark.to_string()).zip(&self.marks);
-        let all: Vec<(String, &u64)> = sorts.chain(opened).chain(marks).collect();
-        all.iter().for_each(|(name, count)| println!("{name:56}{count:9}"));
-        let missed: Vec<&str> = all.iter().filter(|(_, count)| **count == 0).map(|(name, _)| name.as_str()).collect();
-        if missed.is_empty() {
-            Ok(())
-        } else {
-            Err(format!("not reached: {}", missed.join(", ")))
-        }
+        sorts.chain(opened).chain(marks).map(|(name, count)| (name, *count)).collect()
     }
 }

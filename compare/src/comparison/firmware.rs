@@ -3,6 +3,7 @@
 use super::checkers::Checker;
 use crate::call::Outcome;
 use crate::generate::memory::Sample;
+use crate::generate::netting::Netting;
 
 extern "C" {
     fn yard_read_number(bytes: *const u8, length: usize) -> u32;
@@ -32,11 +33,27 @@ extern "C" {
         replica: u32,
         height: *mut u32,
     ) -> u32;
+    fn yard_balance(
+        table: *const u32,
+        table_length: usize,
+        log: *const u32,
+        log_length: usize,
+        blocks: *const u32,
+        blocks_length: usize,
+        movements: *const u32,
+        movements_length: usize,
+        block: u32,
+        replica: u32,
+        balance: *mut i32,
+    ) -> u32;
 }
+
+/// What no netting gives, so that a balance left unwritten shows.
+const NO_BALANCE: i32 = i32::MIN;
 
 pub struct Firmware;
 
-// SAFETY (all four): pointers and lengths come from slices that live through the call and do not overlap.
+// SAFETY (all five): pointers and lengths come from slices that live through the call and do not overlap.
 impl Checker for Firmware {
     fn call(&self, sample: &mut Sample) -> Outcome {
         let (mut first, mut second) = (u32::MAX, u32::MAX);
@@ -77,6 +94,29 @@ impl Checker for Firmware {
             )
         };
         (answer, height)
+    }
+
+    fn balance(&self, netting: &mut Netting) -> (u32, i32) {
+        let mut balance = NO_BALANCE;
+        let Netting { memory: Sample { table, log, blocks, .. }, movements, block, replica, .. } = netting;
+        // An empty list is lent as a caller in C may have it.
+        let list = if movements.is_empty() { std::ptr::null() } else { movements.as_ptr() };
+        let answer = unsafe {
+            yard_balance(
+                table.as_ptr(),
+                table.len(),
+                log.as_ptr(),
+                log.len(),
+                blocks.as_ptr(),
+                blocks.len(),
+                list,
+                movements.len(),
+                *block,
+                *replica,
+                &mut balance,
+            )
+        };
+        (answer, balance)
     }
 
     fn read_number(&self, bytes: &[u8]) -> u32 {

@@ -1,7 +1,9 @@
-//! Shows that the comparison sees: each mistake is told apart by the generated scripts, by the memories, or by both.
+//! Shows that the comparison sees: each mistake is told apart by the generated scripts, the memories or the nettings.
 
 use super::checkers::Library;
+use super::nettings::netting_difference;
 use super::samples::difference;
+use crate::generate::netting::netting;
 use crate::generate::scripts::{script, Script};
 use crate::mistake::{Correct, Mistake};
 use crate::script::{run, ANSWER_BYTES};
@@ -26,33 +28,57 @@ impl Scripts {
     }
 }
 
+/// How many memories and nettings may be looked through for one mistake.
+pub struct Most {
+    pub memories: u64,
+    pub nettings: u64,
+}
+
 /// The number of memories it took.
-fn memories_tell_apart(mistake: Mistake, seed: u64, count: u64) -> Option<u64> {
-    (0..count).find(|i| difference(&Library(Some(mistake)), &Library(Correct), seed + i).is_some()).map(|i| i + 1)
+fn memories_tell_apart(mistake: Mistake, seed: u64, most: u64) -> Option<u64> {
+    (0..most).find(|i| difference(&Library(Some(mistake)), &Library(Correct), seed + i).is_some()).map(|i| i + 1)
+}
+
+/// The number of nettings it took.
+fn nettings_tell_apart(mistake: Mistake, seed: u64, most: u64) -> Option<u64> {
+    let differs = |seed| netting_difference(&Library(Some(mistake)), &Library(Correct), &netting(seed)).is_some();
+    (0..most).find(|i| differs(seed + i)).map(|i| i + 1)
 }
 
 /// Prints which mistakes are seen by what; true if none is missed.
-pub fn tell(seed: u64, scripts: u64, memories: u64) -> bool {
+pub fn tell(seed: u64, scripts: u64, most: Most) -> bool {
     let generated = Scripts::generate(seed, scripts);
-    println!("{scripts} scripts ({} lines) and up to {memories} memories, seed {seed}", generated.lines());
-    let (mut both, mut by_scripts, mut by_memories, mut missed) = (vec![], vec![], vec![], vec![]);
+    let Most { memories, nettings } = most;
+    let lines = generated.lines();
+    println!("{scripts} scripts ({lines} lines), up to {memories} memories and {nettings} nettings, seed {seed}");
+    let mut groups: Vec<(String, Vec<&str>)> = Vec::new();
     for &mistake in Mistake::ALL {
-        let name = mistake.name();
-        let script = generated.tell_apart(mistake);
-        let memory = memories_tell_apart(mistake, seed, memories);
-        let by_script = script.map_or("not seen".to_string(), |(place, sort)| format!("script {place} ({sort})"));
-        let by_memory = memory.map_or("not seen".to_string(), |count| format!("memory {count}"));
-        println!("{name:26}{by_script:34}{by_memory}");
-        match (script.is_some(), memory.is_some()) {
-            (true, true) => both.push(name),
-            (true, false) => by_scripts.push(name),
-            (false, true) => by_memories.push(name),
-            (false, false) => missed.push(name),
-        }
+        // Scripts and memories make calls, and no call looks at a movement.
+        let calls = !mistake.is_of_netting();
+        let script = calls.then(|| generated.tell_apart(mistake)).flatten();
+        let memory = calls.then(|| memories_tell_apart(mistake, seed, memories)).flatten();
+        let netting = nettings_tell_apart(mistake, seed, nettings);
+        let other = if calls { "not seen" } else { "no call" };
+        let by_script = script.map_or(other.to_string(), |(place, sort)| format!("script {place} ({sort})"));
+        let by_memory = memory.map_or(other.to_string(), |count| format!("memory {count}"));
+        let by_netting = netting.map_or("not seen".to_string(), |count| format!("netting {count}"));
+        println!("{:26}{by_script:34}{by_memory:18}{by_netting}", mistake.name());
+        let seen = [("scripts", script.is_some()), ("memories", memory.is_some()), ("nettings", netting.is_some())];
+        add(&mut groups, &seen, mistake.name());
     }
-    println!("\nseen by both ({}): {}", both.len(), both.join(", "));
-    println!("only by scripts ({}): {}", by_scripts.len(), by_scripts.join(", "));
-    println!("only by memories ({}): {}", by_memories.len(), by_memories.join(", "));
-    println!("missed ({}): {}", missed.len(), missed.join(", "));
-    missed.is_empty()
+    println!();
+    groups.iter().for_each(|(by, names)| println!("{by} ({}): {}", names.len(), names.join(", ")));
+    groups.iter().all(|(by, _)| by != MISSED)
+}
+
+const MISSED: &str = "missed";
+
+/// Puts the name with those that the same sorts of input see.
+fn add(groups: &mut Vec<(String, Vec<&'static str>)>, seen: &[(&str, bool)], name: &'static str) {
+    let by: Vec<&str> = seen.iter().filter(|(_, seen)| *seen).map(|(sort, _)| *sort).collect();
+    let by = if by.is_empty() { MISSED.to_string() } else { format!("seen by {}", by.join(", ")) };
+    match groups.iter_mut().find(|(known, _)| *known == by) {
+        Some((_, names)) => names.push(name),
+        None => groups.push((by, vec![name])),
+    }
 }

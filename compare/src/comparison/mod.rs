@@ -1,4 +1,4 @@
-//! The comparison of two programs on scripts and of two checkers on memories.
+//! The comparison of two programs on scripts and of two checkers on memories and nettings.
 
 pub mod checkers;
 pub mod coverage;
@@ -6,7 +6,10 @@ pub mod coverage;
 pub mod firmware;
 pub mod marks;
 pub mod mistakes;
+pub mod netting_marks;
+pub mod nettings;
 pub mod programs;
 pub mod renumber;
 pub mod samples;
 pub mod shrink;
+pub mod shrink_netting;

@@ -5,7 +5,7 @@ use crate::generate::memory::Sample;
 use crate::memory::{header, Replica, CERTIFICATE_WORDS, HEADER, REPLICA_WORDS};
 use std::time::{Duration, Instant};
 
-const TIME: Duration = Duration::from_secs(20);
+pub const TIME: Duration = Duration::from_secs(20);
 
 /// Leaves out runs of lines, long ones first, again and again until nothing more can go; then joins what is left.
 pub fn shrink_script(script: &[u8], differs: impl Fn(&[u8]) -> bool) -> Vec<u8> {
@@ -123,12 +123,15 @@ fn candidates(sample: &Sample) -> Vec<Sample> {
 
 /// The memory and its call, as text that a person can read.
 pub fn sample_text(sample: &Sample) -> String {
+    format!("  call {}\n{}", sample.line.text(), memory_text(sample))
+}
+
+pub fn memory_text(sample: &Sample) -> String {
     let rows =
         |words: &[u32], width: usize| words.chunks(width).map(|row| format!("    {row:?}\n")).collect::<String>();
     let (head, replicas) = sample.table.split_at(sample.table.len().min(HEADER));
     format!(
-        "  call {}\n  table {head:?}\n{}  log, {} words\n{}  blocks {:?}\n",
-        sample.line.text(),
+        "  table {head:?}\n{}  log, {} words\n{}  blocks {:?}\n",
         rows(replicas, REPLICA_WORDS),
         sample.log.len(),
         rows(&sample.log, CERTIFICATE_WORDS),

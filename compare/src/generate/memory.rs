@@ -4,7 +4,7 @@ use super::perturb::{damage_form, nudge};
 use super::ready::make_ready;
 use crate::call::*;
 use crate::certificate::{Certificate, FIRST_KIND, LAST_KIND};
-use crate::driver::Line;
+use crate::driver::{Driver, Line};
 use crate::memory::*;
 use crate::mistake::{Correct, Rules};
 use crate::random::Random;
@@ -19,6 +19,12 @@ pub struct Sample {
 }
 
 impl Sample {
+    /// The memory that a driver leaves, where its own call does not matter.
+    pub fn left_by(driver: Driver<Correct>) -> Sample {
+        let Driver { table, log, blocks, .. } = driver;
+        Sample { table, log, blocks, line: Line::new(OPEN, 0, 0, &[]) }
+    }
+
     pub fn memory(&mut self) -> Memory<'_> {
         Memory { table: &mut self.table, log: &mut self.log, blocks: &mut self.blocks }
     }

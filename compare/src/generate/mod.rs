@@ -1,9 +1,11 @@
-//! Seeded generators: scripts, and memories with one call each.
+//! Seeded generators: scripts, memories with one call each, and nettings.
 
 pub mod boundary;
 pub mod chunks;
 pub mod damage;
 pub mod memory;
+pub mod movements;
+pub mod netting;
 pub mod perturb;
 pub mod progress;
 pub mod ready;

@@ -17,9 +17,16 @@ struct Progress {
     commits: Vec<u32>,
 }
 
+/// The lines of a ledger in progress.
+pub fn progress(random: Random, f: u32, lines: usize, hostile: bool) -> Vec<Line> {
+    let mut trace = ledger_in_progress(random, f, lines, hostile).lines();
+    trace.truncate(lines);
+    trace
+}
+
 /// A ledger that decides until the lines are used up or the log is full, and goes on a little then. With `hostile`,
 /// random hosts cut in after each round.
-pub fn progress(mut random: Random, f: u32, lines: usize, hostile: bool) -> Vec<Line> {
+pub fn ledger_in_progress(mut random: Random, f: u32, lines: usize, hostile: bool) -> Driver<Correct> {
     let driver = Driver::open(Correct, f, CERTIFICATE_SLOTS, BLOCK_SLOTS);
     let view = random.within(0, 3);
     let hosts = Explorer { driver, random, noise: 8 };
@@ -41,9 +48,7 @@ pub fn progress(mut random: Random, f: u32, lines: usize, hostile: bool) -> Vec<
             progress.disturb();
         }
     }
-    let mut trace = progress.hosts.driver.lines();
-    trace.truncate(lines);
-    trace
+    progress.hosts.driver
 }
 
 impl Progress {

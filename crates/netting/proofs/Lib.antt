@@ -8,3 +8,4 @@ pub mod Moving
 pub mod Tallying
 pub mod Answering
 pub mod Refusing
+pub mod Cases

@@ -14,7 +14,7 @@
 #define YARD_TABLE_WORDS(f) (3 + 9 * (2 * (f) + 1))
 #define YARD_CERTIFICATE_WORDS 7
 
-/* Lent to yard_balance alone: at most 2048 movements of four words each, which are its block, its giver, its taker and its pallets. */
+/* Lent to yard_balance alone: at most 2048 movements of four words each (block, giver, taker, pallets). */
 #define YARD_MOVEMENT_WORDS 4
 #define YARD_MAX_MOVEMENTS 2048
 
@@ -37,8 +37,8 @@ uint32_t yard_call(uint32_t code, uint32_t replica, uint32_t number, const uint3
 
 /* The height of a replica's decided block: 0, or 1 for wrong form and 2 for a replica out of range with a height of 0.
  *
- * Stack, measured on x86-64: 112 bytes, and 32 for each block of the line, block 0 too. That is 131,184 bytes for a line of 4,096 blocks,
- * the longest there is: more than a thread of 128 KB has. */
+ * Stack, measured on x86-64, arguments included: 112 bytes, and 32 for each block of the line, block 0 too. That is 131,184 bytes for a
+ * line of 4,096 blocks, the longest there is: more than a thread of 128 KB has. */
 uint32_t yard_panel(const uint32_t *table, size_t table_length, const uint32_t *log, size_t log_length, const uint32_t *blocks,
                     size_t blocks_length, uint32_t replica, uint32_t *height);
 
@@ -58,8 +58,8 @@ uint32_t yard_panel(const uint32_t *table, size_t table_length, const uint32_t *
  * breaks the rules above. The balance is always written: 0 where refused, so look at the answer first, and never beyond 20,480,000 either
  * way. No word of the four slices changes.
  *
- * Stack, measured on x86-64: 4,464 bytes, and 32 for every 16 steps up the line, at most 256 times. That is 12,656 bytes for a line of
- * 4,096 blocks. */
+ * Stack, measured on x86-64, arguments included: 4,464 bytes, and a frame of 32 for every 16 steps up the line, 256 frames at most. That
+ * is 12,656 bytes for a line of 4,096 blocks. */
 uint32_t yard_balance(const uint32_t *table, size_t table_length, const uint32_t *log, size_t log_length, const uint32_t *blocks,
                       size_t blocks_length, const uint32_t *movements, size_t movements_length, uint32_t block, uint32_t replica,
                       int32_t *balance);

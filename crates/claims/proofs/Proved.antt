@@ -13,6 +13,10 @@ use Rattle.field.proofs.Counts.{count-is-least}
 use Rattle.field.proofs.Theorems.{written-reads-back, read-writes-back, read-is-bounded}
 use Rattle.protocol.proofs.Agreement.{agreement, words-match-history, only-appended, would-agree}
 use Rattle.ledger.proofs.Theorems.{panel-shows-history, panel-never-falls}
+use Rattle.netting.proofs.Theorems.{netting-changes-nothing, refused-netting-is-zero, netting-lowest-wins, netting-past-counts-unread}
+use Rattle.netting.proofs.Theorems.{balances-add-up, balances-bounded, longer-counts-more, equally-long-is-one, counts-match-history}
+use Rattle.netting.proofs.Theorems.{netting-matches-history, decided-can-be-netted}
+use Rattle.netting.proofs.Cases.{netting-cases-hold}
 use Rattle.script.proofs.Agreement.{scripts-agree, script-is-execution}
 use Rattle.stream.proofs.Agreement.{program-agrees}
 
@@ -49,4 +53,16 @@ proved =
       programAgrees = program-agrees;
       workedScriptTells = worked-script-tells;
       workedScriptOpens = worked-script-opens;
+      nettingChangesNothing = netting-changes-nothing;
+      refusedNettingIsZero = refused-netting-is-zero;
+      nettingLowestWins = netting-lowest-wins;
+      nettingPastCountsUnread = netting-past-counts-unread;
+      balancesAddUp = balances-add-up;
+      balancesBounded = balances-bounded;
+      longerCountsMore = longer-counts-more;
+      equallyLongIsOne = equally-long-is-one;
+      countsMatchHistory = counts-match-history;
+      nettingMatchesHistory = netting-matches-history;
+      decidedCanBeNetted = decided-can-be-netted;
+      nettingCasesHold = netting-cases-hold;
     }

@@ -10,6 +10,10 @@ use Rattle.stream.specs.Cases.{WorkedScript, WorkedScriptTells, WorkedScriptOpe
 use Rattle.field.specs.Theorems.{CountIsLeast, WrittenReadsBack, ReadWritesBack, ReadIsBounded}
 use Rattle.protocol.specs.Agreement.{Agreement, WordsMatchHistory, OnlyAppended, WouldAgree}
 use Rattle.ledger.specs.Theorems.{PanelShowsHistory, PanelNeverFalls}
+use Rattle.netting.specs.Theorems.{NettingChangesNothing, RefusedNettingIsZero, NettingLowestWins, NettingPastCountsUnread}
+use Rattle.netting.specs.Theorems.{BalancesAddUp, BalancesBounded, LongerCountsMore, EquallyLongIsOne, CountsMatchHistory}
+use Rattle.netting.specs.Theorems.{NettingMatchesHistory, DecidedCanBeNetted}
+use Rattle.netting.specs.Cases.{NettingCasesHold}
 use Rattle.script.specs.Agreement.{ScriptsAgree, ScriptIsExecution}
 use Rattle.stream.specs.Agreement.{ProgramAgrees}
 
@@ -77,3 +81,28 @@ pub record Claims : Type 0 where
   pub workedScriptTells : WorkedScriptTells
   -- the premise of ProgramAgrees holds of it
   pub workedScriptOpens : WorkedScriptOpens
+  -- ---- Netting (document 02, #101).
+  -- a netting changes no word
+  pub nettingChangesNothing : NettingChangesNothing
+  -- a refused one returns the number of a need that fails and two zeros
+  pub refusedNettingIsZero : RefusedNettingIsZero
+  -- of several refusals the lowest is returned
+  pub nettingLowestWins : NettingLowestWins
+  -- words past the counts change no balance
+  pub nettingPastCountsUnread : NettingPastCountsUnread
+  -- all balances add up to 0
+  pub balancesAddUp : BalancesAddUp
+  -- a balance is within 20,480,000 either way
+  pub balancesBounded : BalancesBounded
+  -- of two decided blocks the one with the longer line counts every movement that the other counts
+  pub longerCountsMore : LongerCountsMore
+  -- two decided blocks with equally long lines are one
+  pub equallyLongIsOne : EquallyLongIsOne
+  -- what counts by the words counts by the parents given
+  pub countsMatchHistory : CountsMatchHistory
+  -- a balance is that by the parents given
+  pub nettingMatchesHistory : NettingMatchesHistory
+  -- every decided block can be netted
+  pub decidedCanBeNetted : DecidedCanBeNetted
+  -- worked nettings
+  pub nettingCasesHold : NettingCasesHold

@@ -1,5 +1,6 @@
-// The numbers of documents 01 and 02 as the code has them. They have the names of protocol/specs/, in upper case. A function for each group, that
-// nothing calls, holds them to the definitions: where a number differs, the check names it here, before it looks at any crate above.
+// The numbers of documents 01 and 02 as the code has them. They have the names of protocol/specs/, in upper case. A function for each
+// group, that nothing calls, holds them to the definitions: where a number differs, the check names it here, before it looks at any crate
+// above.
 ghost use mathlib.Core.Path.{_≡_};
 ghost use mathlib.Core.List.{[], _∷_};
 ghost use Rattle.protocol.specs.Memory.{

@@ -1,20 +1,19 @@
 -- What a netting answers, once its first needs hold.
-use Prim.Native.Nat.{ℕ, _<_}
-use mathlib.Core.Path.{_≡_, refl, sym, ap, _∙_}
+use Prim.Native.Nat.{ℕ}
+use mathlib.Core.Path.{_≡_, refl, sym, _∙_}
 use mathlib.Core.Bool.{Bool, true, false, or-false}
 use mathlib.Core.List.{List}
 use native.Mathlib.Omega.{arith}
 use lib.Dec.{ltb}
-use lib.ListN.{length, getD, replicate, getD-replicate, length-replicate, List·getD-eq-default}
+use lib.ListN.{getD, replicate, getD-replicate, length-replicate, List·getD-eq-default}
 use lib.IntN.{ℤ, pos}
 use mir.Syntax.{w32}
 use mir.Val.{ofZ, toZ}
 use mir.Facts.{toZ-ofZ}
 use Rattle.protocol.specs.declared.Movement.{Movement}
 use Rattle.protocol.specs.Memory.{maxFaultBound, replicaCount, maxBlocks}
-use Rattle.protocol.specs.Form.{allBelow}
 use Rattle.protocol.specs.Outcome.{firstRefusal, wrongMovement}
-use Rattle.protocol.specs.Movements.{movement, movementCount, movementAllowed}
+use Rattle.protocol.specs.Movements.{movement, movementCount}
 use Rattle.protocol.proofs.Booleans.{tests, by-test, at-below}
 use Rattle.ancestry.specs.inner.AncestryFits.{parentIn, LineMarked}
 use Rattle.netting.specs.declared.Netted.{Netted}
@@ -54,11 +53,11 @@ module _ (blocks movements : List ℕ) (b i replicas added : ℕ) (h : Nettable 
     reads-back : allowed ≡ true → toZ w32 (ofZ w32 (getD xs i (pos 0))) ≡ balanceBy (parentIn blocks) movements b i
     reads-back e =
         let each = at-below (movementCount movements) _ (sym (t .tested) ∙ e) in
-        let small = balance-small (marked line) movements (movementCount movements)
-        (λ k l. is-allowed replicas added (movement movements k) (each k l) .few) (list-short movements (h .list)) i in
+        let small = balance-small (marked line) movements (movementCount movements) i
+        (λ k l. is-allowed replicas added (movement movements k) (each k l) .few) (list-short movements (h .list)) in
         rw (t .firms e i (h .firm))
         (toZ-ofZ (small-fits (balanceAfter (marked line) movements (movementCount movements) i) (omega arith))
-        ∙ balance-same (marked line) movements (countsBy (parentIn blocks) b) counts-marked (movementCount movements) i)
+        ∙ balance-same (marked line) (countsBy (parentIn blocks) b) counts-marked movements (movementCount movements) i)
 
     pub nets-all : allowed ≡ true → {r : Netted}
         → r ≡ record { number = 0; balance = toZ w32 (ofZ w32 (getD xs i (pos 0))); second = 0 }

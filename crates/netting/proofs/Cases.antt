@@ -10,14 +10,14 @@ use Rattle.protocol.specs.Calls.{freshReplicas, opening, block}
 use Rattle.protocol.specs.Runs.{ruleOf, step, run}
 use Rattle.protocol.specs.Movements.{movementAllowed, isMovementList}
 use Rattle.netting.specs.declared.Netted.{Netted}
-use Rattle.netting.specs.Netting.{sumBelow, received, given, nettingNeeds, nettingAnswer, netting}
+use Rattle.netting.specs.Netting.{sumBelow, palletsOf, nettingNeeds, nettingAnswer, netting}
 use Rattle.netting.specs.Cases.{Case, AsExpected, balances, limits, refusals, NettingCasesHold}
 
 -- Everything that a netting is made of opens with this.
 unfoldable answers : List Case → List Netted
 unfolding update appendBlock ancestorWithin allHold allBelow blockFormed replicaFormed certificateFormed lengthsFit countsFit
     wellFormed counterStep firstRefusal answered follow freshReplicas opening block ruleOf step run movementAllowed isMovementList sumBelow
-    received given nettingNeeds nettingAnswer netting
+    palletsOf nettingNeeds nettingAnswer netting
 answers cases = map (λ (c : Case). netting (c .start) (c .movements) (c .chosen) (c .firm) .answer) cases
 
 balances-hold : AsExpected balances

@@ -1,60 +1,53 @@
 -- What an accepted netting tells, and what shows one.
 use Prim.Native.Nat.{ℕ, zero, suc, _≤_, _<_}
 use mathlib.Core.Path.{_≡_, refl, sym, _∙_}
-use mathlib.Core.Bool.{Bool, true, false, cond, _&&_}
+use mathlib.Core.Bool.{Bool, true, cond, _&&_}
 use mathlib.Core.List.{List}
 use native.Mathlib.Omega.{arith}
 use lib.Dec.{eqb}
-use lib.IntN.{ℤ, pos, natAbs}
+use lib.IntN.{ℤ, natAbs}
 use Rattle.protocol.specs.declared.Movement.{Movement}
 use Rattle.protocol.specs.Memory.{Memory, replicaCount, faultBound, blockCount, parent}
 use Rattle.protocol.specs.Form.{wellFormed}
 use Rattle.protocol.specs.Outcome.{firstRefusal}
 use Rattle.protocol.specs.FirstNeeds.{isReplica, isBlock}
-use Rattle.protocol.specs.Movements.{movement, movementCount, movementAllowed, isMovementList, maxPallets}
+use Rattle.protocol.specs.Movements.{movement, movementCount, movementAllowed, isMovementList, maxPallets, maxMovements}
 use Rattle.protocol.proofs.Booleans.{tests, by-cond, each, at-below, all-below}
 use Rattle.protocol.proofs.Needs.{all-needs}
-use Rattle.netting.specs.Netting.{sumBelow, received, given, balanceAfter, balanceBy, nettingNeeds, nettingAnswer, netting}
+use Rattle.netting.specs.Netting.{palletsOf, balanceAfter, balanceBy, nettingNeeds, nettingAnswer, netting}
 use Rattle.netting.specs.Theorems.{AcceptedNetting, maxBalance}
 use Rattle.netting.proofs.Signed.{less-small}
 use Rattle.netting.proofs.Sums.{sum-same, sum-small}
 
--- ---- movements that are allowed
+-- ---- pallets and balances
 
-module _ (counts : Movement → Bool) (movements : List ℕ) where
-  -- Movements that count alike make the same balance.
-  pub balance-same : (also : Movement → Bool) → ((x : Movement) → counts x ≡ also x) → (k i : ℕ)
-      → balanceAfter counts movements k i ≡ balanceAfter also movements k i
-  unfolding received given
-  balance-same also same k i =
-      rw (
-        sum-same k (λ j. cond (counts (movement movements j) && eqb (movement movements j .taker) i) (movement movements j .pallets) 0)
-            (λ j. cond (also (movement movements j) && eqb (movement movements j .taker) i) (movement movements j .pallets) 0)
-            (λ j l. rw (same (movement movements j)) refl),
-        sum-same k (λ j. cond (counts (movement movements j) && eqb (movement movements j .giver) i) (movement movements j .pallets) 0)
-            (λ j. cond (also (movement movements j) && eqb (movement movements j .giver) i) (movement movements j .pallets) 0)
-            (λ j l. rw (same (movement movements j)) refl),
-      ) refl
+module _ (side : Movement → ℕ) (counts : Movement → Bool) (movements : List ℕ) (k i : ℕ) where
+  -- Movements that count alike are the same pallets.
+  pallets-same : (also : Movement → Bool) → ((x : Movement) → counts x ≡ also x)
+      → palletsOf side counts movements k i ≡ palletsOf side also movements k i
+  unfolding palletsOf
+  pallets-same also same = sum-same k _ _ (λ j l. rw (same (movement movements j)) refl)
 
-  module _ (k : ℕ) (few : (j : ℕ) → j < k → movement movements j .pallets ≤ maxPallets) (short : k ≤ 2048) (i : ℕ) where
-    pub received-small : received counts movements k i ≤ maxBalance
-    unfolding received
-    received-small =
-        let sum = sum-small k (λ j. cond (counts (movement movements j) && eqb (movement movements j .taker) i) (movement movements j .pallets) 0)
-        (λ j l. by-cond (λ (p : ℕ). p ≤ maxPallets) (counts (movement movements j) && eqb (movement movements j .taker) i)
-        (λ e. few j l) (λ e. omega arith)) in
-        omega arith
+  pub pallets-small : ((j : ℕ) → j < k → movement movements j .pallets ≤ maxPallets) → k ≤ maxMovements
+      → palletsOf side counts movements k i ≤ maxBalance
+  unfolding palletsOf
+  pallets-small few short =
+      let sum = sum-small k
+      (λ j. cond (counts (movement movements j) && eqb (side (movement movements j)) i) (movement movements j .pallets) 0)
+      (λ j l. by-cond (λ (p : ℕ). p ≤ maxPallets) (counts (movement movements j) && eqb (side (movement movements j)) i) (λ e. few j l)
+      (λ e. omega arith)) in
+      omega arith
 
-    pub given-small : given counts movements k i ≤ maxBalance
-    unfolding given
-    given-small =
-        let sum = sum-small k (λ j. cond (counts (movement movements j) && eqb (movement movements j .giver) i) (movement movements j .pallets) 0)
-        (λ j l. by-cond (λ (p : ℕ). p ≤ maxPallets) (counts (movement movements j) && eqb (movement movements j .giver) i)
-        (λ e. few j l) (λ e. omega arith)) in
-        omega arith
+pub balance-same : (counts also : Movement → Bool) → ((x : Movement) → counts x ≡ also x) → (movements : List ℕ) (k i : ℕ)
+    → balanceAfter counts movements k i ≡ balanceAfter also movements k i
+balance-same counts also same movements k i =
+    rw (pallets-same (λ x. x .taker) counts movements k i also same, pallets-same (λ x. x .giver) counts movements k i also same) refl
 
-    pub balance-small : natAbs (balanceAfter counts movements k i) ≤ maxBalance
-    balance-small = less-small _ _ maxBalance received-small given-small
+pub balance-small : (counts : Movement → Bool) (movements : List ℕ) (k i : ℕ)
+    → ((j : ℕ) → j < k → movement movements j .pallets ≤ maxPallets) → k ≤ maxMovements
+    → natAbs (balanceAfter counts movements k i) ≤ maxBalance
+balance-small counts movements k i few short =
+    less-small _ _ maxBalance (pallets-small _ counts movements k i few short) (pallets-small _ counts movements k i few short)
 
 pub record Allowed (replicas added : ℕ) (x : Movement) : Type 0 where
   pub giver : x .giver < replicas
@@ -66,7 +59,7 @@ pub is-allowed : (replicas added : ℕ) (x : Movement) → movementAllowed repli
 unfolding movementAllowed
 is-allowed replicas added x e = let t = each _ e in omega tests
 
-pub list-short : (movements : List ℕ) → isMovementList movements ≡ true → movementCount movements ≤ 2048
+pub list-short : (movements : List ℕ) → isMovementList movements ≡ true → movementCount movements ≤ maxMovements
 unfolding isMovementList
 list-short movements e = let t = each _ e in omega tests
 

@@ -1,14 +1,15 @@
 -- Sums over movements and over firms.
 use Prim.Native.Nat.{ℕ, zero, suc, _+_, _*_, _≤_, _<_}
-use mathlib.Core.Path.{_≡_, refl, sym, ap, _∙_}
+use mathlib.Core.Path.{_≡_, refl, ap, _∙_}
 use mathlib.Core.Bool.{Bool, true, false, cond, _&&_}
+use mathlib.Core.List.{List}
 use native.Mathlib.Omega.{arith}
 use lib.Dec.{ltb, eqb}
 use lib.IntN.{ℤ, pos, _+ℤ_, _-ℤ_}
 use Rattle.protocol.specs.declared.Movement.{Movement}
-use Rattle.protocol.specs.Movements.{maxPallets}
+use Rattle.protocol.specs.Movements.{movement, maxPallets}
 use Rattle.protocol.proofs.Booleans.{tests, by-test}
-use Rattle.netting.specs.Netting.{sumBelow}
+use Rattle.netting.specs.Netting.{sumBelow, palletsOf}
 use Rattle.netting.specs.Theorems.{totalBelow}
 use Rattle.netting.proofs.Signed.{less-sum}
 
@@ -66,17 +67,16 @@ one-firm n p x true l = let e : ltb x n ≡ true = omega tests in sum-hit n p x 
 one-firm n p x false l = sum-none n
 
 -- What all firms took, or gave, is what was moved.
-pub over-firms : (counts : Movement → Bool) (firm : Movement → ℕ) (x : ℕ → Movement) (n k : ℕ) → ((j : ℕ) → j < k → firm (x j) < n)
-    → sumBelow n (λ i. sumBelow k (λ j. cond (counts (x j) && eqb (firm (x j)) i) (x j .pallets) 0))
-    ≡ sumBelow k (λ j. cond (counts (x j)) (x j .pallets) 0)
-unfolding sumBelow
-over-firms counts firm x n zero h = sum-none n
-over-firms counts firm x n (suc k) h =
-    sum-both n (λ i. sumBelow k (λ j. cond (counts (x j) && eqb (firm (x j)) i) (x j .pallets) 0))
-    (λ i. cond (counts (x k) && eqb (firm (x k)) i) (x k .pallets) 0)
+pub over-firms : (side : Movement → ℕ) (counts : Movement → Bool) (movements : List ℕ) (n k : ℕ)
+    → ((j : ℕ) → j < k → side (movement movements j) < n)
+    → sumBelow n (palletsOf side counts movements k) ≡ sumBelow k (λ j. cond (counts (movement movements j)) (movement movements j .pallets) 0)
+unfolding sumBelow palletsOf
+over-firms side counts movements n zero h = sum-none n
+over-firms side counts movements n (suc k) h =
+    sum-both n (palletsOf side counts movements k) _
     ∙ rw (
-      over-firms counts firm x n k (λ j l. h j (omega arith)),
-      one-firm n (x k .pallets) (firm (x k)) (counts (x k)) (h k (omega arith)),
+      over-firms side counts movements n k (λ j l. h j (omega arith)),
+      one-firm n (movement movements k .pallets) (side (movement movements k)) (counts (movement movements k)) (h k (omega arith)),
     ) refl
 
 -- ---- signed sums

@@ -7,42 +7,35 @@ use native.Mathlib.Omega.{arith}
 use lib.Dec.{eqb}
 use lib.ListN.{length, getD, set, length-set}
 use lib.Seq.{getD-set-same, getD-set-other}
-use lib.IntN.{ℤ, pos, natAbs, _+ℤ_, _-ℤ_}
+use lib.IntN.{ℤ, pos, _+ℤ_, _-ℤ_}
 use Rattle.protocol.specs.declared.Movement.{Movement}
 use Rattle.protocol.specs.Form.{allBelow}
-use Rattle.protocol.specs.Movements.{movement, movementCount, movementAllowed, isMovementList, maxPallets, maxMovements}
+use Rattle.protocol.specs.Movements.{movement, movementCount, movementAllowed, maxPallets, maxMovements}
 use Rattle.protocol.proofs.Booleans.{tests, by-test, by-cond, true-and, at-below}
 use Rattle.layout.proofs.Below.{refuted-one}
-use Rattle.netting.specs.Netting.{sumBelow, received, given}
+use Rattle.netting.specs.Netting.{sumBelow, palletsOf, received, given}
 use Rattle.netting.specs.Theorems.{maxBalance}
 use Rattle.netting.specs.inner.Tallies.{marked, Movable, Talliable, Tallied}
 use Rattle.netting.proofs.Signed.{less-plus, less-minus, less-small}
-use Rattle.netting.proofs.Nettings.{received-small, given-small, is-allowed, list-short}
+use Rattle.netting.proofs.Nettings.{pallets-small, is-allowed, list-short}
 
 -- Every firm's balance is what it received less what it gave.
 abbrev pub Differ : List ℤ → (ℕ → ℕ) → (ℕ → ℕ) → Type 0
 Differ xs r g = (i : ℕ) → i < length xs → getD xs i (pos 0) ≡ pos (r i) -ℤ pos (g i)
 
-module _ (xs : List ℤ) (r g : ℕ → ℕ) (firm p : ℕ) (there : firm < length xs) (d : Differ xs r g) where
-  gives : Differ (set xs firm (getD xs firm (pos 0) -ℤ pos p)) r (λ i. g i + cond (eqb firm i) p 0)
-  gives i l =
-      by-test (eqb firm i)
-      (λ e.
-      let q : i ≡ firm = omega tests in
-      rw (e, q) (getD-set-same xs firm _ (pos 0) there ∙ ap (λ (z : ℤ). z -ℤ pos p) (d firm there) ∙ less-minus (r firm) (g firm) p))
-      (λ e.
-      let none : g i + 0 ≡ g i = omega arith in
-      rw (e, none) (getD-set-other xs firm i _ (pos 0) (omega tests) ∙ d i (rw (length-set xs firm _) at l)))
-
-  receives : Differ (set xs firm (getD xs firm (pos 0) +ℤ pos p)) (λ i. r i + cond (eqb firm i) p 0) g
-  receives i l =
-      by-test (eqb firm i)
-      (λ e.
-      let q : i ≡ firm = omega tests in
-      rw (e, q) (getD-set-same xs firm _ (pos 0) there ∙ ap (λ (z : ℤ). z +ℤ pos p) (d firm there) ∙ less-plus (r firm) (g firm) p))
-      (λ e.
-      let none : r i + 0 ≡ r i = omega arith in
-      rw (e, none) (getD-set-other xs firm i _ (pos 0) (omega tests) ∙ d i (rw (length-set xs firm _) at l)))
+-- Pallets more on one side of one firm: v i q is the balance of firm i with q pallets on that side.
+moves-one : (op : ℤ → ℤ → ℤ) (v : ℕ → ℕ → ℤ) → ((i q p : ℕ) → op (v i q) (pos p) ≡ v i (q + p)) → (xs : List ℤ) (side : ℕ → ℕ)
+    (firm p : ℕ) → firm < length xs → ((i : ℕ) → i < length xs → getD xs i (pos 0) ≡ v i (side i)) → (i : ℕ)
+    → i < length (set xs firm (op (getD xs firm (pos 0)) (pos p)))
+    → getD (set xs firm (op (getD xs firm (pos 0)) (pos p))) i (pos 0) ≡ v i (side i + cond (eqb firm i) p 0)
+moves-one op v law xs side firm p there d i l =
+    by-test (eqb firm i)
+    (λ e.
+    let q : i ≡ firm = omega tests in
+    rw (e, q) (getD-set-same xs firm _ (pos 0) there ∙ ap (λ (z : ℤ). op z (pos p)) (d firm there) ∙ law firm (side firm) p))
+    (λ e.
+    let none : side i + 0 ≡ side i = omega arith in
+    rw (e, none) (getD-set-other xs firm i _ (pos 0) (omega tests) ∙ d i (rw (length-set xs firm _) at l)))
 
 -- The pallets that count go to the firm, or to nobody.
 either-order : (counts mine : Bool) (p : ℕ) → cond mine (cond counts p 0) 0 ≡ cond (counts && mine) p 0
@@ -69,24 +62,24 @@ module _ (counts : Movement → Bool) (movements : List ℕ) (k : ℕ) (xs : Lis
   moved-few : moved ≤ maxPallets
   moved-few = by-cond (λ (p : ℕ). p ≤ maxPallets) (counts (movement movements k)) (λ e. h .few k (omega arith)) (λ e. omega arith)
 
-  received-before : (i : ℕ) → received counts movements k i ≤ maxBalance
-  received-before i = let s = h .short in received-small counts movements k (λ j l. h .few j (omega arith)) (omega arith) i
-
-  given-before : (i : ℕ) → given counts movements k i ≤ maxBalance
-  given-before i = let s = h .short in given-small counts movements k (λ j l. h .few j (omega arith)) (omega arith) i
+  small-before : (side : Movement → ℕ) (i : ℕ) → palletsOf side counts movements k i ≤ maxBalance
+  small-before side i =
+      let s = h .short in
+      pallets-small side counts movements k i (λ j l. h .few j (omega arith)) (omega arith)
 
   pub giver-movable : Movable xs (movement movements k .giver) moved
   giver-movable =
       record {
         there = h .giver;
         few = moved-few;
-        small = rw (h .balances _ (h .giver)) (less-small _ _ maxBalance (received-before _) (given-before _));
+        small = rw (h .balances _ (h .giver)) (less-small _ _ maxBalance (small-before _ _) (small-before _ _));
       }
 
   gave-differ : Differ gave (received counts movements k) (given counts movements (suc k))
-  unfolding given sumBelow
+  unfolding palletsOf sumBelow
   gave-differ i l =
-      gives xs (received counts movements k) (given counts movements k) (movement movements k .giver) moved (h .giver) (h .balances) i l
+      moves-one _-ℤ_ (λ j q. pos (received counts movements k j) -ℤ pos q) (λ j q p. less-minus _ q p) xs (given counts movements k)
+      (movement movements k .giver) moved (h .giver) (h .balances) i l
       ∙ ap (λ (n : ℕ). pos (received counts movements k i) -ℤ pos (given counts movements k i + n))
       (either-order (counts (movement movements k)) (eqb (movement movements k .giver) i) (movement movements k .pallets))
 
@@ -100,16 +93,16 @@ module _ (counts : Movement → Bool) (movements : List ℕ) (k : ℕ) (xs : Lis
         few = moved-few;
         small =
             rw (gave-differ _ taker-there)
-            (less-small _ _ maxBalance (received-before _) (given-small counts movements (suc k) (h .few) (h .short) _));
+            (less-small _ _ maxBalance (small-before _ _) (pallets-small _ counts movements (suc k) _ (h .few) (h .short)));
       }
 
   pub both-differ :
       Differ (set gave (movement movements k .taker) (getD gave (movement movements k .taker) (pos 0) +ℤ pos moved))
       (received counts movements (suc k)) (given counts movements (suc k))
-  unfolding received sumBelow
+  unfolding palletsOf sumBelow
   both-differ i l =
-      receives gave (received counts movements k) (given counts movements (suc k)) (movement movements k .taker) moved taker-there
-      gave-differ i l
+      moves-one _+ℤ_ (λ j q. pos q -ℤ pos (given counts movements (suc k) j)) (λ j q p. less-plus q (given counts movements (suc k) j) p) gave
+      (received counts movements k) (movement movements k .taker) moved taker-there gave-differ i l
       ∙ ap (λ (n : ℕ). pos (received counts movements k i + n) -ℤ pos (given counts movements (suc k) i))
       (either-order (counts (movement movements k)) (eqb (movement movements k .taker) i) (movement movements k .pallets))
 
@@ -123,7 +116,7 @@ pub record Passed (movements : List ℕ) (line : List Bool) (replicas added : �
 module _ (movements : List ℕ) (line : List Bool) (replicas added : ℕ) (before : List ℤ)
     (t : Talliable movements line replicas added before) where
   pub starts : Passed movements line replicas added before before 0
-  unfolding allBelow received given sumBelow
+  unfolding allBelow palletsOf sumBelow
   starts = record { size = refl; allowed = refl; balances = λ i l. t .zeros i }
 
   module _ (xs : List ℤ) (k : ℕ) (l : k < movementCount movements) (h : Passed movements line replicas added before xs k)

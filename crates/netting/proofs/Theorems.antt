@@ -1,22 +1,20 @@
 -- What specs/Theorems.antt states.
 use Prim.Native.Nat.{ℕ, zero, suc, _≤_, _<_}
-use mathlib.Core.Path.{_≡_, refl, sym, ap, _∙_, subst}
+use mathlib.Core.Path.{_≡_, refl, ap, _∙_, subst}
 use mathlib.Core.Bool.{true, false, cond}
 use mathlib.Core.Logic.{⊎-elim}
 use mathlib.Core.List.{List, List·Memᴰ}
 use native.Mathlib.Omega.{arith}
-use lib.IntN.{ℤ, pos, natAbs, _-ℤ_, +ℤ-invr}
-use Rattle.protocol.specs.declared.Movement.{Movement}
+use lib.IntN.{pos, natAbs, +ℤ-invr}
 use Rattle.protocol.specs.Memory.{Memory, memory, replicaCount, faultBound, blockCount, parent}
 use Rattle.protocol.specs.Ancestry.{Falls, isAncestorBy, heightBy}
-use Rattle.protocol.specs.Form.{wellFormed}
 use Rattle.protocol.specs.Outcome.{_else_, firstRefusal}
 use Rattle.protocol.specs.Runs.{Invocation}
 use Rattle.protocol.specs.Theorems.{Alike}
 use Rattle.protocol.specs.History.{decided, givenParent}
 use Rattle.protocol.specs.Agreement.{Execution, eventsOf, endOf, Agreement}
 use Rattle.protocol.specs.Movements.{movement, movementCount}
-use Rattle.protocol.proofs.Booleans.{tests, by-test}
+use Rattle.protocol.proofs.Booleans.{tests}
 use Rattle.protocol.proofs.Needs.{failing-need, lowest-refusal}
 use Rattle.protocol.proofs.Formed.{formed, form, falls}
 use Rattle.protocol.proofs.Alike.{twin, parent-same, form-same}
@@ -24,7 +22,7 @@ use Rattle.protocol.proofs.Reached.{Reached, chosen-known}
 use Rattle.protocol.proofs.Agreement.{reached-by, agreement}
 use Rattle.netting.specs.Netting.{sumBelow, received, given, countsBy, balanceBy, nettingNeeds, nettingAnswer, netting}
 use Rattle.netting.specs.Theorems.{AcceptedNetting, NettingChangesNothing, RefusedNetting, RefusedNettingIsZero}
-use Rattle.netting.specs.Theorems.{NettingLowestWins, NettingPastCountsUnread, totalBelow}
+use Rattle.netting.specs.Theorems.{NettingLowestWins, NettingPastCountsUnread}
 use Rattle.netting.specs.Theorems.{BalancesAddUp, maxBalance, BalancesBounded, LongerCountsMore, EquallyLongIsOne}
 use Rattle.netting.specs.Theorems.{lineLength, CountsMatchHistory, NettingMatchesHistory, DecidedCanBeNetted}
 use Rattle.netting.proofs.Sums.{over-firms, total-same, total-less}
@@ -62,12 +60,12 @@ balances-bounded m movements b i = go (firstRefusal (nettingNeeds m movements b 
         → natAbs (nettingAnswer n (balanceBy (parent m) movements b i) .balance) ≤ maxBalance
     go zero e =
         let h = nets m movements b i e in
-        balance-small _ movements (movementCount movements) (λ k l. is-allowed _ _ _ (h .each k l) .few)
-        (list-short movements (h .list)) i
+        balance-small _ movements (movementCount movements) i (λ k l. is-allowed _ _ _ (h .each k l) .few)
+        (list-short movements (h .list))
     go (suc n) e = omega arith
 
 pub balances-add-up : BalancesAddUp
-unfolding BalancesAddUp received given
+unfolding BalancesAddUp
 balances-add-up m movements b i accepted =
     let n = replicaCount (faultBound m) in
     let h = nets m movements b i (passes m movements b i accepted) in
@@ -75,14 +73,16 @@ balances-add-up m movements b i accepted =
     let k = movementCount movements in
     let every : (j : ℕ) → j < n → AcceptedNetting (netting m movements b j) = λ j own. accepted-netting m movements b j h (omega tests) in
     let moved = sumBelow k (λ j. cond (counts (movement movements j)) (movement movements j .pallets) 0) in
-    let taken = over-firms counts (λ x. x .taker) (movement movements) n k (λ j l. is-allowed _ _ _ (h .each j l) .taker) in
-    let gave = over-firms counts (λ x. x .giver) (movement movements) n k (λ j l. is-allowed _ _ _ (h .each j l) .giver) in
     record {
       accepted = every;
       total =
           total-same n _ _ (λ j own. answers m movements b j (every j own))
           ∙ total-less n (received counts movements k) (given counts movements k)
-          ∙ rw (taken, gave) (+ℤ-invr (pos moved));
+          ∙ rw (
+            over-firms (λ x. x .taker) counts movements n k (λ j l. is-allowed _ _ _ (h .each j l) .taker),
+            over-firms (λ x. x .giver) counts movements n k (λ j l. is-allowed _ _ _ (h .each j l) .giver),
+          )
+          (+ℤ-invr (pos moved));
     }
 
 -- ---- what is not read
@@ -101,10 +101,10 @@ module _ (m : Memory) (l b : List ℕ) (a : Alike m (twin m l b)) (movements : L
       go zero e =
           let h = nets m movements chosen i e in
           ap (nettingAnswer 0)
-          (balance-same _ movements _
+          (balance-same _ _
           (λ x. line-same (parent m) (parent (twin m l b)) (blockCount m) (falls m (formed m (h .formed)))
           (λ y below. parent-same m l b a y (omega tests)) (x .block) chosen (omega (tests, h .block)))
-          (movementCount movements) i)
+          movements (movementCount movements) i)
       go (suc n) e = refl
 
 pub netting-past-counts-unread : NettingPastCountsUnread
@@ -183,9 +183,9 @@ unfolding NettingMatchesHistory CountsMatchHistory
 netting-matches-history m f list calls execution movements b i accepted =
     let end = endOf m f list calls in
     answers end movements b i accepted
-    ∙ balance-same _ movements _
+    ∙ balance-same _ _
     (counts-match-history m f list calls execution b (nets end movements b i (passes end movements b i accepted) .block))
-    (movementCount movements) i
+    movements (movementCount movements) i
 
 pub decided-can-be-netted : DecidedCanBeNetted
 unfolding DecidedCanBeNetted

@@ -23,19 +23,17 @@ unfoldable pub sumBelow : ℕ → (ℕ → ℕ) → ℕ
 sumBelow zero term = 0
 sumBelow (suc k) term = sumBelow k term + term k
 
--- The pallets of a movement that counts and went to, or came from, this replica; else 0.
-abbrev pub palletsTo : (Movement → Bool) → ℕ → Movement → ℕ
-palletsTo counts i x = cond (counts x && eqb (x .taker) i) (x .pallets) 0
+-- The pallets of the first k movements of a list that count and have this replica on a side, giver or taker.
+unfoldable pub palletsOf : (Movement → ℕ) → (Movement → Bool) → List ℕ → ℕ → ℕ → ℕ
+palletsOf side counts movements k i =
+    sumBelow k (λ j. cond (counts (movement movements j) && eqb (side (movement movements j)) i) (movement movements j .pallets) 0)
 
-abbrev pub palletsFrom : (Movement → Bool) → ℕ → Movement → ℕ
-palletsFrom counts i x = cond (counts x && eqb (x .giver) i) (x .pallets) 0
+-- "A firm's balance is pallets received less pallets given, a signed number." Of the first k movements.
+abbrev pub received : (Movement → Bool) → List ℕ → ℕ → ℕ → ℕ
+received = palletsOf (λ x. x .taker)
 
--- "A firm's balance is pallets received less pallets given, a signed number." Of the first k movements of a list.
-unfoldable pub received : (Movement → Bool) → List ℕ → ℕ → ℕ → ℕ
-received counts movements k i = sumBelow k (λ j. palletsTo counts i (movement movements j))
-
-unfoldable pub given : (Movement → Bool) → List ℕ → ℕ → ℕ → ℕ
-given counts movements k i = sumBelow k (λ j. palletsFrom counts i (movement movements j))
+abbrev pub given : (Movement → Bool) → List ℕ → ℕ → ℕ → ℕ
+given = palletsOf (λ x. x .giver)
 
 abbrev pub balanceAfter : (Movement → Bool) → List ℕ → ℕ → ℕ → ℤ
 balanceAfter counts movements k i = pos (received counts movements k i) -ℤ pos (given counts movements k i)

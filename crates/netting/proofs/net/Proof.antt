@@ -1,7 +1,6 @@
 -- Each refusal is that of the first need that fails; where all up to the movements hold, the balance is asked for.
 use native.Mathlib.Omega.{arith}
 use borrow.Author.Needs.{needs}
-use borrow.Author.Tests.{not-true, not-false}
 use Rattle.protocol.proofs.Booleans.{tests}
 use Rattle.checks.proofs.Passing.{replica-known}
 use Rattle.layout.proofs.Joined.{denied, granted}

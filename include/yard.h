@@ -2,7 +2,7 @@
  *
  * What a caller owes: each pointer with its true length, and slices that overlap neither one another nor what is written beside them (the
  * two values, which are two words, the height or the balance). An empty list, of certificates or of movements, may be NULL with length 0.
- * Nothing else but room on the stack, which yard_panel and yard_balance state: any contents of the slices, the movements too, and any
+ * Nothing else but room on the stack: any contents of the slices, the movements too, and any
  * numbers are answered, and what is refused changes no word of a slice. */
 #ifndef YARD_H
 #define YARD_H
@@ -13,6 +13,11 @@
 /* The words that a caller lends: a table for f, from 1 to 30; at most 4096 certificates; 1 to 4096 blocks of a word each. */
 #define YARD_TABLE_WORDS(f) (3 + 9 * (2 * (f) + 1))
 #define YARD_CERTIFICATE_WORDS 7
+
+/* Bytes of stack that yard_panel and yard_balance take at most on x86-64, arguments included, for a line of 4096 blocks: a panel 32 for
+ * each block of the line, more than a thread of 128 KB has; a balance 32 for every 16, beside 4.4 KB. examples/stack.c measures both. */
+#define YARD_PANEL_STACK 131328
+#define YARD_BALANCE_STACK 12800
 
 /* Lent to yard_balance alone: at most 2048 movements of four words each (block, giver, taker, pallets). */
 #define YARD_MOVEMENT_WORDS 4
@@ -35,10 +40,7 @@ uint32_t yard_call(uint32_t code, uint32_t replica, uint32_t number, const uint3
                    size_t table_length, uint32_t *log, size_t log_length, uint32_t *blocks, size_t blocks_length, uint32_t *first,
                    uint32_t *second);
 
-/* The height of a replica's decided block: 0, or 1 for wrong form and 2 for a replica out of range with a height of 0.
- *
- * Stack, measured on x86-64, arguments included: 112 bytes, and 32 for each block of the line, block 0 too. That is 131,184 bytes for a
- * line of 4,096 blocks, the longest there is: more than a thread of 128 KB has. */
+/* The height of a replica's decided block: 0, or 1 for wrong form and 2 for a replica out of range with a height of 0. */
 uint32_t yard_panel(const uint32_t *table, size_t table_length, const uint32_t *log, size_t log_length, const uint32_t *blocks,
                     size_t blocks_length, uint32_t replica, uint32_t *height);
 
@@ -56,10 +58,7 @@ uint32_t yard_panel(const uint32_t *table, size_t table_length, const uint32_t *
  * Returns 0; or the lowest of these that holds: 1 wrong form or lengths of the first three slices, more than YARD_MAX_MOVEMENTS movements,
  * or a length that is no multiple of YARD_MOVEMENT_WORDS; 2 a replica out of range; 3 no such block; 11 a movement, counted or not, that
  * breaks the rules above. The balance is always written: 0 where refused, so look at the answer first, and never beyond 20,480,000 either
- * way. No word of the four slices changes.
- *
- * Stack, measured on x86-64, arguments included: 4,464 bytes, and a frame of 32 for every 16 steps up the line, 256 frames at most. That
- * is 12,656 bytes for a line of 4,096 blocks. */
+ * way. No word of the four slices changes. */
 uint32_t yard_balance(const uint32_t *table, size_t table_length, const uint32_t *log, size_t log_length, const uint32_t *blocks,
                       size_t blocks_length, const uint32_t *movements, size_t movements_length, uint32_t block, uint32_t replica,
                       int32_t *balance);

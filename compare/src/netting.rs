@@ -1,4 +1,4 @@
-//! Netting of movements (document 02, #101): what a firm is owed by the movements up to a chosen block.
+//! Netting of movements (document 02, #101): a firm's balance by the movements up to a chosen block.
 
 use crate::ancestry::ancestors;
 use crate::form::well_formed;
@@ -56,7 +56,7 @@ pub fn balance<R: Rules>(rules: R, m: &Memory, movements: &[u32], block: u32, re
         // "11 for a movement outside these rules, its block and boxes included, after 3."
         need(!tested || fits(rules, m, movement), WRONG_MOVEMENT)?;
         if counts {
-            balance += owed(rules, movement, replica);
+            balance += moved(rules, movement, replica);
         }
     }
     Ok(if rules.has(Mistake::NettingUnsigned) { balance.max(0) } else { balance })
@@ -132,7 +132,7 @@ impl Counted {
 }
 
 /// "A firm's balance is pallets received less pallets given, a signed number."
-fn owed<R: Rules>(rules: R, movement: Movement, replica: u32) -> i32 {
+fn moved<R: Rules>(rules: R, movement: Movement, replica: u32) -> i32 {
     let pallets = movement.pallets as i32;
     let received = if movement.taker == replica { pallets } else { 0 };
     let given = if movement.giver == replica { pallets } else { 0 };

@@ -1,9 +1,9 @@
 /* The agreement core of a ledger box: five functions of the archive that `rt staticlib firmware` writes.
  *
  * What a caller owes: each pointer with its true length, and slices that overlap neither one another nor what is written beside them (the
- * two values, which are two words, the height or the balance). An empty list, of certificates or of movements, may be NULL with length 0.
- * Nothing else but room on the stack: any contents of the slices, the movements too, and any
- * numbers are answered, and what is refused changes no word of a slice. */
+ * two values, which are two words, the height or the balance). An empty list, of certificate numbers or of movements, and an empty log may
+ * be NULL with length 0. Nothing else but room on the stack: any contents of the slices, the movements too, and any numbers are answered,
+ * and what is refused changes no word of a slice. */
 #ifndef YARD_H
 #define YARD_H
 
@@ -14,8 +14,9 @@
 #define YARD_TABLE_WORDS(f) (3 + 9 * (2 * (f) + 1))
 #define YARD_CERTIFICATE_WORDS 7
 
-/* Bytes of stack that yard_panel and yard_balance take at most on x86-64, arguments included, for a line of 4096 blocks: a panel 32 for
- * each block of the line, more than a thread of 128 KB has; a balance 32 for every 16, beside 4.4 KB. examples/stack.c measures both. */
+/* Bytes of stack for the longest line, of 4096 blocks, measured on x86-64 with the arguments, and at most 256 to spare: a panel takes 32
+ * for each block of the line, more than a thread of 128 KB has; a balance 32 for every 16, beside 4.4 KB. examples/stack.c measures both.
+ * The other functions do not recurse: 380 bytes were the most. */
 #define YARD_PANEL_STACK 131328
 #define YARD_BALANCE_STACK 12800
 
@@ -49,7 +50,8 @@ uint32_t yard_panel(const uint32_t *table, size_t table_length, const uint32_t *
  * A movement says that in its block the firm of replica `giver` gave pallets to the firm of replica `taker`: block, giver, taker, pallets,
  * in this order. Its block is an added one other than 0, giver and taker are two different replicas, and the pallets are 1 to 10,000. It
  * counts if its block is in the line of `block`: that block itself, its parent, the parent of that, and so on to block 0. The order of the
- * list does not matter. movements_length counts words, YARD_MOVEMENT_WORDS for each movement.
+ * list does not matter; a movement that stands there twice counts twice. movements_length counts words, YARD_MOVEMENT_WORDS for each
+ * movement.
  *
  * A firm that gave 5 pallets has -5 by that, and the one that took them 5: the balances of all firms at one block add up to 0. At block 0
  * each is 0. Any added block may be chosen, decided or not; a decided one is the first value of an accepted decide. That the list holds

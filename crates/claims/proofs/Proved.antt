@@ -14,8 +14,8 @@ use Rattle.field.proofs.Theorems.{written-reads-back, read-writes-back, read-is
 use Rattle.protocol.proofs.Agreement.{agreement, words-match-history, only-appended, would-agree}
 use Rattle.ledger.proofs.Theorems.{panel-shows-history, panel-never-falls}
 use Rattle.netting.proofs.Theorems.{netting-changes-nothing, refused-netting-is-zero, netting-lowest-wins, netting-past-counts-unread}
-use Rattle.netting.proofs.Theorems.{balances-add-up, balances-bounded, longer-counts-more, equally-long-is-one, counts-match-history}
-use Rattle.netting.proofs.Theorems.{netting-matches-history, decided-can-be-netted}
+use Rattle.netting.proofs.Theorems.{balances-add-up, balances-bounded, longer-counts-more, equally-long-is-one, line-length-is-height}
+use Rattle.netting.proofs.Theorems.{counts-match-history, longer-nets-more, netting-matches-history, decided-can-be-netted}
 use Rattle.netting.proofs.Cases.{netting-cases-hold}
 use Rattle.script.proofs.Agreement.{scripts-agree, script-is-execution}
 use Rattle.stream.proofs.Agreement.{program-agrees}
@@ -61,7 +61,9 @@ proved =
       balancesBounded = balances-bounded;
       longerCountsMore = longer-counts-more;
       equallyLongIsOne = equally-long-is-one;
+      lineLengthIsHeight = line-length-is-height;
       countsMatchHistory = counts-match-history;
+      longerNetsMore = longer-nets-more;
       nettingMatchesHistory = netting-matches-history;
       decidedCanBeNetted = decided-can-be-netted;
       nettingCasesHold = netting-cases-hold;

@@ -11,8 +11,8 @@ use Rattle.field.specs.Theorems.{CountIsLeast, WrittenReadsBack, ReadWritesBack
 use Rattle.protocol.specs.Agreement.{Agreement, WordsMatchHistory, OnlyAppended, WouldAgree}
 use Rattle.ledger.specs.Theorems.{PanelShowsHistory, PanelNeverFalls}
 use Rattle.netting.specs.Theorems.{NettingChangesNothing, RefusedNettingIsZero, NettingLowestWins, NettingPastCountsUnread}
-use Rattle.netting.specs.Theorems.{BalancesAddUp, BalancesBounded, LongerCountsMore, EquallyLongIsOne, CountsMatchHistory}
-use Rattle.netting.specs.Theorems.{NettingMatchesHistory, DecidedCanBeNetted}
+use Rattle.netting.specs.Theorems.{BalancesAddUp, BalancesBounded, LongerCountsMore, EquallyLongIsOne, LineLengthIsHeight}
+use Rattle.netting.specs.Theorems.{CountsMatchHistory, LongerNetsMore, NettingMatchesHistory, DecidedCanBeNetted}
 use Rattle.netting.specs.Cases.{NettingCasesHold}
 use Rattle.script.specs.Agreement.{ScriptsAgree, ScriptIsExecution}
 use Rattle.stream.specs.Agreement.{ProgramAgrees}
@@ -98,8 +98,12 @@ pub record Claims : Type 0 where
   pub longerCountsMore : LongerCountsMore
   -- two decided blocks with equally long lines are one
   pub equallyLongIsOne : EquallyLongIsOne
+  -- a line has one block more than its block's height
+  pub lineLengthIsHeight : LineLengthIsHeight
   -- what counts by the words counts by the parents given
   pub countsMatchHistory : CountsMatchHistory
+  -- of two decided blocks the one with the longer line nets every movement that the other nets
+  pub longerNetsMore : LongerNetsMore
   -- a balance is that by the parents given
   pub nettingMatchesHistory : NettingMatchesHistory
   -- every decided block can be netted

@@ -1,18 +1,24 @@
 -- Pallets added to a balance, or taken from it: the result fits in its bits, and is what it should be.
-use Prim.Native.Nat.{ℕ, zero, suc, _+_, _≤_}
+use Prim.Native.Nat.{ℕ, zero, suc, _+_, _*_, _≤_}
 use mathlib.Core.Path.{_≡_, refl, ap}
+use mathlib.Core.Bool.{Bool, true, false, cond}
 use mathlib.Core.List.{List}
 use native.Mathlib.Omega.{arith}
 use lib.Dec.{ltb}
 use lib.ListN.{getD, set}
 use lib.IntN.{ℤ, pos, negsuc, natAbs, _+ℤ_, _-ℤ_}
 use mir.Syntax.{w32}
-use mir.Val.{SFits, ofZ, toZ}
+use mir.Val.{SFits, ofZ, toZ, boolByte}
 use mir.Facts.{toZ-ofZ, toZ-pos}
 use Rattle.protocol.specs.Movements.{maxPallets}
 use Rattle.protocol.proofs.Booleans.{tests, by-cond}
 use Rattle.netting.specs.Theorems.{maxBalance}
 use Rattle.netting.specs.inner.Tallies.{Movable}
+
+-- A mark times pallets: all of them, or none.
+pub all-or-none : (t : Bool) (p : ℕ) → boolByte t * p ≡ cond t p 0
+all-or-none true p = omega arith
+all-or-none false p = omega arith
 
 pub plus-size : (z : ℤ) (p : ℕ) → natAbs (z +ℤ pos p) ≤ natAbs z + p
 plus-size (pos n) p = omega arith

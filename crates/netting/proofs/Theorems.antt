@@ -1,6 +1,6 @@
 -- What specs/Theorems.antt states.
 use Prim.Native.Nat.{ℕ, zero, suc, _≤_, _<_}
-use mathlib.Core.Path.{_≡_, refl, ap, _∙_, subst}
+use mathlib.Core.Path.{_≡_, refl, sym, ap, _∙_, subst}
 use mathlib.Core.Bool.{true, false, cond}
 use mathlib.Core.Logic.{⊎-elim}
 use mathlib.Core.List.{List, List·Memᴰ}
@@ -24,7 +24,8 @@ use Rattle.netting.specs.Netting.{sumBelow, received, given, countsBy, b
 use Rattle.netting.specs.Theorems.{AcceptedNetting, NettingChangesNothing, RefusedNetting, RefusedNettingIsZero}
 use Rattle.netting.specs.Theorems.{NettingLowestWins, NettingPastCountsUnread}
 use Rattle.netting.specs.Theorems.{BalancesAddUp, maxBalance, BalancesBounded, LongerCountsMore, EquallyLongIsOne}
-use Rattle.netting.specs.Theorems.{lineLength, CountsMatchHistory, NettingMatchesHistory, DecidedCanBeNetted}
+use Rattle.netting.specs.Theorems.{lineLength, LineLengthIsHeight, CountsMatchHistory, LongerNetsMore}
+use Rattle.netting.specs.Theorems.{NettingMatchesHistory, DecidedCanBeNetted}
 use Rattle.netting.proofs.Sums.{over-firms, total-same, total-less}
 use Rattle.netting.proofs.Lines.{line-same, line-of-line, line-as-high, line-length}
 use Rattle.netting.proofs.Nettings.{balance-same, balance-small, is-allowed, list-short, number-is, passes, nets, answers}
@@ -157,6 +158,10 @@ module _ (m : Memory) (f : ℕ) (list : List ℕ) (calls : List Invocation) (exe
       rw q (rw q at e))
       (agreement m f list calls execution .oneChain i b v j c w x y)
 
+pub line-length-is-height : LineLengthIsHeight
+unfolding LineLengthIsHeight
+line-length-is-height parentOf count falls b l = line-length parentOf count falls b l
+
 pub longer-counts-more : LongerCountsMore
 unfolding LongerCountsMore
 longer-counts-more m f list calls execution i b v j c w x y h moved counted =
@@ -177,6 +182,15 @@ counts-match-history m f list calls execution b known x =
     let h = reached m f list calls execution in
     line-same (parent end) (givenParent (eventsOf m f list calls)) (blockCount end) (falls end (h .safe .formed)) (h .told .parents)
     (x .block) b (omega tests)
+
+pub longer-nets-more : LongerNetsMore
+unfolding LongerNetsMore LongerCountsMore CountsMatchHistory
+longer-nets-more m f list calls execution i b v j c w x y h moved counted =
+    let known-b = decided-known m f list calls execution i b v x in
+    let known-c = decided-known m f list calls execution j c w y in
+    counts-match-history m f list calls execution c (omega tests) moved
+    ∙ longer-counts-more m f list calls execution i b v j c w x y h moved
+    (sym (counts-match-history m f list calls execution b (omega tests) moved) ∙ counted)
 
 pub netting-matches-history : NettingMatchesHistory
 unfolding NettingMatchesHistory CountsMatchHistory

@@ -23,13 +23,14 @@ pub record Case : Type 0 where
 abbrev plain : Call → Invocation
 plain call = record { call = call; list = [] }
 
--- Zeros, with slots for five blocks and f = 1, so three firms.
+-- Zeros, with slots for six blocks and f = 1, so three firms.
 abbrev unopened : Memory
-unopened = memory (replicate (tableLength 1) 0) [] (replicate (blockAt 5) 0)
+unopened = memory (replicate (tableLength 1) 0) [] (replicate (blockAt 6) 0)
 
--- Block 1 on block 0, blocks 2 and 3 on block 1, block 4 on block 2.
+-- Block 1 on block 0, blocks 2 and 3 on block 1, block 4 on block 2, block 5 on block 4.
 abbrev forked : Memory
-forked = run unopened (plain (Open 1) ∷ plain (Block 0) ∷ plain (Block 1) ∷ plain (Block 1) ∷ plain (Block 2) ∷ [])
+forked =
+    run unopened (plain (Open 1) ∷ plain (Block 0) ∷ plain (Block 1) ∷ plain (Block 1) ∷ plain (Block 2) ∷ plain (Block 4) ∷ [])
 
 -- Block, giver, taker, pallets.
 abbrev moves : ℕ → ℕ → ℕ → ℕ → List ℕ
@@ -62,8 +63,8 @@ refuses movements chosen firm number =
       expected = record { number = number; balance = pos 0; second = 0 };
     }
 
--- At block 0 nothing counts; at block 1 its own movement; at blocks 2 and 3 block 1's and their own, and not the other's; at block 4, which
--- has none, those of blocks 1 and 2.
+-- At block 0 nothing counts; at block 1 its own movement; at blocks 2 and 3 block 1's and their own, and not the other's; at block 5, which
+-- has none, those of blocks 1 and 2. A movement that is lent twice counts twice.
 unfoldable pub balances : List Case
 balances =
     nets day 0 0 (pos 0)
@@ -76,10 +77,11 @@ balances =
     ∷ nets day 3 0 (pos 2)
     ∷ nets day 3 1 (pos 5)
     ∷ nets day 3 2 (negℤ (pos 7))
-    ∷ nets day 4 0 (negℤ (pos 5))
-    ∷ nets day 4 1 (pos 2)
-    ∷ nets day 4 2 (pos 3)
-    ∷ nets [] 4 2 (pos 0)
+    ∷ nets day 5 0 (negℤ (pos 5))
+    ∷ nets day 5 1 (pos 2)
+    ∷ nets day 5 2 (pos 3)
+    ∷ nets (day ++ day) 2 1 (pos 4)
+    ∷ nets [] 5 2 (pos 0)
     ∷ []
 
 -- Each limit of a movement, met and passed by one.
@@ -90,8 +92,8 @@ limits =
     ∷ nets (moves 3 0 1 10000) 3 0 (negℤ (pos 10000))
     ∷ refuses broken 3 0 wrongMovement
     ∷ refuses (moves 0 0 1 1) 3 1 wrongMovement
-    ∷ nets (moves 4 0 1 1) 3 1 (pos 0)
-    ∷ refuses (moves 5 0 1 1) 3 1 wrongMovement
+    ∷ nets (moves 5 0 1 1) 3 1 (pos 0)
+    ∷ refuses (moves 6 0 1 1) 3 1 wrongMovement
     ∷ nets (moves 3 2 0 1) 3 2 (negℤ (pos 1))
     ∷ refuses (moves 3 3 0 1) 3 2 wrongMovement
     ∷ refuses (moves 3 0 3 1) 3 2 wrongMovement
@@ -103,16 +105,23 @@ unfoldable pub refusals : List Case
 refusals =
     refuses (day ++ broken) 2 0 wrongMovement
     ∷ refuses (broken ++ day) 2 0 wrongMovement
-    ∷ refuses (day ++ broken) 5 0 unknownNumber
-    ∷ refuses (day ++ broken) 5 3 outOfRange
-    ∷ refuses (day ++ (3 ∷ [])) 5 3 wrongForm
+    ∷ refuses (day ++ (broken ++ day)) 2 0 wrongMovement
+    ∷ refuses (day ++ broken) 6 0 unknownNumber
+    ∷ refuses (day ++ broken) 6 3 outOfRange
+    ∷ refuses (day ++ (3 ∷ [])) 6 3 wrongForm
     ∷ refuses (day ++ (3 ∷ 0 ∷ [])) 2 0 wrongForm
     ∷ refuses (day ++ (3 ∷ 0 ∷ 1 ∷ [])) 2 0 wrongForm
     ∷ refuses day 2 3 outOfRange
-    ∷ refuses day 5 2 unknownNumber
+    ∷ refuses day 6 2 unknownNumber
     ∷ refuses (replicate (movementAt 2048) 0) 2 0 wrongMovement
     ∷ refuses (replicate (movementAt 2049) 0) 2 0 wrongForm
-    ∷ record { start = unopened; movements = day; chosen = 5; firm = 3; expected = record { number = wrongForm; balance = pos 0; second = 0 } }
+    ∷ record {
+      start = unopened;
+      movements = day;
+      chosen = 6;
+      firm = 3;
+      expected = record { number = wrongForm; balance = pos 0; second = 0 };
+    }
     ∷ []
 
 -- Every row's netting gets the answer expected.

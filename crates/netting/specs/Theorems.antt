@@ -6,7 +6,7 @@ use mathlib.Core.List.{List, List·Memᴰ}
 use lib.IntN.{ℤ, pos, _+ℤ_, natAbs}
 use Rattle.protocol.specs.declared.Movement.{Movement}
 use Rattle.protocol.specs.Memory.{Memory, replicaCount, faultBound, blockCount, parent}
-use Rattle.protocol.specs.Ancestry.{isAncestorBy}
+use Rattle.protocol.specs.Ancestry.{Falls, isAncestorBy, heightBy}
 use Rattle.protocol.specs.Outcome.{Need, _else_}
 use Rattle.protocol.specs.FirstNeeds.{isBlock}
 use Rattle.protocol.specs.Movements.{movement, movementCount, movementAllowed, isMovementList}
@@ -80,9 +80,14 @@ BalancesBounded = (m : Memory) (movements : List ℕ) (b i : ℕ) → natAbs (ne
 -- ---- "Of two blocks decided in one list of demand 3, the one with the longer line counts every movement that the other counts." By the
 -- calls and their answers alone, and of any movement, allowed or not. Two with equally long lines are one block.
 
--- How many blocks are in the line of a block; none above it is, as parents fall.
+-- How many blocks are in the line of a block: none above it is where parents fall, as those of an execution do. It is the height and one
+-- more.
 abbrev pub lineLength : (ℕ → ℕ) → ℕ → ℕ
 lineLength parentOf b = sumBelow (b + 1) (λ a. cond (isAncestorBy parentOf a b) 1 0)
+
+unfoldable pub LineLengthIsHeight : Type 0
+LineLengthIsHeight =
+    (parentOf : ℕ → ℕ) (count : ℕ) → Falls parentOf count → (b : ℕ) → b < count → lineLength parentOf b ≡ heightBy parentOf b + 1
 
 unfoldable pub LongerCountsMore : Type 0
 LongerCountsMore =
@@ -108,14 +113,23 @@ CountsMatchHistory =
     → isBlock (endOf m f list calls) b ≡ true → (x : Movement)
     → countsBy (parent (endOf m f list calls)) b x ≡ countsBy (givenParent (eventsOf m f list calls)) b x
 
--- so an accepted netting answers the balance by these;
+-- so the law above holds of what a netting counts there,
+unfoldable pub LongerNetsMore : Type 0
+LongerNetsMore =
+    (m : Memory) (f : ℕ) (list : List ℕ) (calls : List Invocation) → Execution m f list calls
+    → let events = eventsOf m f list calls in
+    (i b v j c w : ℕ) → List·Memᴰ (decided i b v) events → List·Memᴰ (decided j c w) events
+    → lineLength (givenParent events) b ≤ lineLength (givenParent events) c
+    → (x : Movement) → countsBy (parent (endOf m f list calls)) b x ≡ true → countsBy (parent (endOf m f list calls)) c x ≡ true
+
+-- an accepted netting answers the balance by the parents given,
 unfoldable pub NettingMatchesHistory : Type 0
 NettingMatchesHistory =
     (m : Memory) (f : ℕ) (list : List ℕ) (calls : List Invocation) → Execution m f list calls → (movements : List ℕ) (b i : ℕ)
     → AcceptedNetting (netting (endOf m f list calls) movements b i)
     → netting (endOf m f list calls) movements b i .answer .balance ≡ balanceBy (givenParent (eventsOf m f list calls)) movements b i
 
--- and every decided block can be netted, over any list of allowed movements.
+-- and every decided block can be netted, for every firm, over any list of at most 2,048 allowed movements.
 unfoldable pub DecidedCanBeNetted : Type 0
 DecidedCanBeNetted =
     (m : Memory) (f : ℕ) (list : List ℕ) (calls : List Invocation) → Execution m f list calls → (j b v : ℕ)

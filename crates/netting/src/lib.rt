@@ -100,10 +100,7 @@ fn counted_pallets(line: &[bool], x: Movement) -> u32
     ensures { λ r. ⌜ r ≡ cond (marked (now (line .entry)) x) (x .pallets) 0 ⌝ }
 {
     let block = x.block as usize;
-    if line[block] {
-        return x.pallets;
-    }
-    0
+    (line[block] as u32) * x.pallets
 }
 
 // A firm receives pallets.
@@ -126,8 +123,8 @@ fn give(balances: &mut [i32], firm: u32, pallets: u32)
     balances[at] = balances[at] - (pallets as i32);
 }
 
-// The balances of all firms, in one pass over the movements, up to the first that breaks the rules. Those whose block is in the line
-// count.
+// Whether every movement keeps the rules; and then the balances of all firms. One pass, up to the first movement that breaks them; those
+// count whose block is marked.
 fn tally(movements: &[u32], line: &[bool], replicas: u32, added: u32, balances: &mut [i32]) -> bool
     requires { ⌜ Talliable (now movements) (now line) replicas added (now balances) ⌝ }
     ensures { λ r. ⌜ Tallied (now (movements .entry)) (now (line .entry)) replicas added r (now (balances .exit)) ⌝ }

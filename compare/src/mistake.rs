@@ -159,6 +159,7 @@ mistakes! {
     NettingOnlyItself "netting-only-itself" "only the chosen block's own movements count" "no call: netting changes no word";
     NettingCountedOnly "netting-counted-only" "only movements that count are tested" "no call: netting changes no word";
     NettingLast "netting-last" "the last movement is not looked at" "no call: netting changes no word";
+    NettingOnce "netting-once" "a movement that is lent twice counts once" "no call: netting changes no word";
     NettingMostRefused "netting-most-refused" "a movement of 10,000 pallets is refused" "no call: netting changes no word";
     NettingPastMost "netting-past-most" "a movement of 10,001 pallets is taken" "no call: netting changes no word";
     NettingNoPallets "netting-no-pallets" "a movement of 0 pallets is taken" "no call: netting changes no word";

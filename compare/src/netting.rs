@@ -50,8 +50,9 @@ pub fn balance<R: Rules>(rules: R, m: &Memory, movements: &[u32], block: u32, re
     need(may_be_chosen(rules, m, block), UNKNOWN_NUMBER)?;
     let counted = Counted::up_to(rules, m, block);
     let mut balance = 0;
-    for movement in records(rules, movements) {
-        let counts = counted.has(rules, movement.block);
+    for (place, movement) in records(rules, movements).enumerate() {
+        let again = || records(rules, movements).take(place).any(|earlier| earlier == movement);
+        let counts = counted.has(rules, movement.block) && !(rules.has(Mistake::NettingOnce) && again());
         let tested = counts || !rules.has(Mistake::NettingCountedOnly);
         // "11 for a movement outside these rules, its block and boxes included, after 3."
         need(!tested || fits(rules, m, movement), WRONG_MOVEMENT)?;

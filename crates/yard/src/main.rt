@@ -20,15 +20,14 @@ const CHUNK_BYTES: usize = 8192;
 
 const TEXT_BYTES: usize = script::ANSWER_BYTES * CHUNK_BYTES;
 
-// The replicas of the largest f, and the slots for certificates and blocks.
-const REPLICAS: usize = 61;
-
+// The slots for certificates and blocks.
 const CERTIFICATES: usize = 2048;
 
 const BLOCKS: usize = 1024;
 
 // The words that are lent; a block has one.
-const TABLE_WORDS: usize = constants::ROW_START + REPLICAS * constants::REPLICA_WORDS;
+const TABLE_WORDS: usize = constants::ROW_START
+    + constants::MAX_REPLICAS * constants::REPLICA_WORDS;
 
 const LOG_WORDS: usize = CERTIFICATES * constants::CERTIFICATE_WORDS;
 

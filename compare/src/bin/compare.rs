@@ -150,43 +150,44 @@ fn shown(line: &[u8], tell_missing: bool) -> String {
     text + missing
 }
 
-fn compare_memories(checker: &dyn Checker, seed: u64, time: Duration) -> Result<(), String> {
+/// Seed after seed for so long, up to the first with a difference, which `differs` prints.
+fn compare_seeds(things: &str, seed: u64, time: Duration, differs: impl Fn(u64) -> bool) -> Result<(), String> {
     let start = Instant::now();
-    let library = Library(Correct);
     let mut count = 0;
     while count == 0 || count % 256 != 0 || start.elapsed() < time {
-        if let Some((told, sample)) = difference(checker, &library, seed + count) {
-            println!("seed {}: {told}", seed + count);
-            if let Some(sample) = sample {
-                let tell =
-                    |s: &_| call_difference(checker, &library, s).or_else(|| panel_difference(checker, &library, s));
-                let small = shrink_sample(&sample, |sample| tell(sample).is_some());
-                println!("smallest memory:\n{}  {}", sample_text(&small), tell(&small).unwrap_or_default());
-            }
-            return Err("memories differ".to_string());
+        if differs(seed + count) {
+            return Err(format!("{things} differ"));
         }
         count += 1;
     }
-    println!("{count} memories, no difference (seeds {seed} to {})", seed + count - 1);
+    println!("{count} {things}, no difference (seeds {seed} to {})", seed + count - 1);
     Ok(())
 }
 
-fn compare_nettings(checker: &dyn Checker, seed: u64, time: Duration) -> Result<(), String> {
-    let start = Instant::now();
-    let tell = |netting: &_| netting_difference(checker, &Library(Correct), netting);
-    let mut count = 0;
-    while count == 0 || count % 256 != 0 || start.elapsed() < time {
-        let netting = netting(seed + count);
-        if let Some(told) = tell(&netting) {
-            println!("seed {} ({}): {told}", seed + count, netting.sort);
-            let small = shrink_netting(&netting, |netting| tell(netting).is_some());
-            println!("smallest netting:\n{}  {}", netting_text(&small), tell(&small).unwrap_or_default());
-            return Err("nettings differ".to_string());
+fn compare_memories(checker: &dyn Checker, seed: u64, time: Duration) -> Result<(), String> {
+    let library = Library(Correct);
+    let tell = |s: &_| call_difference(checker, &library, s).or_else(|| panel_difference(checker, &library, s));
+    compare_seeds("memories", seed, time, |seed| {
+        let Some((told, sample)) = difference(checker, &library, seed) else { return false };
+        println!("seed {seed}: {told}");
+        if let Some(sample) = sample {
+            let small = shrink_sample(&sample, |sample| tell(sample).is_some());
+            println!("smallest memory:\n{}  {}", sample_text(&small), tell(&small).unwrap_or_default());
         }
-        count += 1;
-    }
-    println!("{count} nettings, no difference (seeds {seed} to {})", seed + count - 1);
-    Ok(())
+        true
+    })
+}
+
+fn compare_nettings(checker: &dyn Checker, seed: u64, time: Duration) -> Result<(), String> {
+    let tell = |netting: &_| netting_difference(checker, &Library(Correct), netting);
+    compare_seeds("nettings", seed, time, |seed| {
+        let netting = netting(seed);
+        let Some(told) = tell(&netting) else { return false };
+        println!("seed {seed} ({}): {told}", netting.sort);
+        let small = shrink_netting(&netting, |netting| tell(netting).is_some());
+        println!("smallest netting:\n{}  {}", netting_text(&small), tell(&small).unwrap_or_default());
+        true
+    })
 }
 
 /// Every NAME.txt of the directory gives its NAME.out.

@@ -9,7 +9,7 @@ use lib.ListN.{length, getD, set, length-set}
 use lib.Seq.{getD-set-same, getD-set-other}
 use Rattle.protocol.specs.Ancestry.{isAncestorBy}
 use Rattle.protocol.proofs.Booleans.{tests, by-test}
-use Rattle.ancestry.specs.inner.AncestryFits.{parentIn, Markable, LineMarked, Climbed}
+use Rattle.ancestry.specs.inner.AncestryFits.{parentIn, Markable, AncestorsMarked, Climbed}
 use Rattle.ancestry.proofs.Fitting.{parent-fits}
 use Rattle.ancestry.proofs.Walks.{walk-ends, walk-goes-on}
 
@@ -17,31 +17,31 @@ module _ (blocks : List ℕ) (b : ℕ) (before : List Bool) (h : Markable blocks
   there : b < length before
   there = omega (arith, h .below, h .size)
 
-  in-own-line : (a : ℕ) → a ≡ b → isAncestorBy (parentIn blocks) a b ≡ true
-  in-own-line a e = walk-ends _ _ (h .walk .falls) a b b (omega arith) (omega arith) ∙ omega tests
+  in-own-chain : (a : ℕ) → a ≡ b → isAncestorBy (parentIn blocks) a b ≡ true
+  in-own-chain a e = walk-ends _ _ (h .walk .falls) a b b (omega arith) (omega arith) ∙ omega tests
 
   -- A block above b is not in its line.
   above : (a : ℕ) → b < a → isAncestorBy (parentIn blocks) a b ≡ false
   above a l = walk-ends _ _ (h .walk .falls) a b b (omega arith) (omega arith) ∙ omega tests
 
   -- The last block.
-  pub last-marked : b ≡ 0 → LineMarked blocks b before (set before b true)
+  pub last-marked : b ≡ 0 → AncestorsMarked blocks b before (set before b true)
   last-marked z =
       record {
         size = length-set before _ _;
         marks =
             λ a.
             by-test (eqb a b)
-            (λ e. let q : a ≡ b = omega tests in rw (in-own-line a q, q) (getD-set-same before b true false there))
+            (λ e. let q : a ≡ b = omega tests in rw (in-own-chain a q, q) (getD-set-same before b true false there))
             (λ e.
             getD-set-other before b a true false (omega tests)
             ∙ ap (λ (t : Bool). t || getD before a false) (sym (above a (omega tests))));
       }
 
   -- A line other than block 0's is its block and its parent's line.
-  parent-line : (b ≡ 0 → ⊥) → (marks : List Bool) → LineMarked blocks (parentIn blocks b) (set before b true) marks
-      → LineMarked blocks b before marks
-  parent-line n marks w =
+  parent-chain : (b ≡ 0 → ⊥) → (marks : List Bool) → AncestorsMarked blocks (parentIn blocks b) (set before b true) marks
+      → AncestorsMarked blocks b before marks
+  parent-chain n marks w =
       let lower = h .walk .falls b (omega arith) n in
       let further = parent-fits _ _ (h .walk) n .1 in
       record {
@@ -52,7 +52,7 @@ module _ (blocks : List ℕ) (b : ℕ) (before : List Bool) (h : Markable blocks
             ∙ by-test (eqb a b)
             (λ e.
             let q : a ≡ b = omega tests in
-            rw (in-own-line a q, q, getD-set-same before b true false there) (or-true (isAncestorBy (parentIn blocks) b (parentIn blocks b))))
+            rw (in-own-chain a q, q, getD-set-same before b true false there) (or-true (isAncestorBy (parentIn blocks) b (parentIn blocks b))))
             (λ e.
             rw (getD-set-other before b a true false (omega tests))
             (ap (λ (t : Bool). t || getD before a false)
@@ -64,14 +64,14 @@ module _ (blocks : List ℕ) (b : ℕ) (before : List Bool) (h : Markable blocks
       }
 
   -- Block 0 is marked once more.
-  root-again : (marks : List Bool) → LineMarked blocks b (set before b true) marks → LineMarked blocks b before marks
+  root-again : (marks : List Bool) → AncestorsMarked blocks b (set before b true) marks → AncestorsMarked blocks b before marks
   root-again marks w =
       record {
         size = w .size ∙ length-set before _ _;
         marks =
             λ a.
             w .marks a
-            ∙ by-test (eqb a b) (λ e. let q : a ≡ b = omega tests in rw (in-own-line a q) refl)
+            ∙ by-test (eqb a b) (λ e. let q : a ≡ b = omega tests in rw (in-own-chain a q) refl)
             (λ e. rw (getD-set-other before b a true false (omega tests)) refl);
       }
 
@@ -90,7 +90,7 @@ module _ (blocks : List ℕ) (b : ℕ) (before : List Bool) (h : Markable blocks
       record {
         markable = record { walk = up .1; below = omega (arith, h .below, up .0); size = length-set before _ _ ∙ h .size };
         lower = λ n. up .0;
-        rest = parent-line (omega tests);
+        rest = parent-chain (omega tests);
       })
 
 climbs-on : {blocks : List ℕ} {b c d : ℕ} {x y z : List Bool} → Climbed blocks b c x y → Climbed blocks c d y z
@@ -108,5 +108,5 @@ climbs-four one two three four = climbs-on (climbs-on (climbs-on one two) three)
 
 -- At block 0 the walk ends.
 pub climbs-to-root : {blocks : List ℕ} {b top : ℕ} {x y : List Bool} → top ≡ 0 → Climbed blocks b top x y
-    → LineMarked blocks b x (set y 0 true)
+    → AncestorsMarked blocks b x (set y 0 true)
 climbs-to-root {blocks} {b} {top} {x} {y} z w = w .rest (set y 0 true) (rw (← z) (last-marked blocks top y (w .markable) z))

@@ -1,7 +1,7 @@
 -- What a walk up the parents finds, one step at a time, for any parents that fall.
 use Prim.Native.Nat.{ℕ, zero, suc, _≤_, _<_}
 use mathlib.Core.Path.{_≡_, refl, sym}
-use mathlib.Core.Bool.{false, or-false}
+use mathlib.Core.Bool.{true, false, or-false}
 use native.Mathlib.Omega.{arith}
 use lib.Dec.{eqb}
 use Rattle.protocol.specs.Ancestry.{ancestorWithin, Falls, isAncestorBy, stepsToRoot, heightBy}
@@ -19,16 +19,18 @@ module _ (p : ℕ → ℕ) (count : ℕ) (falls : Falls p count) (a : ℕ) where
       let other : eqb a (p b) ≡ false = omega tests in
       rw (e, walk-ends steps (p b) (omega arith) (omega arith), other) (or-false (eqb a b)))
 
-  -- Steps that reach block 0 are enough: more change nothing.
-  more-steps : (s t b : ℕ) → b < count → b ≤ s → b ≤ t → ancestorWithin p s a b ≡ ancestorWithin p t a b
+  -- Steps that reach block 0 are enough: more change nothing, nor do other parents above the count.
+  pub walk-same : (q : ℕ → ℕ) → ((b : ℕ) → b < count → p b ≡ q b) → (s t b : ℕ) → b < count → b ≤ s → b ≤ t
+      → ancestorWithin p s a b ≡ ancestorWithin q t a b
   unfolding ancestorWithin
-  more-steps zero t b l x y = sym (walk-ends t b l (omega arith))
-  more-steps (suc s) zero b l x y = walk-ends (suc s) b l (omega arith)
-  more-steps (suc s) (suc t) b l x y =
+  walk-same q same zero zero b l x y = refl
+  walk-same q same zero (suc t) b l x y = let e : eqb b 0 ≡ true = omega tests in rw e (sym (or-false (eqb a b)))
+  walk-same q same (suc s) zero b l x y = walk-ends (suc s) b l (omega arith)
+  walk-same q same (suc s) (suc t) b l x y =
       by-test (eqb b 0) (λ e. rw e refl)
       (λ e.
       let lower = falls b l (omega tests) in
-      rw (e, more-steps s t (p b) (omega arith) (omega arith) (omega arith)) refl)
+      rw (e, ← same b l, walk-same q same s t (p b) (omega arith) (omega arith) (omega arith)) refl)
 
   -- A block above a has a in its line if its parent has.
   pub walk-goes-on : (b : ℕ) → b < count → a < b → isAncestorBy p a b ≡ isAncestorBy p a (p b)
@@ -38,7 +40,7 @@ module _ (p : ℕ → ℕ) (count : ℕ) (falls : Falls p count) (a : ℕ) where
       let lower = falls (suc n) l (omega arith) in
       let other : eqb a (suc n) ≡ false = omega tests in
       let above : eqb (suc n) 0 ≡ false = omega tests in
-      rw (other, above) (more-steps n (p (suc n)) (p (suc n)) (omega arith) (omega arith) (omega arith))
+      rw (other, above) (walk-same p (λ x y. refl) n (p (suc n)) (p (suc n)) (omega arith) (omega arith) (omega arith))
 
 -- A block's height is at most its number.
 pub height-at-most : (p : ℕ → ℕ) (b : ℕ) → heightBy p b ≤ b

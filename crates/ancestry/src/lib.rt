@@ -1,7 +1,7 @@
 // Lines of parents: which blocks are in a block's line, and how far the block is from block 0.
 ghost use mathlib.Core.Path.{_≡_};
 ghost use Rattle.protocol.specs.Ancestry.{heightBy};
-ghost use Rattle.ancestry.specs.inner.AncestryFits.{AncestryFits, parentIn, Markable, LineMarked, Climbed};
+ghost use Rattle.ancestry.specs.inner.AncestryFits.{AncestryFits, parentIn, Markable, AncestorsMarked, Climbed};
 use constants::MAX_BLOCKS;
 
 // The block that has only itself in its line.
@@ -29,9 +29,9 @@ fn mark_four(blocks: &[u32], b: u32, marks: &mut [bool; MAX_BLOCKS as usize]) ->
 
 // Marks the blocks of block b's line, and leaves the other marks. Sixteen blocks a call: a return costs more than a step up, and so
 // the stack is a sixteenth as deep.
-pub fn mark_line(blocks: &[u32], b: u32, marks: &mut [bool; MAX_BLOCKS as usize])
+pub fn mark_ancestors(blocks: &[u32], b: u32, marks: &mut [bool; MAX_BLOCKS as usize])
     requires { ⌜ Markable (now blocks) b (now marks) ⌝ }
-    ensures { λ _. ⌜ LineMarked (now (blocks .entry)) b (now (marks .entry)) (now (marks .exit)) ⌝ }
+    ensures { λ _. ⌜ AncestorsMarked (now (blocks .entry)) b (now (marks .entry)) (now (marks .exit)) ⌝ }
 {
     let first = mark_four(blocks, b, marks);
     let second = mark_four(blocks, first, marks);
@@ -41,7 +41,7 @@ pub fn mark_line(blocks: &[u32], b: u32, marks: &mut [bool; MAX_BLOCKS as usize]
         marks[ROOT as usize] = true;
         return;
     }
-    mark_line(blocks, top, marks);
+    mark_ancestors(blocks, top, marks);
 }
 
 // The number of steps from block b up to block 0.

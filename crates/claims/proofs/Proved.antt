@@ -14,7 +14,7 @@ use Rattle.field.proofs.Theorems.{written-reads-back, read-writes-back, read-is
 use Rattle.protocol.proofs.Agreement.{agreement, words-match-history, only-appended, would-agree}
 use Rattle.ledger.proofs.Theorems.{panel-shows-history, panel-never-falls}
 use Rattle.netting.proofs.Theorems.{netting-changes-nothing, refused-netting-is-zero, netting-lowest-wins, netting-past-counts-unread}
-use Rattle.netting.proofs.Theorems.{balances-add-up, balances-bounded, longer-counts-more, equally-long-is-one, line-length-is-height}
+use Rattle.netting.proofs.Theorems.{balances-add-up, balances-bounded, longer-counts-more, equally-long-is-one, chain-length-is-height}
 use Rattle.netting.proofs.Theorems.{counts-match-history, longer-nets-more, netting-matches-history, decided-can-be-netted}
 use Rattle.netting.proofs.Cases.{netting-cases-hold}
 use Rattle.script.proofs.Agreement.{scripts-agree, script-is-execution}
@@ -61,7 +61,7 @@ proved =
       balancesBounded = balances-bounded;
       longerCountsMore = longer-counts-more;
       equallyLongIsOne = equally-long-is-one;
-      lineLengthIsHeight = line-length-is-height;
+      chainLengthIsHeight = chain-length-is-height;
       countsMatchHistory = counts-match-history;
       longerNetsMore = longer-nets-more;
       nettingMatchesHistory = netting-matches-history;

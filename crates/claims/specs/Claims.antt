@@ -11,7 +11,7 @@ use Rattle.field.specs.Theorems.{CountIsLeast, WrittenReadsBack, ReadWritesBack
 use Rattle.protocol.specs.Agreement.{Agreement, WordsMatchHistory, OnlyAppended, WouldAgree}
 use Rattle.ledger.specs.Theorems.{PanelShowsHistory, PanelNeverFalls}
 use Rattle.netting.specs.Theorems.{NettingChangesNothing, RefusedNettingIsZero, NettingLowestWins, NettingPastCountsUnread}
-use Rattle.netting.specs.Theorems.{BalancesAddUp, BalancesBounded, LongerCountsMore, EquallyLongIsOne, LineLengthIsHeight}
+use Rattle.netting.specs.Theorems.{BalancesAddUp, BalancesBounded, LongerCountsMore, EquallyLongIsOne, ChainLengthIsHeight}
 use Rattle.netting.specs.Theorems.{CountsMatchHistory, LongerNetsMore, NettingMatchesHistory, DecidedCanBeNetted}
 use Rattle.netting.specs.Cases.{NettingCasesHold}
 use Rattle.script.specs.Agreement.{ScriptsAgree, ScriptIsExecution}
@@ -99,7 +99,7 @@ pub record Claims : Type 0 where
   -- two decided blocks with equally long lines are one
   pub equallyLongIsOne : EquallyLongIsOne
   -- a line has one block more than its block's height
-  pub lineLengthIsHeight : LineLengthIsHeight
+  pub chainLengthIsHeight : ChainLengthIsHeight
   -- what counts by the words counts by the parents given
   pub countsMatchHistory : CountsMatchHistory
   -- of two decided blocks the one with the longer line nets every movement that the other nets

@@ -15,7 +15,7 @@ use Rattle.protocol.specs.Memory.{maxFaultBound, replicaCount, maxBlocks}
 use Rattle.protocol.specs.Outcome.{firstRefusal, wrongMovement}
 use Rattle.protocol.specs.Movements.{movement, movementCount}
 use Rattle.protocol.proofs.Booleans.{tests, by-test, at-below}
-use Rattle.ancestry.specs.inner.AncestryFits.{parentIn, LineMarked}
+use Rattle.ancestry.specs.inner.AncestryFits.{parentIn, AncestorsMarked}
 use Rattle.netting.specs.declared.Netted.{Netted}
 use Rattle.netting.specs.Netting.{countsBy, balanceAfter, balanceBy, nettingAnswer}
 use Rattle.netting.specs.inner.Tallies.{marked, Talliable, Tallied, Nettable, balanceAnswer}
@@ -29,12 +29,12 @@ all-same n i x =
     (λ e. List·getD-eq-default (replicate n x) x (rw (length-replicate n x) (omega tests)))
 
 module _ (blocks movements : List ℕ) (b i replicas added : ℕ) (h : Nettable blocks movements b i replicas added)
-    (line : List Bool) (walked : LineMarked blocks b (replicate maxBlocks false) line) where
+    (marks : List Bool) (walked : AncestorsMarked blocks b (replicate maxBlocks false) marks) where
   -- The marked blocks are those of the line.
-  counts-marked : (x : Movement) → marked line x ≡ countsBy (parentIn blocks) b x
+  counts-marked : (x : Movement) → marked marks x ≡ countsBy (parentIn blocks) b x
   counts-marked x = walked .marks (x .block) ∙ rw (all-same maxBlocks (x .block) false) (or-false _)
 
-  pub talliable : Talliable movements line replicas added (replicate (replicaCount maxFaultBound) (pos 0))
+  pub talliable : Talliable movements marks replicas added (replicate (replicaCount maxFaultBound) (pos 0))
   talliable =
       record {
         list = h .list;
@@ -43,7 +43,7 @@ module _ (blocks movements : List ℕ) (b i replicas added : ℕ) (h : Nettable 
         zeros = λ j. all-same (replicaCount maxFaultBound) j (pos 0);
       }
 
-  module _ (allowed : Bool) (xs : List ℤ) (t : Tallied movements line replicas added allowed xs) where
+  module _ (allowed : Bool) (xs : List ℤ) (t : Tallied movements marks replicas added allowed xs) where
     pub breaks : allowed ≡ false → {r : Netted} → r ≡ record { number = wrongMovement; balance = pos 0; second = 0 }
         → r ≡ balanceAnswer blocks movements b i replicas added
     unfolding balanceAnswer nettingAnswer firstRefusal
@@ -53,11 +53,11 @@ module _ (blocks movements : List ℕ) (b i replicas added : ℕ) (h : Nettable 
     reads-back : allowed ≡ true → toZ w32 (ofZ w32 (getD xs i (pos 0))) ≡ balanceBy (parentIn blocks) movements b i
     reads-back e =
         let each = at-below (movementCount movements) _ (sym (t .tested) ∙ e) in
-        let small = balance-small (marked line) movements (movementCount movements) i
+        let small = balance-small (marked marks) movements (movementCount movements) i
         (λ k l. is-allowed replicas added (movement movements k) (each k l) .few) (list-short movements (h .list)) in
         rw (t .firms e i (h .firm))
-        (toZ-ofZ (small-fits (balanceAfter (marked line) movements (movementCount movements) i) (omega arith))
-        ∙ balance-same (marked line) (countsBy (parentIn blocks) b) counts-marked movements (movementCount movements) i)
+        (toZ-ofZ (small-fits (balanceAfter (marked marks) movements (movementCount movements) i) (omega arith))
+        ∙ balance-same (marked marks) (countsBy (parentIn blocks) b) counts-marked movements (movementCount movements) i)
 
     pub nets-all : allowed ≡ true → {r : Netted}
         → r ≡ record { number = 0; balance = toZ w32 (ofZ w32 (getD xs i (pos 0))); second = 0 }

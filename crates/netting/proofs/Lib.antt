@@ -1,7 +1,7 @@
 -- What follows from the rule, and what the code's proofs share.
 pub mod Signed
 pub mod Sums
-pub mod Lines
+pub mod Chains
 pub mod Nettings
 pub mod Theorems
 pub mod Moving

@@ -49,6 +49,7 @@ pub balance-small : (counts : Movement → Bool) (movements : List ℕ) (k i : �
 balance-small counts movements k i few short =
     less-small _ _ maxBalance (pallets-small _ counts movements k i few short) (pallets-small _ counts movements k i few short)
 
+-- What an allowed movement, and a list of movements, tell.
 pub record Allowed (replicas added : ℕ) (x : Movement) : Type 0 where
   pub giver : x .giver < replicas
   pub taker : x .taker < replicas

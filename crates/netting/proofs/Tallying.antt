@@ -108,20 +108,20 @@ module _ (counts : Movement → Bool) (movements : List ℕ) (k : ℕ) (xs : Lis
 
 -- ---- the pass, up to a place
 
-pub record Passed (movements : List ℕ) (line : List Bool) (replicas added : ℕ) (before after : List ℤ) (k : ℕ) : Type 0 where
+pub record Passed (movements : List ℕ) (marks : List Bool) (replicas added : ℕ) (before after : List ℤ) (k : ℕ) : Type 0 where
   pub size : length after ≡ length before
   pub allowed : allBelow k (λ j. movementAllowed replicas added (movement movements j)) ≡ true
-  pub balances : Differ after (received (marked line) movements k) (given (marked line) movements k)
+  pub balances : Differ after (received (marked marks) movements k) (given (marked marks) movements k)
 
-module _ (movements : List ℕ) (line : List Bool) (replicas added : ℕ) (before : List ℤ)
-    (t : Talliable movements line replicas added before) where
-  pub starts : Passed movements line replicas added before before 0
+module _ (movements : List ℕ) (marks : List Bool) (replicas added : ℕ) (before : List ℤ)
+    (t : Talliable movements marks replicas added before) where
+  pub starts : Passed movements marks replicas added before before 0
   unfolding allBelow palletsOf sumBelow
   starts = record { size = refl; allowed = refl; balances = λ i l. t .zeros i }
 
-  module _ (xs : List ℤ) (k : ℕ) (l : k < movementCount movements) (h : Passed movements line replicas added before xs k)
+  module _ (xs : List ℤ) (k : ℕ) (l : k < movementCount movements) (h : Passed movements marks replicas added before xs k)
       (now : movementAllowed replicas added (movement movements k) ≡ true) where
-    pub step : Step (marked line) movements k xs
+    pub step : Step (marked marks) movements k xs
     unfolding allBelow
     step =
         let short = list-short movements (t .list) in
@@ -135,30 +135,30 @@ module _ (movements : List ℕ) (line : List Bool) (replicas added : ℕ) (befor
           balances = h .balances;
         }
 
-    pub goes-on : Passed movements line replicas added before
-        (set (gave (marked line) movements k xs step) (movement movements k .taker)
-        (getD (gave (marked line) movements k xs step) (movement movements k .taker) (pos 0)
-        +ℤ pos (moved (marked line) movements k xs step))) (suc k)
+    pub goes-on : Passed movements marks replicas added before
+        (set (gave (marked marks) movements k xs step) (movement movements k .taker)
+        (getD (gave (marked marks) movements k xs step) (movement movements k .taker) (pos 0)
+        +ℤ pos (moved (marked marks) movements k xs step))) (suc k)
     unfolding allBelow
     goes-on =
         record {
           size = simp length-set (h .size);
           allowed = true-and (h .allowed) now;
-          balances = both-differ (marked line) movements k xs step;
+          balances = both-differ (marked marks) movements k xs step;
         }
 
-    pub block-there : movement movements k .block < length line
+    pub block-there : movement movements k .block < length marks
     block-there = let x = is-allowed replicas added (movement movements k) now in omega (arith, x .block, t .blocks)
 
   pub stops : (xs : List ℤ) (k : ℕ) → k < movementCount movements → movementAllowed replicas added (movement movements k) ≡ false
-      → Tallied movements line replicas added false xs
+      → Tallied movements marks replicas added false xs
   stops xs k l broken =
       record {
         tested = refuted-one (λ j. movementAllowed replicas added (movement movements j)) k (movementCount movements) l broken;
         firms = λ e. absurd (false≢true e);
       }
 
-  pub ends : (xs : List ℤ) → Passed movements line replicas added before xs (movementCount movements)
-      → Tallied movements line replicas added true xs
+  pub ends : (xs : List ℤ) → Passed movements marks replicas added before xs (movementCount movements)
+      → Tallied movements marks replicas added true xs
   ends xs h =
       record { tested = sym (h .allowed); firms = λ e i l. h .balances i (omega (arith, h .size, t .firms)) }

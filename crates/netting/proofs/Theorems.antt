@@ -18,16 +18,16 @@ use Rattle.protocol.proofs.Booleans.{tests}
 use Rattle.protocol.proofs.Needs.{failing-need, lowest-refusal}
 use Rattle.protocol.proofs.Formed.{formed, form, falls}
 use Rattle.protocol.proofs.Alike.{twin, parent-same, form-same}
-use Rattle.protocol.proofs.Reached.{Reached, chosen-known}
+use Rattle.protocol.proofs.Reached.{Reached, given-falls, chosen-known}
 use Rattle.protocol.proofs.Agreement.{reached-by, agreement}
 use Rattle.netting.specs.Netting.{sumBelow, received, given, countsBy, balanceBy, nettingNeeds, nettingAnswer, netting}
 use Rattle.netting.specs.Theorems.{AcceptedNetting, NettingChangesNothing, RefusedNetting, RefusedNettingIsZero}
 use Rattle.netting.specs.Theorems.{NettingLowestWins, NettingPastCountsUnread}
 use Rattle.netting.specs.Theorems.{BalancesAddUp, maxBalance, BalancesBounded, LongerCountsMore, EquallyLongIsOne}
-use Rattle.netting.specs.Theorems.{lineLength, LineLengthIsHeight, CountsMatchHistory, LongerNetsMore}
+use Rattle.netting.specs.Theorems.{chainLength, ChainLengthIsHeight, CountsMatchHistory, LongerNetsMore}
 use Rattle.netting.specs.Theorems.{NettingMatchesHistory, DecidedCanBeNetted}
 use Rattle.netting.proofs.Sums.{over-firms, total-same, total-less}
-use Rattle.netting.proofs.Lines.{line-same, line-of-line, line-as-high, line-length}
+use Rattle.netting.proofs.Chains.{chain-same, chain-of-chain, chain-as-high, chain-length}
 use Rattle.netting.proofs.Nettings.{balance-same, balance-small, is-allowed, list-short, number-is, passes, nets, answers}
 use Rattle.netting.proofs.Nettings.{accepted-netting}
 
@@ -103,7 +103,7 @@ module _ (m : Memory) (l b : List ℕ) (a : Alike m (twin m l b)) (movements : L
           let h = nets m movements chosen i e in
           ap (nettingAnswer 0)
           (balance-same _ _
-          (λ x. line-same (parent m) (parent (twin m l b)) (blockCount m) (falls m (formed m (h .formed)))
+          (λ x. chain-same (parent m) (parent (twin m l b)) (blockCount m) (falls m (formed m (h .formed)))
           (λ y below. parent-same m l b a y (omega tests)) (x .block) chosen (omega (tests, h .block)))
           movements (movementCount movements) i)
       go (suc n) e = refl
@@ -127,52 +127,49 @@ module _ (m : Memory) (f : ℕ) (list : List ℕ) (calls : List Invocation) (exe
   reached : Reached f (eventsOf m f list calls) (endOf m f list calls)
   reached = reached-by m f list calls execution
 
-  given-falls : Falls (givenParent (eventsOf m f list calls)) (blockCount (endOf m f list calls))
-  given-falls b l n =
-      let e = reached .told .parents b l in
-      let lower = falls _ (reached .safe .formed) b l n in
-      omega arith
+  parents-fall : Falls (givenParent (eventsOf m f list calls)) (blockCount (endOf m f list calls))
+  parents-fall = given-falls f _ _ reached
 
   decided-known : (i b v : ℕ) → List·Memᴰ (decided i b v) (eventsOf m f list calls) → b < blockCount (endOf m f list calls)
   decided-known i b v x = chosen-known f _ _ reached (reached .decisions i b v x)
 
   longer-is-higher : (i b v j c w : ℕ) → List·Memᴰ (decided i b v) (eventsOf m f list calls)
       → List·Memᴰ (decided j c w) (eventsOf m f list calls)
-      → lineLength (givenParent (eventsOf m f list calls)) b ≤ lineLength (givenParent (eventsOf m f list calls)) c
+      → chainLength (givenParent (eventsOf m f list calls)) b ≤ chainLength (givenParent (eventsOf m f list calls)) c
       → heightBy (givenParent (eventsOf m f list calls)) b ≤ heightBy (givenParent (eventsOf m f list calls)) c
   longer-is-higher i b v j c w x y h =
-      let one = line-length _ _ given-falls b (decided-known i b v x) in
-      let other = line-length _ _ given-falls c (decided-known j c w y) in
+      let one = chain-length _ _ parents-fall b (decided-known i b v x) in
+      let other = chain-length _ _ parents-fall c (decided-known j c w y) in
       omega arith
 
   -- Of two decided blocks the one whose line is not longer is in the line of the other.
-  lower-in-line : (i b v j c w : ℕ) → List·Memᴰ (decided i b v) (eventsOf m f list calls)
+  lower-in-chain : (i b v j c w : ℕ) → List·Memᴰ (decided i b v) (eventsOf m f list calls)
       → List·Memᴰ (decided j c w) (eventsOf m f list calls)
-      → lineLength (givenParent (eventsOf m f list calls)) b ≤ lineLength (givenParent (eventsOf m f list calls)) c
+      → chainLength (givenParent (eventsOf m f list calls)) b ≤ chainLength (givenParent (eventsOf m f list calls)) c
       → isAncestorBy (givenParent (eventsOf m f list calls)) b c ≡ true
   unfolding Agreement
-  lower-in-line i b v j c w x y h =
+  lower-in-chain i b v j c w x y h =
       ⊎-elim (λ e. e)
       (λ e.
-      let q = line-as-high _ _ given-falls c b (decided-known i b v x) e (longer-is-higher i b v j c w x y h) in
+      let q = chain-as-high _ _ parents-fall c b (decided-known i b v x) e (longer-is-higher i b v j c w x y h) in
       rw q (rw q at e))
       (agreement m f list calls execution .oneChain i b v j c w x y)
 
-pub line-length-is-height : LineLengthIsHeight
-unfolding LineLengthIsHeight
-line-length-is-height parentOf count falls b l = line-length parentOf count falls b l
+pub chain-length-is-height : ChainLengthIsHeight
+unfolding ChainLengthIsHeight
+chain-length-is-height parentOf count falls b l = chain-length parentOf count falls b l
 
 pub longer-counts-more : LongerCountsMore
 unfolding LongerCountsMore
 longer-counts-more m f list calls execution i b v j c w x y h moved counted =
-    line-of-line _ _ (given-falls m f list calls execution) (moved .block) b c (decided-known m f list calls execution j c w y) counted
-    (lower-in-line m f list calls execution i b v j c w x y h)
+    chain-of-chain _ _ (parents-fall m f list calls execution) (moved .block) b c (decided-known m f list calls execution j c w y) counted
+    (lower-in-chain m f list calls execution i b v j c w x y h)
 
 pub equally-long-is-one : EquallyLongIsOne
 unfolding EquallyLongIsOne
 equally-long-is-one m f list calls execution i b v j c w x y h =
-    line-as-high _ _ (given-falls m f list calls execution) b c (decided-known m f list calls execution j c w y)
-    (lower-in-line m f list calls execution i b v j c w x y (omega arith))
+    chain-as-high _ _ (parents-fall m f list calls execution) b c (decided-known m f list calls execution j c w y)
+    (lower-in-chain m f list calls execution i b v j c w x y (omega arith))
     (longer-is-higher m f list calls execution j c w i b v y x (omega arith))
 
 pub counts-match-history : CountsMatchHistory
@@ -180,7 +177,7 @@ unfolding CountsMatchHistory
 counts-match-history m f list calls execution b known x =
     let end = endOf m f list calls in
     let h = reached m f list calls execution in
-    line-same (parent end) (givenParent (eventsOf m f list calls)) (blockCount end) (falls end (h .safe .formed)) (h .told .parents)
+    chain-same (parent end) (givenParent (eventsOf m f list calls)) (blockCount end) (falls end (h .safe .formed)) (h .told .parents)
     (x .block) b (omega tests)
 
 pub longer-nets-more : LongerNetsMore

@@ -43,25 +43,21 @@ day = moves 1 0 1 5 ++ (moves 2 1 2 3 ++ moves 3 2 0 7)
 abbrev broken : List ℕ
 broken = moves 3 0 1 10001
 
-abbrev nets : List ℕ → ℕ → ℕ → ℤ → Case
-nets movements chosen firm balance =
+abbrev row : Memory → List ℕ → ℕ → ℕ → ℕ → ℤ → Case
+row start movements chosen firm number balance =
     record {
-      start = forked;
+      start = start;
       movements = movements;
       chosen = chosen;
       firm = firm;
-      expected = record { number = 0; balance = balance; second = 0 };
+      expected = record { number = number; balance = balance; second = 0 };
     }
 
+abbrev nets : List ℕ → ℕ → ℕ → ℤ → Case
+nets movements chosen firm balance = row forked movements chosen firm 0 balance
+
 abbrev refuses : List ℕ → ℕ → ℕ → ℕ → Case
-refuses movements chosen firm number =
-    record {
-      start = forked;
-      movements = movements;
-      chosen = chosen;
-      firm = firm;
-      expected = record { number = number; balance = pos 0; second = 0 };
-    }
+refuses movements chosen firm number = row forked movements chosen firm number (pos 0)
 
 -- At block 0 nothing counts; at block 1 its own movement; at blocks 2 and 3 block 1's and their own, and not the other's; at block 5, which
 -- has none, those of blocks 1 and 2. A movement that is lent twice counts twice.
@@ -115,13 +111,7 @@ refusals =
     ∷ refuses day 6 2 unknownNumber
     ∷ refuses (replicate (movementAt 2048) 0) 2 0 wrongMovement
     ∷ refuses (replicate (movementAt 2049) 0) 2 0 wrongForm
-    ∷ record {
-      start = unopened;
-      movements = day;
-      chosen = 6;
-      firm = 3;
-      expected = record { number = wrongForm; balance = pos 0; second = 0 };
-    }
+    ∷ row unopened day 6 3 wrongForm (pos 0)
     ∷ []
 
 -- Every row's netting gets the answer expected.

@@ -82,19 +82,19 @@ BalancesBounded = (m : Memory) (movements : List ℕ) (b i : ℕ) → natAbs (ne
 
 -- How many blocks are in the line of a block: none above it is where parents fall, as those of an execution do. It is the height and one
 -- more.
-abbrev pub lineLength : (ℕ → ℕ) → ℕ → ℕ
-lineLength parentOf b = sumBelow (b + 1) (λ a. cond (isAncestorBy parentOf a b) 1 0)
+abbrev pub chainLength : (ℕ → ℕ) → ℕ → ℕ
+chainLength parentOf b = sumBelow (b + 1) (λ a. cond (isAncestorBy parentOf a b) 1 0)
 
-unfoldable pub LineLengthIsHeight : Type 0
-LineLengthIsHeight =
-    (parentOf : ℕ → ℕ) (count : ℕ) → Falls parentOf count → (b : ℕ) → b < count → lineLength parentOf b ≡ heightBy parentOf b + 1
+unfoldable pub ChainLengthIsHeight : Type 0
+ChainLengthIsHeight =
+    (parentOf : ℕ → ℕ) (count : ℕ) → Falls parentOf count → (b : ℕ) → b < count → chainLength parentOf b ≡ heightBy parentOf b + 1
 
 unfoldable pub LongerCountsMore : Type 0
 LongerCountsMore =
     (m : Memory) (f : ℕ) (list : List ℕ) (calls : List Invocation) → Execution m f list calls
     → let events = eventsOf m f list calls in
     (i b v j c w : ℕ) → List·Memᴰ (decided i b v) events → List·Memᴰ (decided j c w) events
-    → lineLength (givenParent events) b ≤ lineLength (givenParent events) c
+    → chainLength (givenParent events) b ≤ chainLength (givenParent events) c
     → (x : Movement) → countsBy (givenParent events) b x ≡ true → countsBy (givenParent events) c x ≡ true
 
 unfoldable pub EquallyLongIsOne : Type 0
@@ -102,7 +102,7 @@ EquallyLongIsOne =
     (m : Memory) (f : ℕ) (list : List ℕ) (calls : List Invocation) → Execution m f list calls
     → let events = eventsOf m f list calls in
     (i b v j c w : ℕ) → List·Memᴰ (decided i b v) events → List·Memᴰ (decided j c w) events
-    → lineLength (givenParent events) b ≡ lineLength (givenParent events) c → b ≡ c
+    → chainLength (givenParent events) b ≡ chainLength (givenParent events) c → b ≡ c
 
 -- ---- The link to the words, at the end of an execution.
 
@@ -119,7 +119,7 @@ LongerNetsMore =
     (m : Memory) (f : ℕ) (list : List ℕ) (calls : List Invocation) → Execution m f list calls
     → let events = eventsOf m f list calls in
     (i b v j c w : ℕ) → List·Memᴰ (decided i b v) events → List·Memᴰ (decided j c w) events
-    → lineLength (givenParent events) b ≤ lineLength (givenParent events) c
+    → chainLength (givenParent events) b ≤ chainLength (givenParent events) c
     → (x : Movement) → countsBy (parent (endOf m f list calls)) b x ≡ true → countsBy (parent (endOf m f list calls)) c x ≡ true
 
 -- an accepted netting answers the balance by the parents given,

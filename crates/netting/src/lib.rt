@@ -95,12 +95,12 @@ fn is_allowed(x: Movement, replicas: u32, added: u32) -> bool
 }
 
 // The pallets of a movement, or none where its block is not marked.
-fn counted_pallets(line: &[bool], x: Movement) -> u32
-    requires { ⌜ x .block < length (now line) ⌝ }
-    ensures { λ r. ⌜ r ≡ cond (marked (now (line .entry)) x) (x .pallets) 0 ⌝ }
+fn counted_pallets(marks: &[bool], x: Movement) -> u32
+    requires { ⌜ x .block < length (now marks) ⌝ }
+    ensures { λ r. ⌜ r ≡ cond (marked (now (marks .entry)) x) (x .pallets) 0 ⌝ }
 {
     let block = x.block as usize;
-    (line[block] as u32) * x.pallets
+    (marks[block] as u32) * x.pallets
 }
 
 // A firm receives pallets.
@@ -125,9 +125,9 @@ fn give(balances: &mut [i32], firm: u32, pallets: u32)
 
 // Whether every movement keeps the rules; and then the balances of all firms. One pass, up to the first movement that breaks them; those
 // count whose block is marked.
-fn tally(movements: &[u32], line: &[bool], replicas: u32, added: u32, balances: &mut [i32]) -> bool
-    requires { ⌜ Talliable (now movements) (now line) replicas added (now balances) ⌝ }
-    ensures { λ r. ⌜ Tallied (now (movements .entry)) (now (line .entry)) replicas added r (now (balances .exit)) ⌝ }
+fn tally(movements: &[u32], marks: &[bool], replicas: u32, added: u32, balances: &mut [i32]) -> bool
+    requires { ⌜ Talliable (now movements) (now marks) replicas added (now balances) ⌝ }
+    ensures { λ r. ⌜ Tallied (now (movements .entry)) (now (marks .entry)) replicas added r (now (balances .exit)) ⌝ }
 {
     let count = movements.len() / MOVEMENT_WORDS;
     let mut place: usize = 0;
@@ -136,7 +136,7 @@ fn tally(movements: &[u32], line: &[bool], replicas: u32, added: u32, balances: 
         if !is_allowed(x, replicas, added) {
             return false;
         }
-        let pallets = counted_pallets(line, x);
+        let pallets = counted_pallets(marks, x);
         give(balances, x.giver, pallets);
         receive(balances, x.taker, pallets);
         place += 1;
@@ -156,10 +156,10 @@ fn balance_at(
     requires { ⌜ Nettable (now blocks) (now movements) block replica replicas added ⌝ }
     ensures { λ r. ⌜ r ≡ balanceAnswer (now (blocks .entry)) (now (movements .entry)) block replica replicas added ⌝ }
 {
-    let mut line = [false; MAX_BLOCKS as usize];
-    ancestry::mark_line(blocks, block, &mut line);
+    let mut marks = [false; MAX_BLOCKS as usize];
+    ancestry::mark_ancestors(blocks, block, &mut marks);
     let mut balances = [0i32; MAX_REPLICAS];
-    if !tally(movements, &line, replicas, added, &mut balances) {
+    if !tally(movements, &marks, replicas, added, &mut balances) {
         return refused(WRONG_MOVEMENT);
     }
     let at = replica as usize;

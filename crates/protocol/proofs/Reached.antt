@@ -67,7 +67,7 @@ words-told r b v (c inView w) positive h =
 -- ---- lines and heights by the parents given
 
 module _ (f : ℕ) (past : List Event) (m : Memory) (h : Reached f past m) where
-  given-falls : Falls (givenParent past) (blockCount m)
+  pub given-falls : Falls (givenParent past) (blockCount m)
   given-falls b l n =
       let e = h .told .parents b l in
       let lower = falls m (h .safe .formed) b l n in

@@ -1,4 +1,4 @@
--- `mark_line` meets its contract. The measure is the block number, which falls on the way up.
+-- `mark_ancestors` meets its contract. The measure is the block number, which falls on the way up.
 use Prim.Native.Nat.{ℕ, _<_}
 use native.Mathlib.Omega.{arith}
 use borrow.Author.Needs.{needs}
@@ -6,11 +6,11 @@ use borrow.Fn.Kinds.{In}
 use borrow.Fn.PlainCycle.{Measures, is, falls, and}
 use Rattle.ancestry.proofs.Marking.{climbs-four, climbs-to-root}
 use Rattle.ancestry.proofs.mark_four.Reads as four
-use Rattle.ancestry.proofs.mark_line.Reads as reads
-use Rattle.ancestry.proofs.mark_line.Kinds as kinds
-use Rattle.ancestry.proofs.+mark_line.Lts-mark_line as lts
-use Rattle.ancestry.proofs.+mark_line.{statement}
-use Rattle.ancestry.proofs.+mark_line.Tie.{close}
+use Rattle.ancestry.proofs.mark_ancestors.Reads as reads
+use Rattle.ancestry.proofs.mark_ancestors.Kinds as kinds
+use Rattle.ancestry.proofs.+mark_ancestors.Lts-mark_ancestors as lts
+use Rattle.ancestry.proofs.+mark_ancestors.{statement}
+use Rattle.ancestry.proofs.+mark_ancestors.Tie.{close}
 
 abbrev μ : Measures 2 kinds.ps ℕ
 μ κs a = a .1 .0
@@ -35,8 +35,8 @@ returns t c =
     (last .mark-four4 .ensures) in
     climbs-to-root (c .if1 .taken) climbed
 
-mark-line-requires : (t : ℕ) → lts.Need-mark-line-requires (four.Asked, four.Learnt, asked t, reads.Post) (given t) reads.Post
-mark-line-requires t c κs =
+mark-ancestors-requires : (t : ℕ) → lts.Need-mark-ancestors-requires (four.Asked, four.Learnt, asked t, reads.Post) (given t) reads.Post
+mark-ancestors-requires t c κs =
     let last = c .before .before in
     let third = last .before .before in
     let second = third .before .before in
@@ -53,10 +53,10 @@ returns-2 t c =
     let first = second .before .before in
     let climbed = climbs-four (first .mark-four .ensures) (second .mark-four2 .ensures) (third .mark-four3 .ensures)
     (last .mark-four4 .ensures) in
-    climbed .rest _ (c .mark-line .ensures)
+    climbed .rest _ (c .mark-ancestors .ensures)
 
-pub +mark-line-spec : {M : Type 1} → statement M
-+mark-line-spec =
+pub +mark-ancestors-spec : {M : Type 1} → statement M
++mark-ancestors-spec =
     close μ λ t. lts.spec (four.Asked, four.Learnt, asked t, reads.Post) (given t) reads.Post
     (first-requires t) (λ c κs. search needs) (λ c κs. search needs) (λ c κs. search needs) (λ c. search needs) (λ c. search needs)
-    (returns t) (mark-line-requires t) (returns-2 t)
+    (returns t) (mark-ancestors-requires t) (returns-2 t)

@@ -23,7 +23,7 @@ pub record Markable (blocks : List ℕ) (b : ℕ) (marks : List Bool) : Type 0 w
   pub size : length marks ≡ maxBlocks
 
 -- The marks before and after a walk up the line of block b: those of the line are set, the others are as they were.
-pub record LineMarked (blocks : List ℕ) (b : ℕ) (before after : List Bool) : Type 0 where
+pub record AncestorsMarked (blocks : List ℕ) (b : ℕ) (before after : List Bool) : Type 0 where
   pub size : length after ≡ length before
   pub marks : (a : ℕ) → getD after a false ≡ (isAncestorBy (parentIn blocks) a b || getD before a false)
 
@@ -31,4 +31,4 @@ pub record LineMarked (blocks : List ℕ) (b : ℕ) (before after : List Bool) :
 pub record Climbed (blocks : List ℕ) (b top : ℕ) (before after : List Bool) : Type 0 where
   pub markable : Markable blocks top after
   pub lower : (top ≡ 0 → ⊥) → top < b
-  pub rest : (marks : List Bool) → LineMarked blocks top after marks → LineMarked blocks b before marks
+  pub rest : (marks : List Bool) → AncestorsMarked blocks top after marks → AncestorsMarked blocks b before marks

@@ -10,11 +10,11 @@ use Rattle.netting.proofs.tally.Statement.{statement}
 use Rattle.netting.proofs.tally.Tie as tie
 
 abbrev Inv-loop : tie.InvT-loop
-Inv-loop movements line replicas added balances₀ count place₀ balances place =
-    (place ≤ movementCount movements) × Passed movements line replicas added balances₀ balances place
+Inv-loop movements marks replicas added balances₀ count place₀ balances place =
+    (place ≤ movementCount movements) × Passed movements marks replicas added balances₀ balances place
 
 abbrev μ-loop : tie.MeasureT-loop
-μ-loop movements line replicas added balances₀ count place₀ balances place = movementCount movements - place
+μ-loop movements marks replicas added balances₀ count place₀ balances place = movementCount movements - place
 
 loop-holds : tie.Need-loop-holds Inv-loop μ-loop
 loop-holds c = (omega arith, starts _ _ _ _ _ (c .before .before .pre))

@@ -23,20 +23,20 @@ pub record Movable (balances : List ℤ) (firm pallets : ℕ) : Type 0 where
 
 -- A movement counts where its block is marked.
 abbrev pub marked : List Bool → Movement → Bool
-marked line x = getD line (x .block) false
+marked marks x = getD marks (x .block) false
 
 -- A list of movements; a mark for each block and a balance of 0 for each firm.
-pub record Talliable (movements : List ℕ) (line : List Bool) (replicas added : ℕ) (balances : List ℤ) : Type 0 where
+pub record Talliable (movements : List ℕ) (marks : List Bool) (replicas added : ℕ) (balances : List ℤ) : Type 0 where
   pub list : isMovementList movements ≡ true
-  pub blocks : added ≤ length line
+  pub blocks : added ≤ length marks
   pub firms : replicas ≤ length balances
   pub zeros : (i : ℕ) → getD balances i (pos 0) ≡ pos 0
 
 -- Whether every movement is allowed, and then every firm's balance.
-pub record Tallied (movements : List ℕ) (line : List Bool) (replicas added : ℕ) (allowed : Bool) (balances : List ℤ) : Type 0 where
+pub record Tallied (movements : List ℕ) (marks : List Bool) (replicas added : ℕ) (allowed : Bool) (balances : List ℤ) : Type 0 where
   pub tested : allowed ≡ allBelow (movementCount movements) (λ k. movementAllowed replicas added (movement movements k))
   pub firms : allowed ≡ true → (i : ℕ) → i < replicas
-      → getD balances i (pos 0) ≡ balanceAfter (marked line) movements (movementCount movements) i
+      → getD balances i (pos 0) ≡ balanceAfter (marked marks) movements (movementCount movements) i
 
 -- The needs of a netting up to the movements hold.
 pub record Nettable (blocks movements : List ℕ) (b i replicas added : ℕ) : Type 0 where

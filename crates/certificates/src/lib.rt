@@ -13,13 +13,14 @@ ghost use Rattle.certificates.specs.inner.Filing.{
   equalFrom,
   isEqual,
   isOfOtherView,
-  slotFor,
   leaves,
   filing,
   filingRefusal,
 };
+use constants::APPENDED;
 use constants::CERTIFICATE_COUNT_AT;
 use constants::CERTIFICATE_WORDS;
+use constants::FOUND;
 use constants::KIND_AT;
 use constants::OF_VIEW_AT;
 use constants::PROPOSED_BLOCK_AT;
@@ -40,9 +41,10 @@ pub struct Certificate {
     pub boot: u32,
 }
 
-// The number that a certificate has in the log, or the refusal.
+// Where a certificate is filed, or the refusal.
 pub enum Filed {
-    At(u32),
+    // its number in the log, and which: FOUND or APPENDED
+    At(u32, u32),
     Refused(u32),
 }
 
@@ -52,7 +54,7 @@ impl Filed {
         ensures { λ r. ⌜ r ≡ filingRefusal self ⌝ }
     {
         match self {
-            Filed::At(_) => ACCEPTED,
+            Filed::At(_, _) => ACCEPTED,
             Filed::Refused(number) => number,
         }
     }
@@ -118,22 +120,6 @@ fn find(log: &[u32], count: u32, c: Certificate) -> u32
     count
 }
 
-// The number that a certificate has in the log or would get, or the refusal.
-fn slot_for(table: &[u32], log: &[u32], c: Certificate) -> Filed
-    requires { ⌜ LogFits (now table) (now log) ⌝ }
-    ensures { λ r. ⌜ ((b : List ℕ) → r ≡ slotFor (memory (now (table .entry)) (now (log .entry)) b) (words (certificateOf c))) ⌝ }
-{
-    let count = table[CERTIFICATE_COUNT_AT];
-    let number = find(log, count, c);
-    if number < count {
-        return Filed::At(number);
-    }
-    if CERTIFICATE_WORDS * (count as usize) < log.len() {
-        return Filed::At(number);
-    }
-    Filed::Refused(NO_ROOM)
-}
-
 // Writes a certificate at the log's next slot, and counts it.
 fn append(table: &mut [u32], log: &mut [u32], c: Certificate)
     requires { ⌜ LogHasRoom (now table) (now log) ⌝ }
@@ -152,19 +138,21 @@ fn append(table: &mut [u32], log: &mut [u32], c: Certificate)
     table[CERTIFICATE_COUNT_AT] = count + 1;
 }
 
-// Files a certificate: the number of the first equal one, or of a new one; where there is no room, the refusal and no change.
+// Files a certificate: the number of the first equal one, found, or of a new one, appended; where there is no room, the refusal and no
+// change.
 pub fn file(table: &mut [u32], log: &mut [u32], c: Certificate) -> Filed
     requires { ⌜ LogFits (now table) (now log) ⌝ }
     ensures { λ r. ⌜ ((b : List ℕ) → leaves r (now (table .exit)) (now (log .exit)) b
         ≡ filing (memory (now (table .entry)) (now (log .entry)) b) (words (certificateOf c))) ⌝ }
 {
-    let slot = slot_for(table, log, c);
-    let Filed::At(number) = slot else {
-        return slot;
-    };
-    if number < table[CERTIFICATE_COUNT_AT] {
-        return slot;
+    let count = table[CERTIFICATE_COUNT_AT];
+    let number = find(log, count, c);
+    if number < count {
+        return Filed::At(number, FOUND);
     }
-    append(table, log, c);
-    slot
+    if CERTIFICATE_WORDS * (count as usize) < log.len() {
+        append(table, log, c);
+        return Filed::At(number, APPENDED);
+    }
+    Filed::Refused(NO_ROOM)
 }

@@ -6,6 +6,8 @@ use Rattle.protocol.proofs.Frame.{only-named-change, lengths-stay}
 use Rattle.protocol.proofs.Unread.{past-counts-unread}
 use Rattle.script.proofs.Theorems.{refused-leaves-session, before-opening, answers-printable}
 use Rattle.protocol.proofs.Values.{values-fit}
+use Rattle.protocol.proofs.Repeats.{found-is-first-equal, second-value-tells-repeat, repeat-changes-nothing, proposals-never-repeat}
+use Rattle.protocol.proofs.Repeats.{commits-never-repeat}
 use Rattle.protocol.proofs.Cases.{cases-hold}
 use Rattle.stream.proofs.Theorems.{chunks-do-not-matter, turns-give-output}
 use Rattle.stream.proofs.Cases.{worked-script, worked-script-tells, worked-script-opens}
@@ -32,6 +34,8 @@ proved =
       lowestWins = lowest-wins;
       openingTestsFaultsFirst = opening-tests-faults-first;
       valuesFit = values-fit;
+      foundIsFirstEqual = found-is-first-equal;
+      secondValueTellsRepeat = second-value-tells-repeat;
       casesHold = cases-hold;
       beforeOpening = before-opening;
       answersPrintable = answers-printable;
@@ -46,6 +50,9 @@ proved =
       wordsMatchHistory = words-match-history;
       onlyAppended = only-appended;
       wouldAgree = would-agree;
+      repeatChangesNothing = repeat-changes-nothing;
+      proposalsNeverRepeat = proposals-never-repeat;
+      commitsNeverRepeat = commits-never-repeat;
       panelShowsHistory = panel-shows-history;
       panelNeverFalls = panel-never-falls;
       scriptsAgree = scripts-agree;

@@ -39,6 +39,7 @@ ghost use Rattle.protocol.specs.Memory.{
 };
 ghost use Rattle.protocol.specs.Form.{lastKind};
 ghost use Rattle.protocol.specs.Certificates as Kinds;
+ghost use Rattle.protocol.specs.Certificates.{found, appended};
 ghost use Rattle.protocol.specs.Movements.{
   movementWords,
   movementBlockAt,
@@ -132,6 +133,11 @@ pub const REQ: u32 = 5;
 pub const REPLY: u32 = 6;
 
 pub const LAST_KIND: u32 = REPLY;
+
+// Which it is of a certificate that is filed.
+pub const FOUND: u32 = 1;
+
+pub const APPENDED: u32 = 0;
 
 // The blocks.
 pub const MAX_BLOCKS: u32 = 4096;
@@ -232,6 +238,12 @@ pub fn kinds() -> [u32; 7]
         ≡ Kinds.PROP ∷ Kinds.COMMIT ∷ Kinds.NEWVIEW ∷ Kinds.ACC ∷ Kinds.REQ ∷ Kinds.REPLY ∷ lastKind ∷ [] ⌝ }
 {
     [PROP, COMMIT, NEWVIEW, ACC, REQ, REPLY, LAST_KIND]
+}
+
+pub fn filings() -> [u32; 2]
+    ensures { λ r. ⌜ r ≡ found ∷ appended ∷ [] ⌝ }
+{
+    [FOUND, APPENDED]
 }
 
 // The refusals' numbers stand with the answer that holds them.

@@ -5,7 +5,7 @@ use mathlib.Core.Bool.{true, false}
 use mathlib.Core.List.{List, []}
 use Rattle.protocol.specs.declared.Answer.{Answer}
 use Rattle.protocol.specs.Memory.{Memory, Certificate, Assignment, memory, rowAt, words, assign, update}
-use Rattle.protocol.specs.Certificates.{numberFor, canFile, file}
+use Rattle.protocol.specs.Certificates.{numberFor, foundOrAppended, canFile, file}
 use Rattle.protocol.specs.Outcome.{firstRefusal, answered, follow, noRoom}
 use Rattle.protocol.specs.Calls.{issuing}
 use Rattle.protocol.proofs.Needs.{refusal, acceptance}
@@ -20,7 +20,8 @@ module _ (m : Memory) (i : ℕ) (changes : List Assignment) (c : Certificate) wh
   refused-no-room full = rw full
 
   issues : canFile m (words c) ≡ true
-      → follow m (issuing m [] i changes c) ≡ acceptance (numberFor m (words c)) 0 (update (file m (words c)) i changes)
+      → follow m (issuing m [] i changes c)
+      ≡ acceptance (numberFor m (words c)) (foundOrAppended m (words c)) (update (file m (words c)) i changes)
   unfolding follow issuing answered firstRefusal
   issues can = rw can
 
@@ -36,12 +37,12 @@ module _ (m : Memory) (i : ℕ) (changes : List Assignment) (c : Certificate) wh
         let after : m′ ≡ m = (rw (q .0) at (ap (λ (x : Result). x .memory) files)) in
         rw (p, e, at, q .1, after) (sym (refused-no-room (q .0)))
 
-    pub issued : {a : Answer} {t : List ℕ} → r ≡ At n → a ≡ record { number = 0; first = n; second = 0 }
+    pub issued : {a : Answer} {w : ℕ} {t : List ℕ} → r ≡ At n w → a ≡ record { number = 0; first = n; second = w }
         → t ≡ assign (m′ .table) (rowAt i) changes
         → record { answer = a; memory = memory t (m′ .log) (m′ .blocks) } ≡ follow m (issuing m [] i changes c)
     unfolding filing update
-    issued at p e =
+    issued {a} {w} at p e =
         let files = rw same at filed in
-        let q = placed m (words c) n (sym at ∙ ap (λ (x : Result). x .outcome) files) in
-        let after : m′ ≡ file m (words c) = (rw (q .0) at (ap (λ (x : Result). x .memory) files)) in
-        rw (p, e, ← q .1, after) (sym (issues (q .0)))
+        let q = placed m (words c) n w (sym at ∙ ap (λ (x : Result). x .outcome) files) in
+        let after : m′ ≡ file m (words c) = (rw (q .can) at (ap (λ (x : Result). x .memory) files)) in
+        rw (p, e, ← (q .number), ← (q .which), after) (sym (issues (q .can)))

@@ -13,7 +13,8 @@ use checks::accepted;
 use checks::refused;
 use protocol::Answer;
 
-// The answer of a call that issues, once its other needs hold: the certificate's number; or the refusal, and nothing is changed.
+// The answer of a call that issues, once its other needs hold: the certificate's number, and whether it was
+// found; or the refusal, and nothing is changed.
 pub fn issue(
     table: &mut [u32],
     log: &mut [u32],
@@ -29,9 +30,9 @@ pub fn issue(
         (now (table .entry)) (now (log .entry)) b) ⌝ }
 {
     let filed = certificates::file(table, log, c);
-    let Filed::At(number) = filed else {
+    let Filed::At(number, which) = filed else {
         return refused(filed.refusal());
     };
     records::set_words(table, replica, offsets, values);
-    accepted(number, 0)
+    accepted(number, which)
 }

@@ -18,7 +18,10 @@ use Rattle.protocol.specs.Calls.{reserve, request, reply, recover}
 use Rattle.protocol.specs.Runs.{ruleOf, step, run, answers}
 use Rattle.protocol.specs.Cases.{Case, cases, CasesHold, workedScript, recoveryAfterIt, repliesOfAnEarlierBoot, noFaults}
 use Rattle.protocol.specs.Cases.{faultsAboveTheMost, faultsBeforeLengths, oneFault, thirtyFaults, freshView63, freshView64}
-use Rattle.protocol.specs.Cases.{oneCommitTwice, commitsJustify, blockZeroProposed, secondProposalInAView, fullLog, counterEnds}
+use Rattle.protocol.specs.Cases.{oneCommitTwice, commitsJustify, blockZeroProposed, secondProposalInAView, fullLog}
+use Rattle.protocol.specs.Cases.{viewsRepeated, accsAndBlocksRepeated, requestsAndRepliesRepeated, nothingStored}
+use Rattle.protocol.specs.Cases.{proposalRepeated, proposalOnCommitsRepeated, commitRepeated, foundInAFullLogRaises}
+use Rattle.protocol.specs.Cases.{foundReplyRaises, equalInAllWords, counterEnds}
 use Rattle.protocol.proofs.Booleans.{tests, and-true}
 
 isAnswer : Answer → Answer → Bool
@@ -124,6 +127,46 @@ full-log : holds fullLog ≡ true
 unfolding holds fullLog
 full-log = refl
 
+views-repeated : holds viewsRepeated ≡ true
+unfolding holds viewsRepeated
+views-repeated = refl
+
+accs-and-blocks-repeated : holds accsAndBlocksRepeated ≡ true
+unfolding holds accsAndBlocksRepeated
+accs-and-blocks-repeated = refl
+
+requests-and-replies-repeated : holds requestsAndRepliesRepeated ≡ true
+unfolding holds requestsAndRepliesRepeated
+requests-and-replies-repeated = refl
+
+nothing-stored : holds nothingStored ≡ true
+unfolding holds nothingStored
+nothing-stored = refl
+
+proposal-repeated : holds proposalRepeated ≡ true
+unfolding holds proposalRepeated
+proposal-repeated = refl
+
+proposal-on-commits-repeated : holds proposalOnCommitsRepeated ≡ true
+unfolding holds proposalOnCommitsRepeated
+proposal-on-commits-repeated = refl
+
+commit-repeated : holds commitRepeated ≡ true
+unfolding holds commitRepeated
+commit-repeated = refl
+
+found-in-a-full-log-raises : holds foundInAFullLogRaises ≡ true
+unfolding holds foundInAFullLogRaises
+found-in-a-full-log-raises = refl
+
+found-reply-raises : holds foundReplyRaises ≡ true
+unfolding holds foundReplyRaises
+found-reply-raises = refl
+
+equal-in-all-words : holds equalInAllWords ≡ true
+unfolding holds equalInAllWords
+equal-in-all-words = refl
+
 counter-ends : holds counterEnds ≡ true
 unfolding holds counterEnds
 counter-ends = refl
@@ -147,5 +190,15 @@ cases-hold =
       row blockZeroProposed block-zero-proposed,
       row secondProposalInAView second-proposal-in-a-view,
       row fullLog full-log,
+      row viewsRepeated views-repeated,
+      row accsAndBlocksRepeated accs-and-blocks-repeated,
+      row requestsAndRepliesRepeated requests-and-replies-repeated,
+      row nothingStored nothing-stored,
+      row proposalRepeated proposal-repeated,
+      row proposalOnCommitsRepeated proposal-on-commits-repeated,
+      row commitRepeated commit-repeated,
+      row foundInAFullLogRaises found-in-a-full-log-raises,
+      row foundReplyRaises found-reply-raises,
+      row equalInAllWords equal-in-all-words,
       row counterEnds counter-ends,
     ) refl

@@ -95,6 +95,11 @@ module _ (m : Memory) (i : ℕ) (cs : List Assignment) (within : withinRow cs �
 abbrev pub certificateFrom : List ℕ → Certificate
 certificateFrom ws = certificateBy (λ k l. getD ws k 0)
 
+-- A certificate of the log is that of its words.
+pub certificate-of : (m : Memory) (c : ℕ) (ws : List ℕ) → ((k : ℕ) → k < certificateWords → certificateWord m c k ≡ getD ws k 0)
+    → certificate m c ≡ certificateFrom ws
+certificate-of m c ws h = λ d. certificateBy (λ k l. h k l d)
+
 module _ (m : Memory) (ws : List ℕ) (whole : length ws ≡ certificateWords) where
   pub append-lengths : SameLengths (appendCertificate m ws) m
   unfolding appendCertificate
@@ -126,7 +131,8 @@ module _ (m : Memory) (ws : List ℕ) (whole : length ws ≡ certificateWords) w
       → certificate (appendCertificate m ws) (certificateCount m) ≡ certificateFrom ws
   unfolding appendCertificate
   append-new room =
-      λ d. certificateBy (λ k l. sets-at ws (m .log) (certificateAt (certificateCount m)) k (omega arith) (omega arith) d)
+      certificate-of (appendCertificate m ws) (certificateCount m) ws
+      (λ k l. sets-at ws (m .log) (certificateAt (certificateCount m)) k (omega arith) (omega arith))
 
 -- ---- a block more
 

@@ -27,4 +27,5 @@ pub mod SafePrepare
 pub mod SafeEnds
 pub mod Reached
 pub mod Agreement
+pub mod Repeats
 pub mod Cases

@@ -14,7 +14,7 @@ use Rattle.protocol.specs.declared.Justification.{Justification}
 use Rattle.protocol.specs.declared.Justification.the-variants.{Acc, Commits}
 use Rattle.protocol.specs.Counter.{counterStep}
 use Rattle.protocol.specs.Form.{wellFormed, lengthsFit}
-use Rattle.protocol.specs.Certificates.{file}
+use Rattle.protocol.specs.Certificates.{found, appended, file}
 use Rattle.protocol.specs.Quorum.{certificatesOf, firstOf}
 use Rattle.protocol.specs.Outcome.{Need, _else_, Rule, firstRefusal, answered, follow}
 use Rattle.protocol.specs.Calls.{issuing, isSized, numbersOf, freshReplica, freshReplicas, freshHeader, opening}
@@ -31,7 +31,7 @@ use Rattle.protocol.proofs.Formed.{formed}
 use Rattle.protocol.proofs.Keeps.{lengths-same, issuing-needs}
 use Rattle.protocol.proofs.Opened.{header}
 use Rattle.protocol.proofs.Alike.{twin, lengths-alike, word-same, parent-same, named-same, form-same, number-same}
-use Rattle.protocol.proofs.Alike.{can-same, file-alike, block-alike, update-alike}
+use Rattle.protocol.proofs.Alike.{filed-same, can-same, file-alike, block-alike, update-alike}
 
 -- Two lists of needs that agree as far as the first one that fails.
 data Agree : List Need → List Need → Type 0 where
@@ -91,7 +91,7 @@ module _ (m : Memory) (l b : List ℕ) (a : Alike m (twin m l b)) where
   issued-same ns ns′ i cs c within form =
       record {
         first = number-same m l b a (words c);
-        second = refl;
+        second = ap (λ (t : Bool). cond t found appended) (filed-same m l b a (words c));
         after =
             update-alike (file m (words c)) (file (twin m l b) (words c)) i cs (within .row)
             (file-alike m l b a (words c) refl (formed m form));

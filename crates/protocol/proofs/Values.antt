@@ -4,13 +4,13 @@ use mathlib.Core.Path.{_≡_, refl}
 use mathlib.Core.Bool.{Bool, true, false, _&&_}
 use mathlib.Core.List.{List, [], _∷_}
 use native.Mathlib.Omega.{arith}
-use lib.Dec.{ltb, leb}
+use lib.Dec.{leb}
 use Rattle.protocol.specs.declared.Call.{Call}
 use Rattle.protocol.specs.declared.Call.the-variants.{Open, Block, Prepare, Store, View, Accumulate, Decide, Reboot}
 use Rattle.protocol.specs.declared.Call.the-variants.{Reserve, Request, Reply, Recover}
 use Rattle.protocol.specs.Memory.{Memory, Certificate, ceiling, certificateCount, blockCount}
 use Rattle.protocol.specs.Form.{lengthsFit, countsFit, replicaFormed, certificateFormed, wellFormed}
-use Rattle.protocol.specs.Certificates.{firstBelow, hasWords, numberFor}
+use Rattle.protocol.specs.Certificates.{numberFor, isFiled, foundOrAppended}
 use Rattle.protocol.specs.Outcome.{Need, _else_, Rule, noRoom, firstRefusal, answered, follow}
 use Rattle.protocol.specs.Calls.{issuing, opening, block, prepare, store, view, accumulate, decide, reboot}
 use Rattle.protocol.specs.Calls.{reserve, request, reply, recover}
@@ -20,6 +20,7 @@ use Rattle.protocol.proofs.Booleans.{tests, by-test, by-cond, and-true,
 use Rattle.protocol.proofs.Needs.{Holds}
 use Rattle.protocol.proofs.Rules.{needs-hold}
 use Rattle.protocol.proofs.Formed.{formed}
+use Rattle.protocol.proofs.Filing.{number-below}
 use Rattle.protocol.proofs.Lists.{all-named, first-named}
 use Rattle.protocol.proofs.LeavesForm.{reboot-retires, in-range}
 
@@ -50,20 +51,11 @@ counts-small m e =
     let c = each _ (z .counts) in
     omega tests
 
-first-below : (k : ℕ) (test : ℕ → Bool) → firstBelow k test ≤ k
-unfolding firstBelow
-first-below zero test = omega arith
-first-below (suc k) test =
-    let before = first-below k test in
-    by-cond (λ (x : ℕ). x ≤ suc k) (ltb (firstBelow k test) k) (λ e. omega arith)
-    (λ e. by-cond (λ (x : ℕ). x ≤ suc k) (test k) (λ e. omega arith) (λ e. omega arith))
-
-issued-small : (m : Memory) (ws : List ℕ) → wellFormed m ≡ true → Small (numberFor m ws) 0
-unfolding numberFor
+issued-small : (m : Memory) (ws : List ℕ) → wellFormed m ≡ true → Small (numberFor m ws) (foundOrAppended m ws)
 issued-small m ws e =
     let counts = counts-small m e in
-    let number = first-below (certificateCount m) (hasWords m ws) in
-    omega arith
+    let number = number-below m ws in
+    (omega arith, by-cond (λ (x : ℕ). x ≤ ceiling) (isFiled m ws) (λ e. omega arith) (λ e. omega arith))
 
 -- ---- the calls
 

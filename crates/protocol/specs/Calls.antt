@@ -15,7 +15,7 @@ use Rattle.protocol.specs.Memory.{decidedBlockAt, live, recovering, reti
 use Rattle.protocol.specs.Memory.{blockAt, parent, update, appendBlock}
 use Rattle.protocol.specs.Form.{allHold, isFaultBound, lengthsFit, wellFormed}
 use Rattle.protocol.specs.Certificates.{PROP, ACC, REQ, isKind, propOf, commitOf, newViewOf, accOf, reqOf, replyOf}
-use Rattle.protocol.specs.Certificates.{numberFor, canFile, file}
+use Rattle.protocol.specs.Certificates.{numberFor, foundOrAppended, canFile, file}
 use Rattle.protocol.specs.Leader.{leads}
 use Rattle.protocol.specs.Counter.{counterStep}
 use Rattle.protocol.specs.Quorum.{isQuorumSize, allIssued, certificatesOf, firstOf, isCommitQuorum}
@@ -27,14 +27,15 @@ use Rattle.protocol.specs.FirstNeeds.{isBlock, replicaNeeds, numberNeeds
 abbrev pub hasStatus : ℕ → Replica → Bool
 hasStatus status r = eqb (r .status) status
 
--- A call that issues a certificate: "an issuing call gives the certificate number and 0"; words of the replica may change too.
--- 9 comes last, and only where the certificate must be added.
+-- A call that issues a certificate: "an issuing call gives the certificate number and 0"; for that 0, document 02, #102: "every issuing call
+-- hands that up: the second value is 1 for a certificate found, 0 for one added." Found or added, the replica's words change alike. 9 comes
+-- last, and only where the certificate must be added.
 unfoldable pub issuing : Memory → List Need → ℕ → List Assignment → Certificate → Rule
 issuing m needs i changes c =
     record {
       needs = needs ++ (canFile m (words c) else noRoom ∷ []);
       first = numberFor m (words c);
-      second = 0;
+      second = foundOrAppended m (words c);
       after = update (file m (words c)) i changes;
     }
 

@@ -1,14 +1,15 @@
 -- The cases that document 01 marks P ("Edges"), and some beside them, in one table: a start, calls, and the answers expected of them.
 use Prim.Native.Nat.{ℕ}
-use mathlib.Core.List.{List, [], _∷_, map}
+use mathlib.Core.List.{List, [], _∷_, _++_, map}
 use mathlib.Core.Path.{_≡_}
-use lib.ListN.{replicate}
+use lib.ListN.{replicate, set}
 use Rattle.protocol.specs.declared.Answer.{Answer}
 use Rattle.protocol.specs.declared.Call.{Call}
 use Rattle.protocol.specs.declared.Call.the-variants.{Open, Block, Prepare, Store, View, Accumulate, Decide, Reboot}
 use Rattle.protocol.specs.declared.Call.the-variants.{Reserve, Request, Reply, Recover}
 use Rattle.protocol.specs.declared.Justification.the-variants.{Acc, Commits}
-use Rattle.protocol.specs.Memory.{Memory, tableLength, certificateAt, blockAt, bootAt, viewLimitAt, _becomes_, update}
+use Rattle.protocol.specs.Memory.{Memory, certificateCountAt, tableLength, certificateAt, blockAt, bootAt, minViewAt, viewLimitAt}
+use Rattle.protocol.specs.Memory.{flagAt, storedViewAt, storedBlockAt, lowered, _becomes_, update}
 use Rattle.protocol.specs.Outcome.{wrongForm, outOfRange, wrongStatus, wrongCertificate, wrongBlock, wrongView}
 use Rattle.protocol.specs.Outcome.{counterLimit, noRoom}
 use Rattle.protocol.specs.Runs.{Invocation, run, answers}
@@ -158,13 +159,27 @@ oneCommitTwice =
       expected = refused wrongCertificate ∷ refused wrongCertificate ∷ [];
     }
 
--- Commits justify a proposal of the view above theirs, once that is the leader's lowest view.
+-- Commits justify a proposal of the view above theirs, once that is the leader's lowest view. It can be decided in its turn.
 unfoldable pub commitsJustify : Case
 commitsJustify =
     record {
       start = from script;
-      calls = plain (Block 1) ∷ Prepare 2 2 (Commits 1 1) on (4 ∷ 5 ∷ []) ∷ Prepare 2 2 (Commits 1 0) on (4 ∷ 5 ∷ []) ∷ [];
-      expected = accepted 2 0 ∷ accepted 6 0 ∷ refused wrongCertificate ∷ [];
+      calls =
+          plain (Block 1)
+          ∷ Prepare 2 2 (Commits 1 1) on (4 ∷ 5 ∷ [])
+          ∷ Prepare 2 2 (Commits 1 0) on (4 ∷ 5 ∷ [])
+          ∷ plain (Store 0 6)
+          ∷ plain (Store 2 6)
+          ∷ Decide 0 on (7 ∷ 8 ∷ [])
+          ∷ [];
+      expected =
+          accepted 2 0
+          ∷ accepted 6 0
+          ∷ refused wrongCertificate
+          ∷ accepted 7 0
+          ∷ accepted 8 0
+          ∷ accepted 2 2
+          ∷ [];
     }
 
 -- "P: block 0 on a ground of block 0, 6."
@@ -180,13 +195,158 @@ secondProposalInAView =
       expected = accepted 3 0 ∷ refused wrongView ∷ accepted 2 0 ∷ refused wrongView ∷ [];
     }
 
--- "P: a full book still answers a repeated View with its old number."
+-- "P: a full book still answers a repeated View with its old number." And with 1, by document 02, #102: "01's cases with a repeat follow."
 unfoldable pub fullLog : Case
 fullLog =
     record {
       start = zeros 1 1 1;
       calls = plain (Open 1) ∷ plain (View 2 5) ∷ plain (View 1 5) ∷ plain (View 2 5) ∷ [];
-      expected = accepted 3 0 ∷ accepted 0 0 ∷ refused noRoom ∷ accepted 0 0 ∷ [];
+      expected = accepted 3 0 ∷ accepted 0 0 ∷ refused noRoom ∷ accepted 0 1 ∷ [];
+    }
+
+-- ---- document 02, #102: "1 for a certificate found, 0 for one added"
+
+-- A View made again is found, whatever came between; one of another view or replica is added.
+unfoldable pub viewsRepeated : Case
+viewsRepeated =
+    record {
+      start = opened;
+      calls =
+          plain (View 0 1)
+          ∷ plain (View 1 2)
+          ∷ plain (View 2 1)
+          ∷ plain (View 0 1)
+          ∷ plain (View 2 1)
+          ∷ plain (View 0 2)
+          ∷ [];
+      expected = accepted 0 0 ∷ accepted 1 0 ∷ accepted 2 0 ∷ accepted 0 1 ∷ accepted 2 1 ∷ accepted 3 0 ∷ [];
+    }
+
+-- An Accumulate made again is found, also from its list in another order; another replica's is added. A Block made again is another block:
+-- it issues no certificate, and its second value stays 0.
+unfoldable pub accsAndBlocksRepeated : Case
+accsAndBlocksRepeated =
+    record {
+      start = accumulated;
+      calls =
+          Accumulate 1 on (0 ∷ 1 ∷ [])
+          ∷ Accumulate 1 on (1 ∷ 0 ∷ [])
+          ∷ Accumulate 0 on (0 ∷ 1 ∷ [])
+          ∷ plain (Block 0)
+          ∷ [];
+      expected = accepted 2 1 ∷ accepted 2 1 ∷ accepted 3 0 ∷ accepted 2 0 ∷ [];
+    }
+
+-- A Request and a Reply made again are found. So is the ACC from before the cut; the Request of the next boot is added.
+unfoldable pub requestsAndRepliesRepeated : Case
+requestsAndRepliesRepeated =
+    record {
+      start = from script;
+      calls =
+          plain (Request 1)
+          ∷ plain (Request 1)
+          ∷ plain (Reply 0 6)
+          ∷ plain (Reply 0 6)
+          ∷ plain (Reply 2 6)
+          ∷ Recover 1 on (7 ∷ 8 ∷ [])
+          ∷ Accumulate 1 on (0 ∷ 1 ∷ [])
+          ∷ plain (Reboot 1)
+          ∷ plain (Request 1)
+          ∷ [];
+      expected =
+          accepted 6 0
+          ∷ accepted 6 1
+          ∷ accepted 7 0
+          ∷ accepted 7 1
+          ∷ accepted 8 0
+          ∷ accepted 64 1
+          ∷ accepted 2 1
+          ∷ accepted 2 128
+          ∷ accepted 9 0
+          ∷ [];
+    }
+
+-- The second value of a Recover is no such number: with nothing stored it is 0.
+unfoldable pub nothingStored : Case
+nothingStored =
+    record {
+      start = opened;
+      calls = plain (Reboot 0) ∷ plain (Request 0) ∷ plain (Reply 1 0) ∷ plain (Reply 2 0) ∷ Recover 0 on (1 ∷ 2 ∷ []) ∷ [];
+      expected = accepted 1 64 ∷ accepted 0 0 ∷ accepted 1 0 ∷ accepted 2 0 ∷ accepted 64 0 ∷ [];
+    }
+
+-- A Prepare or a Store made again is refused, and no list of calls leads to one that finds its certificate (`ProposalsNeverRepeat`,
+-- `CommitsNeverRepeat` in Repeats.antt). So the flag is lowered by hand, and the lowest and the stored view are set back. What is found
+-- changes the replica's words as on a first issue: the next one is refused again.
+unfoldable pub proposalRepeated : Case
+proposalRepeated =
+    record {
+      start = update (run accumulated (plain (Prepare 1 1 (Acc 2)) ∷ [])) 1 (flagAt becomes lowered ∷ []);
+      calls = plain (Prepare 1 1 (Acc 2)) ∷ plain (Prepare 1 1 (Acc 2)) ∷ [];
+      expected = accepted 3 1 ∷ refused wrongView ∷ [];
+    }
+
+unfoldable pub proposalOnCommitsRepeated : Case
+proposalOnCommitsRepeated =
+    let again = Prepare 2 2 (Commits 1 1) on (4 ∷ 5 ∷ []) in
+    record {
+      start = update (run (from script) (plain (Block 1) ∷ again ∷ [])) 2 (flagAt becomes lowered ∷ []);
+      calls = again ∷ again ∷ [];
+      expected = accepted 6 1 ∷ refused wrongView ∷ [];
+    }
+
+unfoldable pub commitRepeated : Case
+commitRepeated =
+    record {
+      start =
+          update (run accumulated (plain (Prepare 1 1 (Acc 2)) ∷ plain (Store 0 3) ∷ [])) 0
+          (storedViewAt becomes 0 ∷ minViewAt becomes 1 ∷ []);
+      calls = plain (Store 0 3) ∷ plain (Store 0 3) ∷ [];
+      expected = accepted 4 1 ∷ refused wrongView ∷ [];
+    }
+
+-- So do a View, in a full log too, and a Reply whose replica's lowest view is set back by hand.
+unfoldable pub foundInAFullLogRaises : Case
+foundInAFullLogRaises =
+    record {
+      start = update (run (zeros 1 1 1) (plain (Open 1) ∷ plain (View 2 5) ∷ [])) 2 (minViewAt becomes 1 ∷ []);
+      calls = plain (View 2 5) ∷ plain (View 2 4) ∷ [];
+      expected = accepted 0 1 ∷ refused wrongView ∷ [];
+    }
+
+unfoldable pub foundReplyRaises : Case
+foundReplyRaises =
+    record {
+      start = update (run (from script) (plain (Request 1) ∷ plain (Reply 0 6) ∷ [])) 0 (minViewAt becomes 2 ∷ []);
+      calls = plain (Reply 0 6) ∷ plain (View 0 2) ∷ [];
+      expected = accepted 7 1 ∷ refused wrongView ∷ [];
+    }
+
+-- "equal in all seven words": each of the first seven differs in one word from what replica 0 issues, the next two are equal, and the tenth,
+-- past the count, is just that.
+abbrev nearlyEqual : List ℕ
+nearlyEqual =
+    (2 ∷ 0 ∷ 5 ∷ 1 ∷ 3 ∷ 0 ∷ 0 ∷ [])
+    ++ (3 ∷ 1 ∷ 5 ∷ 1 ∷ 3 ∷ 0 ∷ 0 ∷ [])
+    ++ (3 ∷ 0 ∷ 6 ∷ 1 ∷ 3 ∷ 0 ∷ 0 ∷ [])
+    ++ (3 ∷ 0 ∷ 5 ∷ 0 ∷ 3 ∷ 0 ∷ 0 ∷ [])
+    ++ (3 ∷ 0 ∷ 5 ∷ 1 ∷ 2 ∷ 0 ∷ 0 ∷ [])
+    ++ (3 ∷ 0 ∷ 5 ∷ 1 ∷ 3 ∷ 1 ∷ 0 ∷ [])
+    ++ (3 ∷ 0 ∷ 5 ∷ 1 ∷ 3 ∷ 0 ∷ 1 ∷ [])
+    ++ (3 ∷ 2 ∷ 5 ∷ 0 ∷ 0 ∷ 0 ∷ 0 ∷ [])
+    ++ (3 ∷ 2 ∷ 5 ∷ 0 ∷ 0 ∷ 0 ∷ 0 ∷ [])
+    ++ (3 ∷ 0 ∷ 5 ∷ 1 ∷ 3 ∷ 0 ∷ 0 ∷ [])
+
+-- The first of two equal ones is found; where only one word differs the certificate is added.
+unfoldable pub equalInAllWords : Case
+equalInAllWords =
+    let stored =
+    update (run (zeros 1 10 2) (plain (Open 1) ∷ plain (Block 0) ∷ [])) 0
+    (minViewAt becomes 5 ∷ storedViewAt becomes 3 ∷ storedBlockAt becomes 1 ∷ []) in
+    record {
+      start = record { table = set (stored .table) certificateCountAt 9; log = nearlyEqual; blocks = stored .blocks };
+      calls = plain (View 2 5) ∷ plain (View 0 5) ∷ plain (View 0 5) ∷ [];
+      expected = accepted 7 1 ∷ accepted 9 0 ∷ accepted 9 1 ∷ [];
     }
 
 -- "P: at boot 0 and bound 999,936 a reserve gives 1,000,000, the next returns 8, a reboot then gives spent." A
@@ -217,6 +377,16 @@ cases =
     ∷ blockZeroProposed
     ∷ secondProposalInAView
     ∷ fullLog
+    ∷ viewsRepeated
+    ∷ accsAndBlocksRepeated
+    ∷ requestsAndRepliesRepeated
+    ∷ nothingStored
+    ∷ proposalRepeated
+    ∷ proposalOnCommitsRepeated
+    ∷ commitRepeated
+    ∷ foundInAFullLogRaises
+    ∷ foundReplyRaises
+    ∷ equalInAllWords
     ∷ counterEnds
     ∷ []
 

@@ -78,3 +78,13 @@ canFile m ws = isFiled m ws || logHasRoom m
 
 unfoldable pub file : Memory → List ℕ → Memory
 file m ws = cond (isFiled m ws) m (appendCertificate m ws)
+
+-- Document 02, #102: "The filing step now says which": the certificate was found in the log, or is appended.
+abbrev pub found : ℕ
+found = 1
+
+abbrev pub appended : ℕ
+appended = 0
+
+abbrev pub foundOrAppended : Memory → List ℕ → ℕ
+foundOrAppended m ws = cond (isFiled m ws) found appended

@@ -8,7 +8,7 @@ use lib.Dec.{eqb}
 use Rattle.protocol.specs.Memory.{Memory, memory, certificateCountAt, certificateWords, certificateAt, maxCertificates, viewAt}
 use Rattle.protocol.specs.Memory as Memory
 use Rattle.protocol.specs.Form.{allBelow}
-use Rattle.protocol.specs.Certificates.{numberFor, canFile, file}
+use Rattle.protocol.specs.Certificates.{numberFor, foundOrAppended, canFile, file}
 use Rattle.protocol.specs.Outcome.{noRoom}
 use Rattle.certificates.specs.declared.Certificate.{Certificate}
 use Rattle.certificates.specs.declared.Filed.{Filed}
@@ -54,10 +54,10 @@ isEqual log ws number = equalFrom log (certificateAt number) ws
 abbrev pub isOfOtherView : List ℕ → ℕ → ℕ → Bool
 isOfOtherView log view number = not (eqb (getD log (certificateAt number + viewAt) 0) view)
 
--- "A certificate equal in all seven words to an issued one isn't added again: the first such number is returned."
--- The number that a certificate of these words has or gets; the refusal, where none is equal and no slot is free.
-unfoldable pub slotFor : Memory → List ℕ → Filed
-slotFor m ws = cond (canFile m ws) (At (numberFor m ws)) (Refused noRoom)
+-- "The filing step now says which" (document 02, #102). Where a certificate of these words is filed: its number, and whether it is found;
+-- the refusal, where none is equal and no slot is free.
+unfoldable pub filedAt : Memory → List ℕ → Filed
+filedAt m ws = cond (canFile m ws) (At (numberFor m ws) (foundOrAppended m ws)) (Refused noRoom)
 
 -- What filing gives: that, and the memory with the certificate filed, or as before.
 pub record Result : Type 0 where
@@ -68,9 +68,9 @@ abbrev pub leaves : Filed → List ℕ → List ℕ → List ℕ → Result
 leaves r t l b = record { outcome = r; memory = memory t l b }
 
 unfoldable pub filing : Memory → List ℕ → Result
-filing m ws = record { outcome = slotFor m ws; memory = cond (canFile m ws) (file m ws) m }
+filing m ws = record { outcome = filedAt m ws; memory = cond (canFile m ws) (file m ws) m }
 
 -- The refusal that it holds; 0, "accepted", where it holds none.
 abbrev pub filingRefusal : Filed → ℕ
-filingRefusal (At number) = 0
+filingRefusal (At number which) = 0
 filingRefusal (Refused refusal) = refusal

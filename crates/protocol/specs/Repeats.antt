@@ -1,0 +1,92 @@
+-- Certificates issued again (document 02, #102): which are found in the log, what the second value of an issuing call tells, what a call that
+-- finds its certificate changes, and which calls never find one.
+use Prim.Native.Nat.{ℕ, _+_, _<_}
+use mathlib.Core.Path.{_≡_}
+use mathlib.Core.Bool.{Bool, true, false, cond}
+use mathlib.Core.List.{List}
+use lib.Dec.{eqb}
+use Rattle.protocol.specs.declared.Call.{Call}
+use Rattle.protocol.specs.declared.Call.the-variants.{Open, Block, Prepare, Store, View, Accumulate, Decide, Reboot}
+use Rattle.protocol.specs.declared.Call.the-variants.{Reserve, Request, Reply, Recover}
+use Rattle.protocol.specs.declared.Justification.{Justification}
+use Rattle.protocol.specs.Memory.{Memory, Certificate, certificateCount, certificate, words}
+use Rattle.protocol.specs.Certificates.{numberFor, isFiled, found, appended}
+use Rattle.protocol.specs.Outcome.{Outcome}
+use Rattle.protocol.specs.Runs.{Invocation, step}
+use Rattle.protocol.specs.Theorems.{Accepted}
+use Rattle.protocol.specs.Agreement.{Execution, endOf}
+
+-- ---- A certificate is found where an equal one is issued, under the first such number, and nowhere else.
+
+pub record FirstEqual (m : Memory) (c : Certificate) (number : ℕ) : Type 0 where
+  pub issued : number < certificateCount m
+  pub equal : certificate m number ≡ c
+  pub first : (k : ℕ) → k < number → certificate m k ≡ c → ⊥
+
+pub record FoundByEquality (m : Memory) (c : Certificate) : Type 0 where
+  pub ifFiled : isFiled m (words c) ≡ true → FirstEqual m c (numberFor m (words c))
+  pub ifNot : isFiled m (words c) ≡ false → (k : ℕ) → k < certificateCount m → certificate m k ≡ c → ⊥
+
+unfoldable pub FoundIsFirstEqual : Type 0
+FoundIsFirstEqual = (m : Memory) (c : Certificate) → FoundByEquality m c
+
+-- ---- "the second value is 1 for a certificate found, 0 for one added": so it is 1 exactly if the count of certificates stays.
+
+-- The six calls that issue a certificate. Block issues none: its second value stays 0.
+abbrev pub isIssuing : Call → Bool
+isIssuing (Open f) = false
+isIssuing (Block p) = false
+isIssuing (Prepare i b justification) = true
+isIssuing (Store i number) = true
+isIssuing (View i w) = true
+isIssuing (Accumulate i) = true
+isIssuing (Decide i) = false
+isIssuing (Reboot i) = false
+isIssuing (Reserve i) = false
+isIssuing (Request i) = true
+isIssuing (Reply i number) = true
+isIssuing (Recover i) = false
+
+-- Found: the number is that of an issued certificate, and the log is as it was, word for word.
+pub record Found (m : Memory) (o : Outcome) : Type 0 where
+  pub number : o .answer .first < certificateCount m
+  pub log : o .memory .log ≡ m .log
+
+-- Added: the number is the next one, and one certificate more is issued.
+pub record Appended (m : Memory) (o : Outcome) : Type 0 where
+  pub number : o .answer .first ≡ certificateCount m
+  pub count : certificateCount (o .memory) ≡ certificateCount m + 1
+
+pub record TellsRepeat (m : Memory) (o : Outcome) : Type 0 where
+  pub exactly : o .answer .second ≡ cond (eqb (certificateCount (o .memory)) (certificateCount m)) found appended
+  pub ifFound : o .answer .second ≡ found → Found m o
+  pub ifAppended : o .answer .second ≡ appended → Appended m o
+
+unfoldable pub SecondValueTellsRepeat : Type 0
+SecondValueTellsRepeat =
+    (m : Memory) (call : Call) (list : List ℕ) → isIssuing call ≡ true → Accepted (step m call list) → TellsRepeat m (step m call list)
+
+-- ---- After an opening, a call that finds its certificate changes no word at all: when the certificate was issued the replica's words were
+-- set, and they have not gone back since. So a host may ask again where an answer was lost.
+
+unfoldable pub RepeatChangesNothing : Type 0
+RepeatChangesNothing =
+    (m : Memory) (f : ℕ) (list : List ℕ) (calls : List Invocation) → Execution m f list calls → (call : Call) (beside : List ℕ)
+    → isIssuing call ≡ true → Accepted (step (endOf m f list calls) call beside)
+    → step (endOf m f list calls) call beside .answer .second ≡ found
+    → step (endOf m f list calls) call beside .memory ≡ endOf m f list calls
+
+-- ---- After an opening, no Prepare and no Store finds its certificate. A replica proposes once in a view: its flag falls only as its lowest
+-- view rises. It commits once in a view: its lowest view rises past it. And a lowest view never falls, by a cut neither.
+
+-- Wherever this call is accepted after an opening and a list of calls, it answers that its certificate was added.
+abbrev pub NeverFound : Call → Type 0
+NeverFound call =
+    (m : Memory) (f : ℕ) (list : List ℕ) (calls : List Invocation) → Execution m f list calls → (beside : List ℕ)
+    → Accepted (step (endOf m f list calls) call beside) → step (endOf m f list calls) call beside .answer .second ≡ appended
+
+unfoldable pub ProposalsNeverRepeat : Type 0
+ProposalsNeverRepeat = (i b : ℕ) (justification : Justification) → NeverFound (Prepare i b justification)
+
+unfoldable pub CommitsNeverRepeat : Type 0
+CommitsNeverRepeat = (i number : ℕ) → NeverFound (Store i number)

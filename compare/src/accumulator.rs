@@ -31,5 +31,5 @@ pub fn accumulate<R: Rules>(rules: R, m: &mut Memory, replica: u32, list: &[u32]
         ..Certificate::default()
     };
     let slot = m.slot_for(rules, acc)?;
-    Ok((m.file(rules, slot, acc), 0))
+    Ok(m.file(rules, slot, acc))
 }

@@ -13,6 +13,11 @@ pub const REPLY: u32 = 6;
 pub const FIRST_KIND: u32 = PROP;
 pub const LAST_KIND: u32 = REPLY;
 
+/// Filing put the certificate into a free slot.
+pub const ADDED: u32 = 0;
+/// Filing found an equal one in the log.
+pub const FOUND: u32 = 1;
+
 /// Where a certificate has each of its words.
 pub mod certificate_word {
     pub const KIND: usize = 0;
@@ -91,17 +96,19 @@ impl Memory<'_> {
         }
     }
 
-    /// Writes the certificate where it is new, and gives its number.
-    pub fn file<R: Rules>(&mut self, rules: R, slot: Slot, certificate: Certificate) -> u32 {
+    /// Writes the certificate where it is new; its number and which of the two, an issuing call's values. Document 02:
+    /// "The filing step now says which, and every issuing call hands that up: the second value is 1 for a certificate
+    /// found, 0 for one added."
+    pub fn file<R: Rules>(&mut self, rules: R, slot: Slot, certificate: Certificate) -> (u32, u32) {
         match slot {
-            Slot::Found(number) => number,
+            Slot::Found(number) => (number, FOUND),
             Slot::Free(number) => {
                 let start = CERTIFICATE_WORDS * number as usize;
                 self.log[start..start + CERTIFICATE_WORDS].copy_from_slice(&certificate.words());
                 if !rules.has(Mistake::CountStays) {
                     self.table[header::ISSUED] += 1;
                 }
-                number
+                (number, ADDED)
             }
         }
     }

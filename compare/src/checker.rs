@@ -83,7 +83,7 @@ pub fn prepare<R: Rules>(rules: R, m: &mut Memory, replica: u32, block: u32, j: 
     let slot = m.slot_for(rules, prop)?;
     r.flag = 1;
     m.set_replica(replica, r);
-    Ok((m.file(rules, slot, prop), 0))
+    Ok(m.file(rules, slot, prop))
 }
 
 fn below_limit(view: u32, r: Replica, inclusive: bool) -> bool {
@@ -112,7 +112,7 @@ pub fn store<R: Rules>(rules: R, m: &mut Memory, replica: u32, number: u32) -> A
         r.flag = 0;
         m.set_replica(replica, r);
     }
-    Ok((m.file(rules, slot, commit), 0))
+    Ok(m.file(rules, slot, commit))
 }
 
 pub fn view<R: Rules>(rules: R, m: &mut Memory, replica: u32, w: u32) -> Answer {
@@ -138,7 +138,7 @@ pub fn view<R: Rules>(rules: R, m: &mut Memory, replica: u32, w: u32) -> Answer 
     }
     r.min_view = w;
     m.set_replica(replica, r);
-    Ok((m.file(rules, slot, newview), 0))
+    Ok(m.file(rules, slot, newview))
 }
 
 pub fn decide<R: Rules>(rules: R, m: &mut Memory, replica: u32, list: &[u32]) -> Answer {

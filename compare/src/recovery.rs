@@ -78,7 +78,7 @@ pub fn request<R: Rules>(rules: R, m: &mut Memory, replica: u32) -> Answer {
         ..Certificate::default()
     };
     let slot = m.slot_for(rules, req)?;
-    Ok((m.file(rules, slot, req), 0))
+    Ok(m.file(rules, slot, req))
 }
 
 pub fn reply<R: Rules>(rules: R, m: &mut Memory, replica: u32, number: u32) -> Answer {
@@ -104,7 +104,7 @@ pub fn reply<R: Rules>(rules: R, m: &mut Memory, replica: u32, number: u32) -> A
     };
     let slot = m.slot_for(rules, reply)?;
     m.set_replica(replica, after_reply(rules, r, req.view));
-    Ok((m.file(rules, slot, reply), 0))
+    Ok(m.file(rules, slot, reply))
 }
 
 /// If min_view is below the request's view it rises to it and the flag is 0; else both stay.

@@ -126,7 +126,8 @@ fn a_full_log_answers_a_repeated_view() {
     assert_eq!(yard.call(5, 0, 1, &[]), (0, 0, 0));
     assert_eq!(yard.call(5, 1, 1, &[]), (0, 1, 0));
     assert_eq!(yard.call(5, 2, 1, &[]), (9, 0, 0));
-    assert_eq!(yard.call(5, 0, 1, &[]), (0, 0, 0));
+    assert_eq!(yard.call(5, 0, 1, &[]), (0, 0, 1));
+    assert_eq!(yard.call(5, 1, 1, &[]), (0, 1, 1));
     assert_eq!(yard.call(1, 0, 0, &[]), (9, 0, 0));
 }
 

@@ -10,9 +10,9 @@ pub fn accumulate<R: Rules>(rules: R, m: &mut Memory, replica: u32, list: &[u32]
     need(well_formed(rules, m), WRONG_FORM)?;
     need(m.is_replica(replica) && m.is_list_length(rules, list), OUT_OF_RANGE)?;
     need(m.all_issued(list), UNKNOWN_NUMBER)?;
-    let status = m.replica(replica).status;
-    let let_in = rules.has(Mistake::AccumulateRecovering) && status == RECOVERING;
-    need(status == LIVE || let_in, WRONG_STATUS)?;
+    let r = m.replica(replica);
+    let let_in = rules.has(Mistake::AccumulateRecovering) && r.status == RECOVERING;
+    need(r.status == LIVE || let_in, WRONG_STATUS)?;
     let view = m.certificate(list[0]).view;
     let one_view = |c: Certificate| c.view == view || rules.has(Mistake::AccumulateMixedViews);
     let different = rules.has(Mistake::AccumulateSignerTwice) || m.different_signers(list);
@@ -30,6 +30,5 @@ pub fn accumulate<R: Rules>(rules: R, m: &mut Memory, replica: u32, list: &[u32]
         of_view: latest.of_view,
         ..Certificate::default()
     };
-    let slot = m.slot_for(rules, acc)?;
-    Ok((m.file(rules, slot, acc), 0))
+    m.issue(rules, acc, r)
 }

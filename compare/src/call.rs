@@ -21,6 +21,8 @@ pub const REQUEST: u32 = 10;
 pub const REPLY_TO: u32 = 11;
 pub const RECOVER: u32 = 12;
 pub const LAST_CODE: u32 = RECOVER;
+/// The calls that issue a certificate.
+pub const ISSUING: &[u32] = &[PREPARE_ACC, PREPARE_COMMITS, STORE, VIEW, ACCUMULATE, REQUEST, REPLY_TO];
 
 /// Most numbers of a list in a script line: f+1 for the greatest f.
 pub const MAX_LIST: usize = MAX_F as usize + 1;
@@ -36,6 +38,11 @@ pub struct Outcome {
 impl Outcome {
     pub fn is_accepted(&self) -> bool {
         self.answer == ACCEPTED
+    }
+
+    /// What a call of that code tells of the certificate it issued: found or added; none if it issued none.
+    pub fn filed(&self, code: u32) -> Option<u32> {
+        (self.is_accepted() && ISSUING.contains(&code)).then_some(self.second)
     }
 }
 

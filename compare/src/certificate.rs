@@ -1,8 +1,8 @@
 //! Certificates, and filing them in the certificate log (document 01, "Kinds" and the sentence on equal ones).
 
-use crate::memory::{header, Memory, CERTIFICATE_WORDS};
+use crate::memory::{header, Memory, Replica, CERTIFICATE_WORDS};
 use crate::mistake::{Mistake, Rules};
-use crate::refusal::NO_ROOM;
+use crate::refusal::{Answer, NO_ROOM};
 
 pub const PROP: u32 = 1;
 pub const COMMIT: u32 = 2;
@@ -12,6 +12,11 @@ pub const REQ: u32 = 5;
 pub const REPLY: u32 = 6;
 pub const FIRST_KIND: u32 = PROP;
 pub const LAST_KIND: u32 = REPLY;
+
+/// Filing put the certificate into a free slot.
+pub const ADDED: u32 = 0;
+/// Filing found an equal one in the log.
+pub const FOUND: u32 = 1;
 
 /// Where a certificate has each of its words.
 pub mod certificate_word {
@@ -63,8 +68,7 @@ impl Certificate {
 }
 
 /// Where an issued certificate goes: the number it has already, or the next free one.
-#[derive(Clone, Copy)]
-pub enum Slot {
+enum Slot {
     Found(u32),
     Free(u32),
 }
@@ -76,33 +80,83 @@ impl Memory<'_> {
         slots.nth(number as usize).map_or(Certificate::default(), Certificate::from_words)
     }
 
+    /// An issuing call's end: the certificate is filed, found or added, and its signer's words become `after`.
+    pub fn issue<R: Rules>(&mut self, rules: R, certificate: Certificate, after: Replica) -> Answer {
+        let slot = self.slot_for(rules, certificate)?;
+        if matches!(slot, Slot::Free(_)) || !rules.has(Mistake::FoundChangesNothing) {
+            self.set_replica(certificate.signer, after);
+        }
+        Ok(self.file(rules, slot, certificate))
+    }
+
     /// The first equal certificate's number, else a free slot, else `NO_ROOM`.
-    pub fn slot_for<R: Rules>(&self, rules: R, certificate: Certificate) -> Result<Slot, u32> {
+    fn slot_for<R: Rules>(&self, rules: R, certificate: Certificate) -> Result<Slot, u32> {
         let words = certificate.words();
         let issued = self.issued() as usize;
-        let capacity = self.log.len() / CERTIFICATE_WORDS;
-        let found = self.log.chunks_exact(CERTIFICATE_WORDS).take(issued).position(|slot| slot == words);
-        let full = issued >= capacity;
-        let unheeded = rules.has(Mistake::FiledAgain) || rules.has(Mistake::NineWhereFound) && full;
+        let mut slots = self.log.chunks_exact(CERTIFICATE_WORDS).take(issued);
+        let equal = |slot: &[u32]| slot == words;
+        let found = if rules.has(Mistake::FoundLastEqual) { slots.rposition(equal) } else { slots.position(equal) };
+        let unheeded = rules.has(Mistake::FiledAgain) || rules.has(Mistake::NineWhereFound) && self.is_full();
         match found {
             Some(number) if !unheeded => Ok(Slot::Found(number as u32)),
-            _ if issued + usize::from(rules.has(Mistake::NineTooEarly)) < capacity => Ok(Slot::Free(issued as u32)),
+            _ if issued + usize::from(rules.has(Mistake::NineTooEarly)) < self.capacity() => {
+                Ok(Slot::Free(issued as u32))
+            }
             _ => Err(NO_ROOM),
         }
     }
 
-    /// Writes the certificate where it is new, and gives its number.
-    pub fn file<R: Rules>(&mut self, rules: R, slot: Slot, certificate: Certificate) -> u32 {
+    fn capacity(&self) -> usize {
+        self.log.len() / CERTIFICATE_WORDS
+    }
+
+    fn is_full(&self) -> bool {
+        self.issued() as usize >= self.capacity()
+    }
+
+    /// Writes the certificate where it is new; its number and which of the two, the call's values. Document 02: "The
+    /// filing step now says which, and every issuing call hands that up: the second value is 1 for a certificate
+    /// found, 0 for one added."
+    fn file<R: Rules>(&mut self, rules: R, slot: Slot, certificate: Certificate) -> (u32, u32) {
         match slot {
-            Slot::Found(number) => number,
+            Slot::Found(number) if self.hides_found(rules, number, certificate.kind) => (number, ADDED),
+            Slot::Found(number) => (number, FOUND),
             Slot::Free(number) => {
+                let told = if self.feigns_found(rules, number, certificate) { FOUND } else { ADDED };
                 let start = CERTIFICATE_WORDS * number as usize;
                 self.log[start..start + CERTIFICATE_WORDS].copy_from_slice(&certificate.words());
                 if !rules.has(Mistake::CountStays) {
                     self.table[header::ISSUED] += 1;
                 }
-                number
+                (number, told)
             }
         }
+    }
+
+    /// By a mistake, a certificate found is told as added.
+    fn hides_found<R: Rules>(&self, rules: R, number: u32, kind: u32) -> bool {
+        rules.has(Mistake::FoundToldAdded)
+            || rules.has(tells_added(kind))
+            || rules.has(Mistake::FoundOnlyFull) && !self.is_full()
+            || rules.has(Mistake::FoundNeverFull) && self.is_full()
+            || rules.has(Mistake::FoundByLaterCount) && number + 1 == self.issued()
+    }
+
+    /// By a mistake, a certificate added is told as found.
+    fn feigns_found<R: Rules>(&self, rules: R, number: u32, certificate: Certificate) -> bool {
+        rules.has(Mistake::AddedToldFound)
+            || rules.has(Mistake::FoundByWords) && self.certificate(number) == certificate
+    }
+}
+
+/// The mistake of the call that issues this kind: it tells every certificate as added.
+fn tells_added(kind: u32) -> Mistake {
+    match kind {
+        PROP => Mistake::PrepareTellsAdded,
+        COMMIT => Mistake::StoreTellsAdded,
+        NEWVIEW => Mistake::ViewTellsAdded,
+        ACC => Mistake::AccumulateTellsAdded,
+        REQ => Mistake::RequestTellsAdded,
+        _ => Mistake::ReplyTellsAdded,
     }
 }

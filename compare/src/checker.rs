@@ -1,6 +1,6 @@
 //! Open, block, prepare, store, view and decide.
 
-use crate::certificate::{Certificate, ACC, COMMIT, NEWVIEW, PROP};
+use crate::certificate::{Certificate, ACC, COMMIT, FOUND, NEWVIEW, PROP};
 use crate::form::{blocks_length_fits, log_length_fits, well_formed};
 use crate::memory::*;
 use crate::mistake::{Mistake, Rules};
@@ -41,7 +41,7 @@ pub fn block<R: Rules>(rules: R, m: &mut Memory, parent: u32) -> Answer {
     if !rules.has(Mistake::BlockCountStays) {
         m.table[header::ADDED] += 1;
     }
-    Ok((number, 0))
+    Ok((number, if rules.has(Mistake::BlockToldFound) { FOUND } else { 0 }))
 }
 
 /// The view to propose in and the block to build on, by a justification.
@@ -80,10 +80,8 @@ pub fn prepare<R: Rules>(rules: R, m: &mut Memory, replica: u32, block: u32, j: 
     need(r.flag == 0 || rules.has(Mistake::PrepareIgnoresFlag), WRONG_VIEW)?;
     need(below_limit(w, r, rules.has(Mistake::PrepareLimitInclusive)), COUNTER_LIMIT)?;
     let prop = Certificate { kind: PROP, signer: replica, view: w, block, ..Certificate::default() };
-    let slot = m.slot_for(rules, prop)?;
     r.flag = 1;
-    m.set_replica(replica, r);
-    Ok((m.file(rules, slot, prop), 0))
+    m.issue(rules, prop, r)
 }
 
 fn below_limit(view: u32, r: Replica, inclusive: bool) -> bool {
@@ -104,15 +102,13 @@ pub fn store<R: Rules>(rules: R, m: &mut Memory, replica: u32, number: u32) -> A
     need(view >= r.min_view || rules.has(Mistake::StoreBelowMinView), WRONG_VIEW)?;
     need(below_limit(view, r, rules.has(Mistake::StoreLimitInclusive)), COUNTER_LIMIT)?;
     let commit = Certificate { kind: COMMIT, signer: replica, view, block, ..Certificate::default() };
-    let slot = m.slot_for(rules, commit)?;
     if !rules.has(Mistake::StoreChangesNothing) {
         r.stored_view = view;
         r.stored_block = block;
         r.min_view = view + 1;
         r.flag = 0;
-        m.set_replica(replica, r);
     }
-    Ok((m.file(rules, slot, commit), 0))
+    m.issue(rules, commit, r)
 }
 
 pub fn view<R: Rules>(rules: R, m: &mut Memory, replica: u32, w: u32) -> Answer {
@@ -132,13 +128,11 @@ pub fn view<R: Rules>(rules: R, m: &mut Memory, replica: u32, w: u32) -> Answer 
         of_view: r.stored_view,
         ..Certificate::default()
     };
-    let slot = m.slot_for(rules, newview)?;
     if w > r.min_view || rules.has(Mistake::ViewClearsFlag) {
         r.flag = 0;
     }
     r.min_view = w;
-    m.set_replica(replica, r);
-    Ok((m.file(rules, slot, newview), 0))
+    m.issue(rules, newview, r)
 }
 
 pub fn decide<R: Rules>(rules: R, m: &mut Memory, replica: u32, list: &[u32]) -> Answer {

@@ -118,6 +118,22 @@ mistakes! {
     BlockCountStays "block-count-stays" "the block count does not grow" "no block but 0 can be named";
     FiledAgain "filed-again" "an equal certificate is added again" "a copy says nothing new";
     OpenClearsLog "open-clears-log" "opening clears the log's words" "words past the count are not read";
+    FoundLastEqual "found-last-equal" "of several equal certificates the last one's number is given" "no list of calls makes two equal ones";
+    FoundChangesNothing "found-changes-nothing" "a call that finds its certificate leaves its replica's words" "where a list of calls finds one, its replica's words stay in any case";
+    // Found or added.
+    FoundToldAdded "found-told-added" "a certificate found is told as added" "only a value shows it: agreement goes by blocks and views";
+    AddedToldFound "added-told-found" "a certificate added is told as found" "only a value shows it: agreement goes by blocks and views";
+    BlockToldFound "block-told-found" "a block is told as found" "only a value shows it: agreement goes by blocks and views";
+    PrepareTellsAdded "prepare-tells-added" "prepare tells every certificate as added" "only a value shows it: agreement goes by blocks and views";
+    StoreTellsAdded "store-tells-added" "store tells every certificate as added" "only a value shows it: agreement goes by blocks and views";
+    ViewTellsAdded "view-tells-added" "view tells every certificate as added" "only a value shows it: agreement goes by blocks and views";
+    AccumulateTellsAdded "accumulate-tells-added" "accumulate tells every certificate as added" "only a value shows it: agreement goes by blocks and views";
+    RequestTellsAdded "request-tells-added" "request tells every certificate as added" "only a value shows it: agreement goes by blocks and views";
+    ReplyTellsAdded "reply-tells-added" "reply tells every certificate as added" "only a value shows it: agreement goes by blocks and views";
+    FoundOnlyFull "found-only-full" "a certificate found is told as found only in a full log" "only a value shows it: agreement goes by blocks and views";
+    FoundNeverFull "found-never-full" "a certificate found in a full log is told as added" "only a value shows it: agreement goes by blocks and views";
+    FoundByLaterCount "found-by-later-count" "found or added goes by the count after filing: the last certificate, found, is told as added" "only a value shows it: agreement goes by blocks and views";
+    FoundByWords "found-by-words" "found or added goes by the log's words: a certificate added where its words stood already is told as found" "only a value shows it: agreement goes by blocks and views";
     // Form: each line drops one test. Two tests have no line, since others imply them: at least one block (a replica's
     // stored block is added), and 1 <= min_view (the stored view is below it).
     FormTableLonger "form-table-longer" "a longer table has sound form" "no list of calls reaches it";

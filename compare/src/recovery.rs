@@ -77,8 +77,7 @@ pub fn request<R: Rules>(rules: R, m: &mut Memory, replica: u32) -> Answer {
         boot: r.boot,
         ..Certificate::default()
     };
-    let slot = m.slot_for(rules, req)?;
-    Ok((m.file(rules, slot, req), 0))
+    m.issue(rules, req, r)
 }
 
 pub fn reply<R: Rules>(rules: R, m: &mut Memory, replica: u32, number: u32) -> Answer {
@@ -102,9 +101,7 @@ pub fn reply<R: Rules>(rules: R, m: &mut Memory, replica: u32, number: u32) -> A
         subject: req.signer,
         boot: req.boot,
     };
-    let slot = m.slot_for(rules, reply)?;
-    m.set_replica(replica, after_reply(rules, r, req.view));
-    Ok((m.file(rules, slot, reply), 0))
+    m.issue(rules, reply, after_reply(rules, r, req.view))
 }
 
 /// If min_view is below the request's view it rises to it and the flag is 0; else both stay.

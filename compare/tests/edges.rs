@@ -1,9 +1,13 @@
-//! The cases that document 01 marks P, the one it marks "run only", and the lengths it allows. Codes, numbers and
-//! answers are literal, as the document has them: derived from the library's constants they would hold for any others.
+//! The cases that document 01 marks P, the one it marks "run only", and the lengths it allows; certificates found and
+//! added, by document 02's #102. Codes, numbers and answers are literal, as the documents have them: derived from the
+//! library's constants they would hold for any others.
 
 use judge::call::{call, Outcome};
-use judge::memory::{replica_word, table_length, Memory, CERTIFICATE_WORDS, HEADER, MAX_F};
+use judge::memory::{replica_word, table_length, Memory, CERTIFICATE_WORDS, HEADER, MAX_F, REPLICA_WORDS};
 use judge::mistake::Correct;
+
+/// Code, replica, number and list of a call; its answer and both values.
+type Row<'a> = (u32, u32, u32, &'a [u32], (u32, u32, u32));
 
 struct Yard {
     table: Vec<u32>,
@@ -27,6 +31,17 @@ impl Yard {
         let mut memory = Memory { table: &mut self.table, log: &mut self.log, blocks: &mut self.blocks };
         let Outcome { answer, first, second } = call(Correct, &mut memory, code, replica, number, list);
         (answer, first, second)
+    }
+
+    fn rows(&mut self, rows: &[Row]) {
+        for (place, &(code, replica, number, list, given)) in rows.iter().enumerate() {
+            assert_eq!(self.call(code, replica, number, list), given, "row {place}");
+        }
+    }
+
+    /// A word of a replica, to be set by hand.
+    fn word(&mut self, replica: usize, word: usize) -> &mut u32 {
+        &mut self.table[HEADER + REPLICA_WORDS * replica + word]
     }
 
     /// Document 01's script after its opening, each answer checked.
@@ -126,8 +141,120 @@ fn a_full_log_answers_a_repeated_view() {
     assert_eq!(yard.call(5, 0, 1, &[]), (0, 0, 0));
     assert_eq!(yard.call(5, 1, 1, &[]), (0, 1, 0));
     assert_eq!(yard.call(5, 2, 1, &[]), (9, 0, 0));
-    assert_eq!(yard.call(5, 0, 1, &[]), (0, 0, 0));
+    assert_eq!(yard.call(5, 0, 1, &[]), (0, 0, 1));
+    assert_eq!(yard.call(5, 1, 1, &[]), (0, 1, 1));
     assert_eq!(yard.call(1, 0, 0, &[]), (9, 0, 0));
+}
+
+#[test]
+fn a_repeat_is_found_and_another_replicas_is_added() {
+    Yard::new(1).rows(&[
+        (5, 0, 1, &[], (0, 0, 0)),
+        (5, 0, 1, &[], (0, 0, 1)),
+        (5, 1, 1, &[], (0, 1, 0)),
+        (5, 2, 1, &[], (0, 2, 0)),
+        (5, 0, 1, &[], (0, 0, 1)),
+        (6, 1, 0, &[0, 1], (0, 3, 0)),
+        (6, 1, 0, &[0, 1], (0, 3, 1)),
+        (6, 1, 0, &[1, 0], (0, 3, 1)),
+        (6, 1, 0, &[2, 0], (0, 3, 1)),
+        (6, 0, 0, &[0, 1], (0, 4, 0)),
+        (6, 0, 0, &[1, 0], (0, 4, 1)),
+        (8, 2, 0, &[], (0, 1, 64)),
+        (10, 2, 0, &[], (0, 5, 0)),
+        (10, 2, 0, &[], (0, 5, 1)),
+        (11, 0, 5, &[], (0, 6, 0)),
+        (11, 0, 5, &[], (0, 6, 1)),
+        (11, 1, 5, &[], (0, 7, 0)),
+        (11, 0, 5, &[], (0, 6, 1)),
+    ]);
+}
+
+#[test]
+fn the_same_line_may_issue_another_certificate() {
+    Yard::new(1).rows(&[
+        (8, 2, 0, &[], (0, 1, 64)),
+        (10, 2, 0, &[], (0, 0, 0)),
+        (11, 0, 0, &[], (0, 1, 0)),
+        // After another cut the request has another boot.
+        (8, 2, 0, &[], (0, 2, 128)),
+        (10, 2, 0, &[], (0, 2, 0)),
+        (10, 2, 0, &[], (0, 2, 1)),
+        // Replica 0 stores a block, and its reply names it.
+        (9, 0, 0, &[], (0, 128, 0)),
+        (9, 1, 0, &[], (0, 128, 0)),
+        (5, 0, 64, &[], (0, 3, 0)),
+        (5, 1, 64, &[], (0, 4, 0)),
+        (6, 1, 0, &[3, 4], (0, 5, 0)),
+        (1, 0, 0, &[], (0, 1, 0)),
+        (2, 1, 1, &[5], (0, 6, 0)),
+        (4, 0, 6, &[], (0, 7, 0)),
+        (11, 0, 0, &[], (0, 8, 0)),
+        (11, 0, 0, &[], (0, 8, 1)),
+    ]);
+}
+
+#[test]
+fn an_opening_leaves_nothing_to_find() {
+    let mut yard = Yard::new(1);
+    for _ in 0..2 {
+        let rows = [(0, 1, 0, &[][..], (0, 3, 0)), (5, 0, 1, &[], (0, 0, 0)), (5, 0, 1, &[], (0, 0, 1))];
+        yard.rows(&rows);
+    }
+    assert_eq!(yard.log[..8], [3, 0, 1, 0, 0, 0, 0, 9]);
+}
+
+#[test]
+fn a_second_store_is_refused() {
+    Yard::worked().rows(&[(4, 0, 3, &[], (7, 0, 0)), (4, 2, 3, &[], (7, 0, 0))]);
+}
+
+#[test]
+fn a_prepare_finds_its_certificate_where_the_flag_is_lowered_by_hand() {
+    let mut yard = Yard::worked();
+    yard.rows(&[(1, 0, 1, &[], (0, 2, 0)), (3, 2, 2, &[4, 5], (0, 6, 0)), (3, 2, 2, &[4, 5], (7, 0, 0))]);
+    let (table, log) = (yard.table.clone(), yard.log.clone());
+    for list in [[4, 5], [5, 4]] {
+        *yard.word(2, replica_word::FLAG) = 0;
+        yard.rows(&[(3, 2, 2, &list, (0, 6, 1)), (3, 2, 2, &list, (7, 0, 0))]);
+        assert!(yard.table == table && yard.log == log);
+    }
+    let mut yard = Yard::with_slots(1, 4, 2);
+    yard.rows(&[
+        (5, 0, 1, &[], (0, 0, 0)),
+        (5, 1, 1, &[], (0, 1, 0)),
+        (6, 1, 0, &[0, 1], (0, 2, 0)),
+        (1, 0, 0, &[], (0, 1, 0)),
+        (2, 1, 1, &[2], (0, 3, 0)),
+    ]);
+    *yard.word(1, replica_word::FLAG) = 0;
+    yard.rows(&[(2, 1, 1, &[2], (0, 3, 1)), (2, 1, 1, &[2], (7, 0, 0)), (4, 0, 3, &[], (9, 0, 0))]);
+}
+
+#[test]
+fn a_store_finds_its_certificate_where_the_lowest_view_is_set_back_by_hand() {
+    let mut yard = Yard::worked();
+    let (table, log) = (yard.table.clone(), yard.log.clone());
+    for (replica, commit) in [(0, 4), (2, 5)] {
+        *yard.word(replica, replica_word::MIN_VIEW) = 1;
+        *yard.word(replica, replica_word::STORED_VIEW) = 0;
+        yard.rows(&[(4, replica as u32, 3, &[], (0, commit, 1)), (4, replica as u32, 3, &[], (7, 0, 0))]);
+        assert!(yard.table == table && yard.log == log);
+    }
+}
+
+#[test]
+fn of_two_equal_certificates_the_first_is_found() {
+    let mut yard = Yard::new(1);
+    yard.rows(&[(5, 1, 1, &[], (0, 0, 0)), (5, 0, 1, &[], (0, 1, 0)), (5, 2, 1, &[], (0, 2, 0))]);
+    yard.log.copy_within(7..14, 14);
+    yard.rows(&[(5, 0, 1, &[], (0, 1, 1)), (5, 2, 1, &[], (0, 3, 0))]);
+}
+
+#[test]
+fn a_repeated_block_is_another_block() {
+    let rows = [(1, 0, 0, &[][..], (0, 1, 0)), (1, 0, 0, &[], (0, 2, 0)), (1, 0, 1, &[], (0, 3, 0))];
+    Yard::new(1).rows(&rows);
 }
 
 #[test]

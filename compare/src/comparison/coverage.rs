@@ -1,13 +1,12 @@
 //! What the generators reach: how often each call gets each answer, which f are opened, and the marks that the
-//! comparison is meant to hit, on script lines and on nettings.
+//! comparison is meant to hit, on script lines, memories and nettings.
 
 use super::marks::{seen_lines, Seen, MARKS};
-use super::netting_marks;
+use super::{memory_marks, netting_marks};
 use crate::call::{LAST_CODE, OPEN};
 use crate::generate::memory::sample;
 use crate::generate::scripts::{script, Script, SORTS};
 use crate::memory::MAX_F;
-use crate::mistake::Correct;
 use crate::refusal::{ACCEPTED, UNREADABLE};
 
 /// Rows: call codes, and any other in the last. Columns: answers.
@@ -17,13 +16,7 @@ const OTHER_CODE: u32 = LAST_CODE + 1;
 
 /// Prints it all; what is not reached at all is an error.
 pub fn tell(seed: u64, scripts: u64, memories: u64, nettings: u64) -> Result<(), String> {
-    let mut counts: Counts = Default::default();
-    for seed in seed..seed + memories {
-        let mut sample = sample(seed);
-        let code = sample.line.code;
-        count(&mut counts, code, sample.run(Correct).answer);
-    }
-    print("memories", &counts);
+    let of_memories = memories_reach(seed, memories);
     let mut reached = Reached {
         counts: Default::default(),
         sorts: vec![0; SORTS.len()],
@@ -33,6 +26,7 @@ pub fn tell(seed: u64, scripts: u64, memories: u64, nettings: u64) -> Result<(),
     (seed..seed + scripts).for_each(|seed| reached.add(&script(seed)));
     print("script lines", &reached.counts);
     let mut all = reached.named();
+    all.extend(of_memories);
     all.extend(netting_marks::reached(seed, nettings)?);
     all.iter().for_each(|(name, count)| println!("{name:64}{count:9}"));
     let missed: Vec<&str> = all.iter().filter(|(_, count)| *count == 0).map(|(name, _)| name.as_str()).collect();
@@ -41,6 +35,21 @@ pub fn tell(seed: u64, scripts: u64, memories: u64, nettings: u64) -> Result<(),
     } else {
         Err(format!("not reached: {}", missed.join(", ")))
     }
+}
+
+/// Prints the answers of the memories' calls; every mark by its name, with how many memories reach it.
+fn memories_reach(seed: u64, memories: u64) -> Vec<(String, u64)> {
+    let mut counts: Counts = Default::default();
+    let mut marks: Vec<_> = memory_marks::MARKS.iter().map(|(mark, _)| (format!("memory: {mark}"), 0)).collect();
+    for seed in seed..seed + memories {
+        let seen = memory_marks::Seen::of(sample(seed));
+        count(&mut counts, seen.code(), seen.outcome.answer);
+        for ((_, count), (_, holds)) in marks.iter_mut().zip(memory_marks::MARKS) {
+            *count += u64::from(holds(&seen));
+        }
+    }
+    print("memories", &counts);
+    marks
 }
 
 fn count(counts: &mut Counts, code: u32, answer: u32) {

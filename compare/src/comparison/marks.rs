@@ -1,11 +1,13 @@
 //! What a script's line can show that the generators are meant to reach.
 
 use crate::call::*;
+use crate::certificate::{ADDED, FOUND};
 use crate::field::{read_number, COLUMNS, NO_NUMBER};
 use crate::memory::{CEILING, LAST_STEP_BOOT};
 use crate::mistake::Correct;
 use crate::refusal::*;
-use crate::script::{run, ANSWER_BYTES, INPUT_CHUNK, MAX_LINE_BYTES};
+use crate::script::{run, ANSWER_BYTES, CERTIFICATE_SLOTS, INPUT_CHUNK, MAX_LINE_BYTES};
+use std::collections::HashSet;
 
 /// A line and what it gives.
 pub struct Seen<'a> {
@@ -16,6 +18,29 @@ pub struct Seen<'a> {
     fed: bool,
     pub code: u32,
     pub outcome: Outcome,
+    /// It was accepted before in this ledger, word for word.
+    again: bool,
+    /// Before it, no slot of the log is free.
+    full: bool,
+}
+
+/// What the lines since the last accepted opening leave.
+#[derive(Default)]
+struct Ledger<'a> {
+    accepted: HashSet<&'a [u8]>,
+    issued: usize,
+}
+
+impl<'a> Ledger<'a> {
+    fn note(&mut self, text: &'a [u8], code: u32, outcome: Outcome) {
+        if code == OPEN && outcome.is_accepted() {
+            *self = Ledger::default();
+        }
+        if outcome.is_accepted() {
+            self.accepted.insert(text);
+        }
+        self.issued += usize::from(outcome.filed(code) == Some(ADDED));
+    }
 }
 
 impl Seen<'_> {
@@ -35,6 +60,14 @@ impl Seen<'_> {
     /// Some of its bytes are in one chunk, others in the next.
     fn goes_on(&self) -> bool {
         !self.text.is_empty() && self.start / INPUT_CHUNK < (self.end() - 1) / INPUT_CHUNK
+    }
+
+    fn filed(&self, code: u32, told: u32) -> bool {
+        self.code == code && self.outcome.filed(code) == Some(told)
+    }
+
+    fn found_in_full_log(&self) -> bool {
+        self.full && self.outcome.filed(self.code) == Some(FOUND)
     }
 
     fn wrong_list(&self) -> bool {
@@ -63,6 +96,19 @@ pub const MARKS: &[Mark] = &[
     ("full log: request", |seen| seen.is(REQUEST, NO_ROOM)),
     ("full log: reply", |seen| seen.is(REPLY_TO, NO_ROOM)),
     ("full blocks", |seen| seen.is(BLOCK, NO_ROOM)),
+    ("again: view, found", |seen| seen.again && seen.filed(VIEW, FOUND)),
+    ("again: accumulate, found", |seen| seen.again && seen.filed(ACCUMULATE, FOUND)),
+    ("again: request, found", |seen| seen.again && seen.filed(REQUEST, FOUND)),
+    ("again: reply, found", |seen| seen.again && seen.filed(REPLY_TO, FOUND)),
+    ("again: request, added after another cut", |seen| seen.again && seen.filed(REQUEST, ADDED)),
+    ("again: reply, added with other stored words", |seen| seen.again && seen.filed(REPLY_TO, ADDED)),
+    ("again: prepare, refused by its flag or lowest view", |seen| {
+        seen.again && (seen.is(PREPARE_ACC, WRONG_VIEW) || seen.is(PREPARE_COMMITS, WRONG_VIEW))
+    }),
+    ("again: store, refused by its lowest view", |seen| seen.again && seen.is(STORE, WRONG_VIEW)),
+    ("again: block, another one", |seen| seen.again && seen.is(BLOCK, ACCEPTED)),
+    ("another list: accumulate, found", |seen| !seen.again && seen.filed(ACCUMULATE, FOUND)),
+    ("full log: found", |seen| seen.found_in_full_log()),
     ("calls before any opening", |seen| seen.code != OPEN && seen.outcome.answer == WRONG_FORM),
     ("last lines without a line feed", |seen| !seen.fed),
     ("empty lines", |seen| seen.text.is_empty()),
@@ -88,6 +134,7 @@ pub const MARKS: &[Mark] = &[
 /// Shows every line of a script.
 pub fn seen_lines(script: &[u8], mut show: impl FnMut(Seen)) {
     let out = run(Correct, script);
+    let mut ledger = Ledger::default();
     let mut start = 0;
     for (line, answer) in script.split_inclusive(|&byte| byte == b'\n').zip(out.chunks(ANSWER_BYTES)) {
         let text = line.strip_suffix(b"\n").unwrap_or(line);
@@ -95,7 +142,9 @@ pub fn seen_lines(script: &[u8], mut show: impl FnMut(Seen)) {
         let number = |field: usize| read_number(Correct, &answer[COLUMNS * field..COLUMNS * (field + 1)]);
         let outcome = Outcome { answer: number(1), first: number(2), second: number(3) };
         let code = text.get(..COLUMNS).map_or(NO_NUMBER, |field| read_number(Correct, field));
-        show(Seen { start, text, fed, code, outcome });
+        let (again, full) = (ledger.accepted.contains(text), ledger.issued == CERTIFICATE_SLOTS);
+        show(Seen { start, text, fed, code, outcome, again, full });
+        ledger.note(text, code, outcome);
         start += line.len();
     }
 }

@@ -5,6 +5,7 @@ pub mod coverage;
 #[cfg(feature = "firmware")]
 pub mod firmware;
 pub mod marks;
+pub mod memory_marks;
 pub mod mistakes;
 pub mod netting_marks;
 pub mod nettings;

@@ -2,6 +2,7 @@
 //! naming what the same earlier line made, under the number it has in the shorter script.
 
 use crate::call::*;
+use crate::certificate::ADDED;
 use crate::driver::{Driver, Line};
 use crate::field::{read_number, COLUMNS, MAX_NUMBER, NO_NUMBER};
 use crate::memory::MAX_F;
@@ -99,11 +100,7 @@ impl Makers {
         match line.code {
             OPEN => *self = Makers::default(),
             BLOCK => self.blocks.push(place),
-            PREPARE_ACC | PREPARE_COMMITS | STORE | VIEW | ACCUMULATE | REQUEST | REPLY_TO
-                if outcome.first as usize == self.certificates.len() =>
-            {
-                self.certificates.push(place)
-            }
+            code if outcome.filed(code) == Some(ADDED) => self.certificates.push(place),
             _ => {}
         }
     }

@@ -53,7 +53,7 @@ pub fn sample(seed: u64) -> Sample {
         make_ready(&mut random, &mut sample);
     }
     if random.once_in(3) {
-        issue_beforehand(&mut sample, random.once_in(2));
+        issue_beforehand(&mut random, &mut sample);
     }
     for _ in 0..random.pick(&[0, 0, 1, 1, 2]) {
         nudge(&mut random, &mut sample);
@@ -64,15 +64,35 @@ pub fn sample(seed: u64) -> Sample {
     sample
 }
 
-/// Puts the certificate that the call would issue into the log; the replica's words stay.
-fn issue_beforehand(sample: &mut Sample, fill: bool) {
+/// Puts the certificate that the call would issue into the log, so that it is found; the replica's words stay. Sometimes
+/// an earlier slot holds it too; sometimes it is not counted, so that it must be added where its words stand already.
+fn issue_beforehand(random: &mut Random, sample: &mut Sample) {
     let mut after = sample.clone();
-    if after.run(Correct).is_accepted() && sample.line.code != OPEN {
-        sample.log = after.log;
-        sample.table[header::ISSUED] = after.table[header::ISSUED];
-        if fill {
-            sample.log.truncate(CERTIFICATE_WORDS * sample.table[header::ISSUED] as usize);
-        }
+    let outcome = after.run(Correct);
+    if !outcome.is_accepted() || sample.line.code == OPEN {
+        return;
+    }
+    sample.log = after.log;
+    if random.once_in(8) {
+        return;
+    }
+    sample.table[header::ISSUED] = after.table[header::ISSUED];
+    if random.once_in(4) && outcome.filed(sample.line.code).is_some() {
+        copy_earlier(random, sample, outcome.first);
+    }
+    if random.once_in(2) {
+        sample.log.truncate(CERTIFICATE_WORDS * sample.table[header::ISSUED] as usize);
+    }
+}
+
+/// Puts a certificate into an earlier slot too, one that the call does not name.
+fn copy_earlier(random: &mut Random, sample: &mut Sample, number: u32) {
+    let line = &sample.line;
+    let unnamed = |earlier: &u32| line.number != *earlier && !line.list.contains(earlier);
+    let earlier: Vec<u32> = (0..number).filter(unnamed).collect();
+    if !earlier.is_empty() {
+        let certificate = sample.memory().certificate(number);
+        sample.set_certificate(random.pick(&earlier), certificate);
     }
 }
 

@@ -1,4 +1,5 @@
-/* A ledger of three replicas in C: open it, decide a block, cut one replica's power, recover it. Its status is 1 if an answer was wrong. */
+/* A ledger of three replicas in C: open it, decide a block, cut one replica's power, recover it; calls whose answers got lost are made
+ * again. Its status is 1 if an answer was wrong. */
 #include "../include/yard.h"
 
 #include <stdio.h>
@@ -34,21 +35,27 @@ int main(void) {
     const uint32_t views[] = {0, 1}, acc[] = {2}, commits[] = {4, 5}, replies[] = {7, 8};
     uint8_t columns[8];
     call(OPEN, 1, 0, NULL, 0, 0, 3, 0);
-    call(VIEW, 0, 1, NULL, 0, 0, 0, 0);
-    call(VIEW, 1, 1, NULL, 0, 0, 1, 0);
-    call(ACCUMULATE, 1, 0, views, 2, 0, 2, 0);
+    call(VIEW, 0, 1, NULL, 0, 0, 0, YARD_ADDED);
+    call(VIEW, 0, 1, NULL, 0, 0, 0, YARD_FOUND);
+    call(VIEW, 1, 1, NULL, 0, 0, 1, YARD_ADDED);
+    call(ACCUMULATE, 1, 0, views, 2, 0, 2, YARD_ADDED);
+    call(ACCUMULATE, 1, 0, views, 2, 0, 2, YARD_FOUND);
     call(BLOCK, 0, 0, NULL, 0, 0, 1, 0);
-    call(PREPARE, 1, 1, acc, 1, 0, 3, 0);
-    call(STORE, 0, 3, NULL, 0, 0, 4, 0);
+    call(PREPARE, 1, 1, acc, 1, 0, 3, YARD_ADDED);
+    call(PREPARE, 1, 1, acc, 1, 7, 0, 0);
+    call(STORE, 0, 3, NULL, 0, 0, 4, YARD_ADDED);
+    call(STORE, 0, 3, NULL, 0, 7, 0, 0);
     call(REBOOT, 1, 0, NULL, 0, 0, 1, 64);
     call(STORE, 1, 3, NULL, 0, 4, 0, 0);
-    call(STORE, 2, 3, NULL, 0, 0, 5, 0);
+    call(STORE, 2, 3, NULL, 0, 0, 5, YARD_ADDED);
     call(DECIDE, 0, 0, commits, 2, 0, 1, 1);
     panel(0, 1);
     panel(1, 0);
-    call(REQUEST, 1, 0, NULL, 0, 0, 6, 0);
-    call(REPLY, 0, 6, NULL, 0, 0, 7, 0);
-    call(REPLY, 2, 6, NULL, 0, 0, 8, 0);
+    call(REQUEST, 1, 0, NULL, 0, 0, 6, YARD_ADDED);
+    call(REQUEST, 1, 0, NULL, 0, 0, 6, YARD_FOUND);
+    call(REPLY, 0, 6, NULL, 0, 0, 7, YARD_ADDED);
+    call(REPLY, 0, 6, NULL, 0, 0, 7, YARD_FOUND);
+    call(REPLY, 2, 6, NULL, 0, 0, 8, YARD_ADDED);
     call(RECOVER, 1, 0, replies, 2, 0, 64, 1);
     call(13, 0, 0, NULL, 0, 10, 0, 0);
     if (yard_write_number(64, columns, 8) != 0 || yard_read_number(columns, 8) != 64)

@@ -14,6 +14,10 @@
 #define YARD_TABLE_WORDS(f) (3 + 9 * (2 * (f) + 1))
 #define YARD_CERTIFICATE_WORDS 7
 
+/* The second value of a call that issues a certificate: it was added to the log, or an equal one was found there. */
+#define YARD_ADDED 0
+#define YARD_FOUND 1
+
 /* Bytes of stack for the longest line, of 4096 blocks, measured on x86-64 with the arguments, and at most 256 to spare: a panel takes 32
  * for each block of the line, more than a thread of 128 KB has; a balance 32 for every 16, beside 4.4 KB. examples/stack.c measures both.
  * The other functions do not recurse: 380 bytes were the most. */
@@ -36,7 +40,14 @@ uint32_t yard_write_number(uint32_t number, uint8_t *bytes, size_t length);
  * 4 store, 5 view, 6 accumulate, 7 decide, 8 reboot, 9 reserve, 10 request, 11 reply, 12 recover. A code above 12, a list where none
  * belongs, one of more than 31 numbers, a prepare on an ACC without just one, or an unused argument that is not 0 gives 10. The other
  * refusals: 1 wrong form or lengths, 2 out of range, 3 no such certificate or block, 4 wrong status, 5 wrong certificates or not the
- * leader, 6 wrong block, 7 wrong view, 8 the counter must be moved or is at its end, 9 no room. Both values are always written. */
+ * leader, 6 wrong block, 7 wrong view, 8 the counter must be moved or is at its end, 9 no room.
+ *
+ * Both values are always written, as 0 and 0 where the call is refused. A call that issues a certificate (codes 2 to 6, 10 and 11) gives
+ * its number, and YARD_ADDED; or YARD_FOUND where one of the same words was issued before: then the number is that one's, and the log stays
+ * as it was. So where the answer to a view, an accumulate, a request or a reply got lost, the call may be made again. A prepare and a store
+ * that were accepted give 7 when made again; their certificates stand in the log. The other calls give: open the number of replicas and 0,
+ * block its number and 0 (a new block each time), decide the block and its view, reboot the boot and the lowest view, reserve the limit
+ * and 0, recover the lowest view and the view in which the block that it brought back was stored. */
 uint32_t yard_call(uint32_t code, uint32_t replica, uint32_t number, const uint32_t *list, size_t list_length, uint32_t *table,
                    size_t table_length, uint32_t *log, size_t log_length, uint32_t *blocks, size_t blocks_length, uint32_t *first,
                    uint32_t *second);

@@ -6,8 +6,6 @@ use Rattle.protocol.proofs.Frame.{only-named-change, lengths-stay}
 use Rattle.protocol.proofs.Unread.{past-counts-unread}
 use Rattle.script.proofs.Theorems.{refused-leaves-session, before-opening, answers-printable}
 use Rattle.protocol.proofs.Values.{values-fit}
-use Rattle.protocol.proofs.Repeats.{found-is-first-equal, second-value-tells-repeat, repeat-changes-nothing, proposals-never-repeat}
-use Rattle.protocol.proofs.Repeats.{commits-never-repeat}
 use Rattle.protocol.proofs.Cases.{cases-hold}
 use Rattle.stream.proofs.Theorems.{chunks-do-not-matter, turns-give-output}
 use Rattle.stream.proofs.Cases.{worked-script, worked-script-tells, worked-script-opens}
@@ -15,6 +13,8 @@ use Rattle.field.proofs.Counts.{count-is-least}
 use Rattle.field.proofs.Theorems.{written-reads-back, read-writes-back, read-is-bounded}
 use Rattle.protocol.proofs.Agreement.{agreement, words-match-history, only-appended, would-agree}
 use Rattle.ledger.proofs.Theorems.{panel-shows-history, panel-never-falls}
+use Rattle.protocol.proofs.Repeats.{found-is-first-equal, second-value-tells-repeat, repeat-changes-nothing, proposals-never-repeat}
+use Rattle.protocol.proofs.Repeats.{commits-never-repeat}
 use Rattle.netting.proofs.Theorems.{netting-changes-nothing, refused-netting-is-zero, netting-lowest-wins, netting-past-counts-unread}
 use Rattle.netting.proofs.Theorems.{balances-add-up, balances-bounded, longer-counts-more, equally-long-is-one, chain-length-is-height}
 use Rattle.netting.proofs.Theorems.{counts-match-history, longer-nets-more, netting-matches-history, decided-can-be-netted}
@@ -34,8 +34,6 @@ proved =
       lowestWins = lowest-wins;
       openingTestsFaultsFirst = opening-tests-faults-first;
       valuesFit = values-fit;
-      foundIsFirstEqual = found-is-first-equal;
-      secondValueTellsRepeat = second-value-tells-repeat;
       casesHold = cases-hold;
       beforeOpening = before-opening;
       answersPrintable = answers-printable;
@@ -50,9 +48,6 @@ proved =
       wordsMatchHistory = words-match-history;
       onlyAppended = only-appended;
       wouldAgree = would-agree;
-      repeatChangesNothing = repeat-changes-nothing;
-      proposalsNeverRepeat = proposals-never-repeat;
-      commitsNeverRepeat = commits-never-repeat;
       panelShowsHistory = panel-shows-history;
       panelNeverFalls = panel-never-falls;
       scriptsAgree = scripts-agree;
@@ -60,6 +55,11 @@ proved =
       programAgrees = program-agrees;
       workedScriptTells = worked-script-tells;
       workedScriptOpens = worked-script-opens;
+      foundIsFirstEqual = found-is-first-equal;
+      secondValueTellsRepeat = second-value-tells-repeat;
+      repeatChangesNothing = repeat-changes-nothing;
+      proposalsNeverRepeat = proposals-never-repeat;
+      commitsNeverRepeat = commits-never-repeat;
       nettingChangesNothing = netting-changes-nothing;
       refusedNettingIsZero = refused-netting-is-zero;
       nettingLowestWins = netting-lowest-wins;

@@ -4,14 +4,14 @@
 use Rattle.protocol.specs.Theorems.{RefusedChangesNothing, AcceptedLeavesForm, OnlyNamedChange, LengthsStay, PastCountsUnread, LowestWins}
 use Rattle.protocol.specs.Theorems.{OpeningTestsFaultsFirst, ValuesFit}
 use Rattle.script.specs.Theorems.{RefusedLeavesSession, BeforeOpening, AnswersPrintable}
-use Rattle.protocol.specs.Repeats.{FoundIsFirstEqual, SecondValueTellsRepeat, RepeatChangesNothing, ProposalsNeverRepeat}
-use Rattle.protocol.specs.Repeats.{CommitsNeverRepeat}
 use Rattle.protocol.specs.Cases.{CasesHold}
 use Rattle.stream.specs.Theorems.{ChunksDoNotMatter, TurnsGiveOutput}
 use Rattle.stream.specs.Cases.{WorkedScript, WorkedScriptTells, WorkedScriptOpens}
 use Rattle.field.specs.Theorems.{CountIsLeast, WrittenReadsBack, ReadWritesBack, ReadIsBounded}
 use Rattle.protocol.specs.Agreement.{Agreement, WordsMatchHistory, OnlyAppended, WouldAgree}
 use Rattle.ledger.specs.Theorems.{PanelShowsHistory, PanelNeverFalls}
+use Rattle.protocol.specs.Repeats.{FoundIsFirstEqual, SecondValueTellsRepeat, RepeatChangesNothing, ProposalsNeverRepeat}
+use Rattle.protocol.specs.Repeats.{CommitsNeverRepeat}
 use Rattle.netting.specs.Theorems.{NettingChangesNothing, RefusedNettingIsZero, NettingLowestWins, NettingPastCountsUnread}
 use Rattle.netting.specs.Theorems.{BalancesAddUp, BalancesBounded, LongerCountsMore, EquallyLongIsOne, ChainLengthIsHeight}
 use Rattle.netting.specs.Theorems.{CountsMatchHistory, LongerNetsMore, NettingMatchesHistory, DecidedCanBeNetted}
@@ -40,10 +40,6 @@ pub record Claims : Type 0 where
   pub openingTestsFaultsFirst : OpeningTestsFaultsFirst
   -- a number is at most 9, a value at most 1,000,000
   pub valuesFit : ValuesFit
-  -- a certificate is found where an equal one is issued, under the first such number, and nowhere else
-  pub foundIsFirstEqual : FoundIsFirstEqual
-  -- the second value of an issuing call is 1 exactly if the count of certificates stays, and then the log is as it was
-  pub secondValueTellsRepeat : SecondValueTellsRepeat
   -- the cases that document 01 marks P, and some more
   pub casesHold : CasesHold
   -- while no f is in use, a readable line that is no opening gives 1
@@ -73,12 +69,6 @@ pub record Claims : Type 0 where
   pub wordsMatchHistory : WordsMatchHistory
   -- certificates and blocks are only ever appended
   pub onlyAppended : OnlyAppended
-  -- a call that finds its certificate changes no word
-  pub repeatChangesNothing : RepeatChangesNothing
-  -- a Prepare never finds its certificate
-  pub proposalsNeverRepeat : ProposalsNeverRepeat
-  -- nor does a Store
-  pub commitsNeverRepeat : CommitsNeverRepeat
   -- what a panel reads is the history's panel
   pub panelShowsHistory : PanelShowsHistory
   -- what a panel reads never falls
@@ -93,6 +83,17 @@ pub record Claims : Type 0 where
   pub workedScriptTells : WorkedScriptTells
   -- the premise of ProgramAgrees holds of it
   pub workedScriptOpens : WorkedScriptOpens
+  -- ---- Repeats (document 02, #102).
+  -- a certificate is found where an equal one is issued, under the first such number, and nowhere else
+  pub foundIsFirstEqual : FoundIsFirstEqual
+  -- the second value of an issuing call is 1 exactly if the count of certificates stays, and then the log is as it was
+  pub secondValueTellsRepeat : SecondValueTellsRepeat
+  -- after an opening, a call that finds its certificate changes no word
+  pub repeatChangesNothing : RepeatChangesNothing
+  -- no Prepare finds its certificate
+  pub proposalsNeverRepeat : ProposalsNeverRepeat
+  -- nor does a Store
+  pub commitsNeverRepeat : CommitsNeverRepeat
   -- ---- Netting (document 02, #101).
   -- a netting changes no word
   pub nettingChangesNothing : NettingChangesNothing

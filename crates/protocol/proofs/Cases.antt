@@ -2,7 +2,7 @@
 use Prim.Native.Nat.{ℕ}
 use mathlib.Core.Path.{_≡_, refl}
 use mathlib.Core.Bool.{Bool, true, false, _&&_}
-use mathlib.Core.List.{List, [], _∷_, map}
+use mathlib.Core.List.{List, [], _∷_}
 use lib.Dec.{eqb}
 use Rattle.protocol.specs.declared.Answer.{Answer}
 use Rattle.protocol.specs.Memory.{update, appendCertificate, appendBlock}
@@ -16,12 +16,13 @@ use Rattle.protocol.specs.Outcome.{firstRefusal, answered, follow}
 use Rattle.protocol.specs.Calls.{issuing, freshReplicas, opening, block, prepare, store, view, accumulate, decide, reboot}
 use Rattle.protocol.specs.Calls.{reserve, request, reply, recover}
 use Rattle.protocol.specs.Runs.{ruleOf, step, run, answers}
-use Rattle.protocol.specs.Cases.{Case, cases, CasesHold, workedScript, recoveryAfterIt, repliesOfAnEarlierBoot, noFaults}
+use Rattle.protocol.specs.Rows.{Case}
+use Rattle.protocol.specs.RepeatCases.{repeatCases, viewsRepeated, accsAndBlocksRepeated, requestsAndRepliesRepeated, nothingStored}
+use Rattle.protocol.specs.RepeatCases.{proposalRepeated, proposalOnCommitsRepeated, commitRepeated, foundInAFullLogRaises}
+use Rattle.protocol.specs.RepeatCases.{foundReplyRaises, equalInAllWords}
+use Rattle.protocol.specs.Cases.{cases, CasesHold, workedScript, recoveryAfterIt, repliesOfAnEarlierBoot, noFaults}
 use Rattle.protocol.specs.Cases.{faultsAboveTheMost, faultsBeforeLengths, oneFault, thirtyFaults, freshView63, freshView64}
-use Rattle.protocol.specs.Cases.{oneCommitTwice, commitsJustify, blockZeroProposed, secondProposalInAView, fullLog}
-use Rattle.protocol.specs.Cases.{viewsRepeated, accsAndBlocksRepeated, requestsAndRepliesRepeated, nothingStored}
-use Rattle.protocol.specs.Cases.{proposalRepeated, proposalOnCommitsRepeated, commitRepeated, foundInAFullLogRaises}
-use Rattle.protocol.specs.Cases.{foundReplyRaises, equalInAllWords, counterEnds}
+use Rattle.protocol.specs.Cases.{oneCommitTwice, commitsJustify, blockZeroProposed, secondProposalInAView, fullLog, counterEnds}
 use Rattle.protocol.proofs.Booleans.{tests, and-true}
 
 isAnswer : Answer → Answer → Bool
@@ -127,6 +128,10 @@ full-log : holds fullLog ≡ true
 unfolding holds fullLog
 full-log = refl
 
+counter-ends : holds counterEnds ≡ true
+unfolding holds counterEnds
+counter-ends = refl
+
 views-repeated : holds viewsRepeated ≡ true
 unfolding holds viewsRepeated
 views-repeated = refl
@@ -167,12 +172,8 @@ equal-in-all-words : holds equalInAllWords ≡ true
 unfolding holds equalInAllWords
 equal-in-all-words = refl
 
-counter-ends : holds counterEnds ≡ true
-unfolding holds counterEnds
-counter-ends = refl
-
 pub cases-hold : CasesHold
-unfolding CasesHold cases
+unfolding CasesHold cases repeatCases
 cases-hold =
     rw (
       row workedScript worked-script,
@@ -190,6 +191,7 @@ cases-hold =
       row blockZeroProposed block-zero-proposed,
       row secondProposalInAView second-proposal-in-a-view,
       row fullLog full-log,
+      row counterEnds counter-ends,
       row viewsRepeated views-repeated,
       row accsAndBlocksRepeated accs-and-blocks-repeated,
       row requestsAndRepliesRepeated requests-and-replies-repeated,
@@ -200,5 +202,4 @@ cases-hold =
       row foundInAFullLogRaises found-in-a-full-log-raises,
       row foundReplyRaises found-reply-raises,
       row equalInAllWords equal-in-all-words,
-      row counterEnds counter-ends,
     ) refl

@@ -15,5 +15,7 @@ pub mod History
 pub mod Theorems
 pub mod Agreement
 pub mod Repeats
+pub mod Rows
+pub mod RepeatCases
 pub mod Cases
 pub mod Movements

@@ -1,0 +1,168 @@
+-- Rows of the table of cases on certificates issued again. Document 02, #102: "1 for a certificate found, 0 for one added."
+use Prim.Native.Nat.{ℕ}
+use mathlib.Core.List.{List, [], _∷_, _++_}
+use lib.ListN.{set}
+use Rattle.protocol.specs.declared.Call.the-variants.{Open, Block, Prepare, Store, View, Accumulate, Reboot, Request, Reply}
+use Rattle.protocol.specs.declared.Call.the-variants.{Recover}
+use Rattle.protocol.specs.declared.Justification.the-variants.{Acc, Commits}
+use Rattle.protocol.specs.Memory.{certificateCountAt, minViewAt, flagAt, storedViewAt, storedBlockAt, lowered, _becomes_, update}
+use Rattle.protocol.specs.Outcome.{wrongView}
+use Rattle.protocol.specs.Runs.{run}
+use Rattle.protocol.specs.Rows.{Case, zeros, plain, _on_, accepted, refused, script, from, opened, accumulated}
+
+-- A View made again is found, whatever came between; one of another view or replica is added.
+unfoldable pub viewsRepeated : Case
+viewsRepeated =
+    record {
+      start = opened;
+      calls =
+          plain (View 0 1)
+          ∷ plain (View 1 2)
+          ∷ plain (View 2 1)
+          ∷ plain (View 0 1)
+          ∷ plain (View 2 1)
+          ∷ plain (View 0 2)
+          ∷ [];
+      expected = accepted 0 0 ∷ accepted 1 0 ∷ accepted 2 0 ∷ accepted 0 1 ∷ accepted 2 1 ∷ accepted 3 0 ∷ [];
+    }
+
+-- An Accumulate made again is found, also from its list in another order; another replica's is added. A Block made again is another block:
+-- it issues no certificate, and its second value stays 0.
+unfoldable pub accsAndBlocksRepeated : Case
+accsAndBlocksRepeated =
+    record {
+      start = accumulated;
+      calls =
+          Accumulate 1 on (0 ∷ 1 ∷ [])
+          ∷ Accumulate 1 on (1 ∷ 0 ∷ [])
+          ∷ Accumulate 0 on (0 ∷ 1 ∷ [])
+          ∷ plain (Block 0)
+          ∷ [];
+      expected = accepted 2 1 ∷ accepted 2 1 ∷ accepted 3 0 ∷ accepted 2 0 ∷ [];
+    }
+
+-- A Request and a Reply made again are found. So is the ACC from before the cut; the Request of the next boot is added.
+unfoldable pub requestsAndRepliesRepeated : Case
+requestsAndRepliesRepeated =
+    record {
+      start = from script;
+      calls =
+          plain (Request 1)
+          ∷ plain (Request 1)
+          ∷ plain (Reply 0 6)
+          ∷ plain (Reply 0 6)
+          ∷ plain (Reply 2 6)
+          ∷ Recover 1 on (7 ∷ 8 ∷ [])
+          ∷ Accumulate 1 on (0 ∷ 1 ∷ [])
+          ∷ plain (Reboot 1)
+          ∷ plain (Request 1)
+          ∷ [];
+      expected =
+          accepted 6 0
+          ∷ accepted 6 1
+          ∷ accepted 7 0
+          ∷ accepted 7 1
+          ∷ accepted 8 0
+          ∷ accepted 64 1
+          ∷ accepted 2 1
+          ∷ accepted 2 128
+          ∷ accepted 9 0
+          ∷ [];
+    }
+
+-- The second value of a Recover is no such number: with nothing stored it is 0.
+unfoldable pub nothingStored : Case
+nothingStored =
+    record {
+      start = opened;
+      calls = plain (Reboot 0) ∷ plain (Request 0) ∷ plain (Reply 1 0) ∷ plain (Reply 2 0) ∷ Recover 0 on (1 ∷ 2 ∷ []) ∷ [];
+      expected = accepted 1 64 ∷ accepted 0 0 ∷ accepted 1 0 ∷ accepted 2 0 ∷ accepted 64 0 ∷ [];
+    }
+
+-- A Prepare or a Store made again is refused, and no list of calls leads to one that finds its certificate (`ProposalsNeverRepeat`,
+-- `CommitsNeverRepeat` in Repeats.antt). So the flag is lowered by hand, and the lowest and the stored view are set back. What is found
+-- changes the replica's words as on a first issue: the next one is refused again.
+unfoldable pub proposalRepeated : Case
+proposalRepeated =
+    record {
+      start = update (run accumulated (plain (Prepare 1 1 (Acc 2)) ∷ [])) 1 (flagAt becomes lowered ∷ []);
+      calls = plain (Prepare 1 1 (Acc 2)) ∷ plain (Prepare 1 1 (Acc 2)) ∷ [];
+      expected = accepted 3 1 ∷ refused wrongView ∷ [];
+    }
+
+unfoldable pub proposalOnCommitsRepeated : Case
+proposalOnCommitsRepeated =
+    let again = Prepare 2 2 (Commits 1 1) on (4 ∷ 5 ∷ []) in
+    record {
+      start = update (run (from script) (plain (Block 1) ∷ again ∷ [])) 2 (flagAt becomes lowered ∷ []);
+      calls = again ∷ again ∷ [];
+      expected = accepted 6 1 ∷ refused wrongView ∷ [];
+    }
+
+unfoldable pub commitRepeated : Case
+commitRepeated =
+    record {
+      start =
+          update (run accumulated (plain (Prepare 1 1 (Acc 2)) ∷ plain (Store 0 3) ∷ [])) 0
+          (storedViewAt becomes 0 ∷ minViewAt becomes 1 ∷ []);
+      calls = plain (Store 0 3) ∷ plain (Store 0 3) ∷ [];
+      expected = accepted 4 1 ∷ refused wrongView ∷ [];
+    }
+
+-- So do a View, in a full log too, and a Reply whose replica's lowest view is set back by hand.
+unfoldable pub foundInAFullLogRaises : Case
+foundInAFullLogRaises =
+    record {
+      start = update (run (zeros 1 1 1) (plain (Open 1) ∷ plain (View 2 5) ∷ [])) 2 (minViewAt becomes 1 ∷ []);
+      calls = plain (View 2 5) ∷ plain (View 2 4) ∷ [];
+      expected = accepted 0 1 ∷ refused wrongView ∷ [];
+    }
+
+unfoldable pub foundReplyRaises : Case
+foundReplyRaises =
+    record {
+      start = update (run (from script) (plain (Request 1) ∷ plain (Reply 0 6) ∷ [])) 0 (minViewAt becomes 2 ∷ []);
+      calls = plain (Reply 0 6) ∷ plain (View 0 2) ∷ [];
+      expected = accepted 7 1 ∷ refused wrongView ∷ [];
+    }
+
+-- "equal in all seven words": each of the first seven differs in one word from what replica 0 issues, the next two are equal, and the tenth,
+-- past the count, is just that.
+abbrev nearlyEqual : List ℕ
+nearlyEqual =
+    (2 ∷ 0 ∷ 5 ∷ 1 ∷ 3 ∷ 0 ∷ 0 ∷ [])
+    ++ (3 ∷ 1 ∷ 5 ∷ 1 ∷ 3 ∷ 0 ∷ 0 ∷ [])
+    ++ (3 ∷ 0 ∷ 6 ∷ 1 ∷ 3 ∷ 0 ∷ 0 ∷ [])
+    ++ (3 ∷ 0 ∷ 5 ∷ 0 ∷ 3 ∷ 0 ∷ 0 ∷ [])
+    ++ (3 ∷ 0 ∷ 5 ∷ 1 ∷ 2 ∷ 0 ∷ 0 ∷ [])
+    ++ (3 ∷ 0 ∷ 5 ∷ 1 ∷ 3 ∷ 1 ∷ 0 ∷ [])
+    ++ (3 ∷ 0 ∷ 5 ∷ 1 ∷ 3 ∷ 0 ∷ 1 ∷ [])
+    ++ (3 ∷ 2 ∷ 5 ∷ 0 ∷ 0 ∷ 0 ∷ 0 ∷ [])
+    ++ (3 ∷ 2 ∷ 5 ∷ 0 ∷ 0 ∷ 0 ∷ 0 ∷ [])
+    ++ (3 ∷ 0 ∷ 5 ∷ 1 ∷ 3 ∷ 0 ∷ 0 ∷ [])
+
+-- The first of two equal ones is found; where only one word differs the certificate is added.
+unfoldable pub equalInAllWords : Case
+equalInAllWords =
+    let stored =
+    update (run (zeros 1 10 2) (plain (Open 1) ∷ plain (Block 0) ∷ [])) 0
+    (minViewAt becomes 5 ∷ storedViewAt becomes 3 ∷ storedBlockAt becomes 1 ∷ []) in
+    record {
+      start = record { table = set (stored .table) certificateCountAt 9; log = nearlyEqual; blocks = stored .blocks };
+      calls = plain (View 2 5) ∷ plain (View 0 5) ∷ plain (View 0 5) ∷ [];
+      expected = accepted 7 1 ∷ accepted 9 0 ∷ accepted 9 1 ∷ [];
+    }
+
+unfoldable pub repeatCases : List Case
+repeatCases =
+    viewsRepeated
+    ∷ accsAndBlocksRepeated
+    ∷ requestsAndRepliesRepeated
+    ∷ nothingStored
+    ∷ proposalRepeated
+    ∷ proposalOnCommitsRepeated
+    ∷ commitRepeated
+    ∷ foundInAFullLogRaises
+    ∷ foundReplyRaises
+    ∷ equalInAllWords
+    ∷ []

@@ -1,0 +1,83 @@
+-- What a row of the table of cases is, and what rows start from: memories, calls, and the worked script.
+use Prim.Native.Nat.{ℕ}
+use mathlib.Core.List.{List, [], _∷_}
+use lib.ListN.{replicate}
+use Rattle.protocol.specs.declared.Answer.{Answer}
+use Rattle.protocol.specs.declared.Call.{Call}
+use Rattle.protocol.specs.declared.Call.the-variants.{Open, Block, Prepare, Store, View, Accumulate, Decide, Reboot}
+use Rattle.protocol.specs.declared.Justification.the-variants.{Acc}
+use Rattle.protocol.specs.Memory.{Memory, tableLength, certificateAt, blockAt}
+use Rattle.protocol.specs.Outcome.{wrongStatus}
+use Rattle.protocol.specs.Runs.{Invocation, run}
+
+-- A start, calls, and the answers expected of them.
+pub record Case : Type 0 where
+  pub start : Memory
+  pub calls : List Invocation
+  pub expected : List Answer
+
+-- Zeros, with a table for f and so many slots for certificates and for blocks.
+abbrev pub zeros : ℕ → ℕ → ℕ → Memory
+zeros f certificates blocks =
+    record { table = replicate (tableLength f) 0; log = replicate (certificateAt certificates) 0; blocks = replicate (blockAt blocks) 0 }
+
+-- The slots of the script program.
+abbrev pub blank : ℕ → Memory
+blank f = zeros f 2048 1024
+
+-- A call without a list, and one with a list beside it.
+abbrev pub plain : Call → Invocation
+plain call = record { call = call; list = [] }
+
+abbrev pub _on_ : Call → List ℕ → Invocation
+call on list = record { call = call; list = list }
+
+infix 68 _on_
+abbrev pub accepted : ℕ → ℕ → Answer
+accepted first second = record { number = 0; first = first; second = second }
+
+abbrev pub refused : ℕ → Answer
+refused number = record { number = number; first = 0; second = 0 }
+
+-- "Input fields: `0 1 0`, `5 0 1`, `5 1 1`, `6 1 0 0 1`, `1 0 0`, `2 1 1 2`, `4 0 3`, `8 1 0`, `4 1 3`, `4 2 3`, `7 0 0 4 5`."
+abbrev pub script : List Invocation
+script =
+    plain (Open 1)
+    ∷ plain (View 0 1)
+    ∷ plain (View 1 1)
+    ∷ Accumulate 1 on (0 ∷ 1 ∷ [])
+    ∷ plain (Block 0)
+    ∷ plain (Prepare 1 1 (Acc 2))
+    ∷ plain (Store 0 3)
+    ∷ plain (Reboot 1)
+    ∷ plain (Store 1 3)
+    ∷ plain (Store 2 3)
+    ∷ Decide 0 on (4 ∷ 5 ∷ [])
+    ∷ []
+
+abbrev pub scriptAnswers : List Answer
+scriptAnswers =
+    accepted 3 0
+    ∷ accepted 0 0
+    ∷ accepted 1 0
+    ∷ accepted 2 0
+    ∷ accepted 1 0
+    ∷ accepted 3 0
+    ∷ accepted 4 0
+    ∷ accepted 1 64
+    ∷ refused wrongStatus
+    ∷ accepted 5 0
+    ∷ accepted 1 1
+    ∷ []
+
+-- The memory that a list of calls leaves, from zeros.
+abbrev pub from : List Invocation → Memory
+from calls = run (blank 1) calls
+
+abbrev pub opened : Memory
+opened = from (plain (Open 1) ∷ [])
+
+-- f = 1, with an ACC of view 1 on block 0, number 2, and a block 1 on block 0
+abbrev pub accumulated : Memory
+accumulated =
+    from (plain (Open 1) ∷ plain (View 0 1) ∷ plain (View 1 1) ∷ Accumulate 1 on (0 ∷ 1 ∷ []) ∷ plain (Block 0) ∷ [])

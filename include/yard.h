@@ -44,10 +44,10 @@ uint32_t yard_write_number(uint32_t number, uint8_t *bytes, size_t length);
  *
  * Both values are always written, as 0 and 0 where the call is refused. A call that issues a certificate (codes 2 to 6, 10 and 11) gives
  * its number, and YARD_ADDED; or YARD_FOUND where one of the same words was issued before: then the number is that one's, and the log stays
- * as it was. So where the answer to a view, an accumulate, a request or a reply got lost, the call may be made again. A prepare and a store
- * that were accepted give 7 when made again; their certificates stand in the log. The other calls give: open the number of replicas and 0,
- * block its number and 0 (a new block each time), decide the block and its view, reboot the boot and the lowest view, reserve the limit
- * and 0, recover the lowest view and the view in which the block that it brought back was stored. */
+ * as it was. So a view, an accumulate, a request or a reply whose answer got lost may be made again at once: it gives the same number and
+ * YARD_FOUND, and changes no word. A prepare or a store that was accepted gives 7 when made again; its certificate stands in the log. The
+ * other calls give: open the number of replicas and 0, block its number and 0 (a new block each time), decide the block and its view,
+ * reboot the boot and the lowest view, reserve the limit and 0, recover the lowest view and the view of the block that it brought back. */
 uint32_t yard_call(uint32_t code, uint32_t replica, uint32_t number, const uint32_t *list, size_t list_length, uint32_t *table,
                    size_t table_length, uint32_t *log, size_t log_length, uint32_t *blocks, size_t blocks_length, uint32_t *first,
                    uint32_t *second);

@@ -15,6 +15,7 @@ use Rattle.protocol.proofs.Agreement.{agreement, words-match-history, only-appe
 use Rattle.ledger.proofs.Theorems.{panel-shows-history, panel-never-falls}
 use Rattle.protocol.proofs.Repeats.{found-is-first-equal, second-value-tells-repeat, repeat-changes-nothing, proposals-never-repeat}
 use Rattle.protocol.proofs.Repeats.{commits-never-repeat}
+use Rattle.protocol.proofs.MadeAgain.{repeat-at-once}
 use Rattle.netting.proofs.Theorems.{netting-changes-nothing, refused-netting-is-zero, netting-lowest-wins, netting-past-counts-unread}
 use Rattle.netting.proofs.Theorems.{balances-add-up, balances-bounded, longer-counts-more, equally-long-is-one, chain-length-is-height}
 use Rattle.netting.proofs.Theorems.{counts-match-history, longer-nets-more, netting-matches-history, decided-can-be-netted}
@@ -57,6 +58,7 @@ proved =
       workedScriptOpens = worked-script-opens;
       foundIsFirstEqual = found-is-first-equal;
       secondValueTellsRepeat = second-value-tells-repeat;
+      repeatAtOnce = repeat-at-once;
       repeatChangesNothing = repeat-changes-nothing;
       proposalsNeverRepeat = proposals-never-repeat;
       commitsNeverRepeat = commits-never-repeat;

@@ -10,8 +10,8 @@ use Rattle.stream.specs.Cases.{WorkedScript, WorkedScriptTells, WorkedScriptOpe
 use Rattle.field.specs.Theorems.{CountIsLeast, WrittenReadsBack, ReadWritesBack, ReadIsBounded}
 use Rattle.protocol.specs.Agreement.{Agreement, WordsMatchHistory, OnlyAppended, WouldAgree}
 use Rattle.ledger.specs.Theorems.{PanelShowsHistory, PanelNeverFalls}
-use Rattle.protocol.specs.Repeats.{FoundIsFirstEqual, SecondValueTellsRepeat, RepeatChangesNothing, ProposalsNeverRepeat}
-use Rattle.protocol.specs.Repeats.{CommitsNeverRepeat}
+use Rattle.protocol.specs.Repeats.{FoundIsFirstEqual, SecondValueTellsRepeat, RepeatAtOnce, RepeatChangesNothing}
+use Rattle.protocol.specs.Repeats.{ProposalsNeverRepeat, CommitsNeverRepeat}
 use Rattle.netting.specs.Theorems.{NettingChangesNothing, RefusedNettingIsZero, NettingLowestWins, NettingPastCountsUnread}
 use Rattle.netting.specs.Theorems.{BalancesAddUp, BalancesBounded, LongerCountsMore, EquallyLongIsOne, ChainLengthIsHeight}
 use Rattle.netting.specs.Theorems.{CountsMatchHistory, LongerNetsMore, NettingMatchesHistory, DecidedCanBeNetted}
@@ -88,6 +88,8 @@ pub record Claims : Type 0 where
   pub foundIsFirstEqual : FoundIsFirstEqual
   -- the second value of an issuing call is 1 exactly if the count of certificates stays, and then the log is as it was
   pub secondValueTellsRepeat : SecondValueTellsRepeat
+  -- made again at once, a View, Accumulate, Request or Reply finds its certificate, and a Prepare or Store is refused
+  pub repeatAtOnce : RepeatAtOnce
   -- after an opening, a call that finds its certificate changes no word
   pub repeatChangesNothing : RepeatChangesNothing
   -- no Prepare finds its certificate

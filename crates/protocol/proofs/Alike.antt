@@ -2,7 +2,7 @@
 use Prim.Native.Nat.{ℕ, zero, suc, _+_, _<_}
 use mathlib.Core.Path.{_≡_, refl, sym, ap, _∙_}
 use mathlib.Core.Bool.{Bool, true, false, cond}
-use mathlib.Core.List.{List, [], _∷_}
+use mathlib.Core.List.{List}
 use native.Mathlib.Omega.{arith}
 use lib.ListN.{length, getD, length-set}
 use lib.Seq.{length-sets}
@@ -12,15 +12,16 @@ use Rattle.protocol.specs.Memory.{blockCount, rowAt, certificateWords, c
 use Rattle.protocol.specs.Memory.{assign, update, appendCertificate, appendBlock}
 use Rattle.protocol.specs.Form.{countsFit, blockFormed, certificateFormed, wellFormed}
 use Rattle.protocol.specs.Certificates.{firstBelow, hasWords, numberFor, isFiled, canFile, file}
-use Rattle.protocol.specs.Quorum.{every, isIssued, allIssued, certificatesOf}
+use Rattle.protocol.specs.Quorum.{isIssued, allIssued, certificatesOf}
 use Rattle.protocol.specs.FirstNeeds.{isBlock}
 use Rattle.protocol.specs.Theorems.{SameLengths, Alike}
-use Rattle.protocol.proofs.Booleans.{tests, by-test, and-true, same-below}
+use Rattle.protocol.proofs.Booleans.{tests, by-test, same-below}
 use Rattle.protocol.proofs.Words.{withinRow, set-alike, sets-alike}
 use Rattle.protocol.proofs.Changes.{certificate-same, update-header, append-table, append-count, block-table}
 use Rattle.protocol.proofs.Changes.{block-count}
 use Rattle.protocol.proofs.Formed.{Formed, sizes}
 use Rattle.protocol.proofs.Keeps.{lengths-same}
+use Rattle.protocol.proofs.Lists.{same-named}
 
 -- A memory with the same table and another log and other blocks.
 abbrev pub twin : Memory → List ℕ → List ℕ → Memory
@@ -43,12 +44,10 @@ module _ (m : Memory) (l b : List ℕ) (a : Alike m (twin m l b)) where
   parent-same x h = a .blocks (blockAt x) (omega tests)
 
   pub named-same : (list : List ℕ) → allIssued m list ≡ true → certificatesOf m list ≡ certificatesOf (twin m l b) list
-  unfolding every
-  named-same [] e = refl
-  named-same (x ∷ xs) e =
-      let both = and-true (isIssued m x) (allIssued m xs) e in
-      let here = certificate-same m (twin m l b) x (λ k j. word-same x k (omega tests) (omega tests)) in
-      λ d. here d ∷ named-same xs (both .1) d
+  named-same list e =
+      sym
+      (same-named m (twin m l b) (omega arith)
+      (λ x h. certificate-same (twin m l b) m x (λ k j. sym (word-same x k (omega tests) (omega tests)))) list e)
 
   pub form-same : wellFormed m ≡ wellFormed (twin m l b)
   unfolding wellFormed countsFit

@@ -59,6 +59,10 @@ module _ (m : Memory) (ws : List ℕ) where
   unfolding numberFor
   number-below = first-below (certificateCount m) (hasWords m ws)
 
+  pub is-filed : numberFor m ws < certificateCount m → isFiled m ws ≡ true
+  unfolding isFiled
+  is-filed l = omega tests
+
   pub filed-below : isFiled m ws ≡ true → numberFor m ws < certificateCount m
   unfolding isFiled
   filed-below e = omega tests

@@ -28,4 +28,5 @@ pub mod SafeEnds
 pub mod Reached
 pub mod Agreement
 pub mod Repeats
+pub mod MadeAgain
 pub mod Cases

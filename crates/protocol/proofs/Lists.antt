@@ -1,7 +1,7 @@
--- Lists of certificates: what holds of every issued certificate holds of each one that an issued list names, of its first and of its
--- greatest.
-use Prim.Native.Nat.{ℕ, zero, suc, _<_}
-use mathlib.Core.Path.{_≡_}
+-- Lists of certificates: an issued list names the same ones while these stand; and what holds of every issued certificate holds of each one
+-- that an issued list names, of its first and of its greatest.
+use Prim.Native.Nat.{ℕ, zero, suc, _≤_, _<_}
+use mathlib.Core.Path.{_≡_, refl}
 use mathlib.Core.Bool.{Bool, true}
 use mathlib.Core.List.{List, [], _∷_}
 use native.Mathlib.Omega.{arith}
@@ -18,6 +18,24 @@ unfolding every
 every-at test [] d e i h = absurd (omega arith)
 every-at test (x ∷ xs) d e zero h = and-true (test x) (every test xs) e .0
 every-at test (x ∷ xs) d e (suc i) h = every-at test xs d (and-true (test x) (every test xs) e .1) i (omega arith)
+
+-- Where issued certificates stand as they are, an issued list names the same ones.
+module _ (m m′ : Memory) (grows : certificateCount m ≤ certificateCount m′)
+    (same : (c : ℕ) → c < certificateCount m → certificate m′ c ≡ certificate m c) where
+  pub still-issued : (list : List ℕ) → allIssued m list ≡ true → allIssued m′ list ≡ true
+  unfolding every
+  still-issued [] e = refl
+  still-issued (x ∷ xs) e =
+      let both = and-true (isIssued m x) (allIssued m xs) e in
+      let here : isIssued m′ x ≡ true = omega tests in
+      rw (here, still-issued xs (both .1)) refl
+
+  pub same-named : (list : List ℕ) → allIssued m list ≡ true → certificatesOf m′ list ≡ certificatesOf m list
+  unfolding every
+  same-named [] e = refl
+  same-named (x ∷ xs) e =
+      let both = and-true (isIssued m x) (allIssued m xs) e in
+      λ d. same x (omega tests) d ∷ same-named xs (both .1) d
 
 abbrev pub All : (Certificate → Type 0) → List Certificate → Type 0
 All P [] = Unit {0}

@@ -32,6 +32,15 @@ all-needs [] p e = tt
 all-needs ((true else n) ∷ rest) p e = (refl, all-needs rest (and-true (leb 1 n) (positive rest) p .1) e)
 all-needs ((false else n) ∷ rest) p e = let h = and-true (leb 1 n) (positive rest) p in absurd (omega tests)
 
+pub none-refuses : (ns : List Need) → Holds ns → firstRefusal ns ≡ 0
+unfolding firstRefusal
+none-refuses [] h = refl
+none-refuses ((t else n) ∷ rest) h = rw (h .0) (none-refuses rest (h .1))
+
+pub hold-both : (ns ms : List Need) → Holds ns → Holds ms → Holds (ns ++ ms)
+hold-both [] ms h g = g
+hold-both ((t else n) ∷ ns) ms h g = (h .0, hold-both ns ms (h .1) g)
+
 pub holds-both : (ns ms : List Need) → Holds (ns ++ ms) → Holds ns × Holds ms
 holds-both [] ms h = (tt, h)
 holds-both ((t else n) ∷ ns) ms h = let both = holds-both ns ms (h .1) in ((h .0, both .0), both .1)

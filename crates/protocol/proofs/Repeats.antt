@@ -1,7 +1,7 @@
 -- What specs/Repeats.antt states.
-use Prim.Native.Nat.{ℕ, _+_}
+use Prim.Native.Nat.{ℕ, _+_, _≤_}
 use mathlib.Core.Path.{_≡_, refl, sym, _∙_, subst}
-use mathlib.Core.Bool.{true, false, false≢true}
+use mathlib.Core.Bool.{true, false, cond, false≢true}
 use mathlib.Core.List.{List, [], _∷_}
 use native.Mathlib.Omega.{arith}
 use lib.Seq.{set-getD}
@@ -11,7 +11,7 @@ use Rattle.protocol.specs.declared.Call.the-variants.{Open, Block, Prepa
 use Rattle.protocol.specs.declared.Call.the-variants.{Reserve, Request, Reply, Recover}
 use Rattle.protocol.specs.declared.Justification.{Justification}
 use Rattle.protocol.specs.Memory.{Memory, Certificate, Assignment, _becomes_, certificateCountAt, certificateCount, rowAt}
-use Rattle.protocol.specs.Memory.{minViewAt, flagAt, replica, certificate, words, update, appendCertificate}
+use Rattle.protocol.specs.Memory.{minViewAt, flagAt, lowered, replica, certificate, words, update, appendCertificate}
 use Rattle.protocol.specs.Certificates.{numberFor, isFiled, file, found, appended, foundOrAppended}
 use Rattle.protocol.specs.Outcome.{Outcome, Need, Rule}
 use Rattle.protocol.specs.Calls.{issuing, isAhead, prepare, store, view, accumulate, request, reply}
@@ -42,11 +42,11 @@ found-is-first-equal m c =
 -- ---- a call that is accepted
 
 -- What a rule gives where nothing is refused.
-abbrev given : Rule → Outcome
+abbrev pub given : Rule → Outcome
 given rule = acceptance (rule .first) (rule .second) (rule .after)
 
 -- An accepted call gives what its rule gives, and its needs hold.
-accepted-gives : (P : Outcome → Type 0) (m : Memory) (call : Call) (list : List ℕ)
+pub accepted-gives : (P : Outcome → Type 0) (m : Memory) (call : Call) (list : List ℕ)
     → (Holds (ruleOf m call list .needs) → P (given (ruleOf m call list))) → Accepted (step m call list) → P (step m call list)
 unfolding step
 accepted-gives P m call list gives accepted =
@@ -76,7 +76,7 @@ by-issuing P prepares stores views accumulates requests replies = go
 -- ---- the second value
 
 module _ (m : Memory) (needs : List Need) (i : ℕ) (cs : List Assignment) (c : Certificate) where
-  issuing-tells : Formed m → withinRow cs ≡ true → TellsRepeat m (given (issuing m needs i cs c))
+  pub issuing-tells : Formed m → withinRow cs ≡ true → TellsRepeat m (given (issuing m needs i cs c))
   unfolding issuing update
   issuing-tells h within =
       let ws = words c in
@@ -144,10 +144,19 @@ module _ (m : Memory) (needs : List Need) (i : ℕ) (cs : List Assignment) (c : 
   issuing-appends =
       by-cond (λ (x : ℕ). (x ≡ found → ⊥) → x ≡ appended) (isFiled m (words c)) (λ e never. absurd (never refl)) (λ e never. refl)
 
--- A flag and a lowest view that are set to what they are.
-same-words : (m : Memory) (i : ℕ) → update m i (flagAt becomes replica m i .flag ∷ minViewAt becomes replica m i .minView ∷ []) ≡ m
+-- A View of the lowest view sets the flag and the lowest view to what they are.
+pub enters-again : (m : Memory) (i w : ℕ) → w ≡ replica m i .minView
+    → update m i (flagAt becomes cond (isAhead (replica m i) w) lowered (replica m i .flag) ∷ minViewAt becomes w ∷ []) ≡ m
 unfolding update
-same-words m i = rw (set-getD (m .table) (rowAt i + flagAt) 0, set-getD (m .table) (rowAt i + minViewAt) 0) refl
+enters-again m i w same =
+    let stays : isAhead (replica m i) w ≡ false = omega tests in
+    rw (stays, same) (rw (set-getD (m .table) (rowAt i + flagAt) 0, set-getD (m .table) (rowAt i + minViewAt) 0) refl)
+
+-- A Reply to a view that is not above the lowest view sets nothing.
+pub replies-again : (m : Memory) (i v : ℕ) → v ≤ replica m i .minView
+    → update m i (cond (ltb (replica m i .minView) v) (minViewAt becomes v ∷ flagAt becomes lowered ∷ []) []) ≡ m
+unfolding update
+replies-again m i v le = let stays : ltb (replica m i .minView) v ≡ false = omega tests in rw stays refl
 
 module _ (m : Memory) (safe : Safe m) where
   -- What the invariant says of the equal one it says of the certificate.
@@ -179,17 +188,13 @@ module _ (m : Memory) (safe : Safe m) where
       let h = issuing-needs m _ i _ _ hold .0 in
       let again = issuing-repeats m _ i _ _ told in
       let reached = known (again .equal) .0 .minView in
-      let same : w ≡ replica m i .minView = omega tests in
-      let stays : isAhead (replica m i) w ≡ false = omega tests in
-      again .after ∙ rw (stays, same) (same-words m i)
+      again .after ∙ enters-again m i w (omega tests)
 
   reply-repeats : (i number : ℕ) → reply m i number .second ≡ found → reply m i number .after ≡ m
-  unfolding reply update
+  unfolding reply
   reply-repeats i number told =
       let again = issuing-repeats m _ i _ _ told in
-      let reached = known (again .equal) .minView in
-      let stays : ltb (replica m i .minView) (certificate m number .view) ≡ false = omega tests in
-      again .after ∙ rw stays refl
+      again .after ∙ replies-again m i (certificate m number .view) (known (again .equal) .minView)
 
   changes-nothing : (list : List ℕ) (call : Call) → isIssuing call ≡ true → Holds (ruleOf m call list .needs)
       → ruleOf m call list .second ≡ found → ruleOf m call list .after ≡ m

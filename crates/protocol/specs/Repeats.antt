@@ -11,7 +11,7 @@ use Rattle.protocol.specs.declared.Call.the-variants.{Reserve, Request, 
 use Rattle.protocol.specs.declared.Justification.{Justification}
 use Rattle.protocol.specs.Memory.{Memory, Certificate, certificateCount, certificate, words}
 use Rattle.protocol.specs.Certificates.{numberFor, isFiled, found, appended}
-use Rattle.protocol.specs.Outcome.{Outcome}
+use Rattle.protocol.specs.Outcome.{Outcome, wrongView}
 use Rattle.protocol.specs.Runs.{Invocation, step}
 use Rattle.protocol.specs.Theorems.{Accepted}
 use Rattle.protocol.specs.Agreement.{Execution, endOf}
@@ -65,6 +65,34 @@ pub record TellsRepeat (m : Memory) (o : Outcome) : Type 0 where
 unfoldable pub SecondValueTellsRepeat : Type 0
 SecondValueTellsRepeat =
     (m : Memory) (call : Call) (list : List ℕ) → isIssuing call ≡ true → Accepted (step m call list) → TellsRepeat m (step m call list)
+
+-- ---- Made again at once, on any memory: a View, an Accumulate, a Request or a Reply that was accepted finds its certificate and leaves every
+-- word; a Prepare or a Store that was accepted is refused, by its flag or its lowest view.
+
+-- Accepted again, with the same number, found, and no word changed.
+pub record SameAgain (o again : Outcome) : Type 0 where
+  pub accepted : Accepted again
+  pub first : again .answer .first ≡ o .answer .first
+  pub second : again .answer .second ≡ found
+  pub memory : again .memory ≡ o .memory
+
+-- What a call gives where it was just made and accepted.
+abbrev pub FoundAgain : Memory → Call → List ℕ → Type 0
+FoundAgain m call list = Accepted (step m call list) → SameAgain (step m call list) (step (step m call list .memory) call list)
+
+abbrev pub RefusedAgain : Memory → Call → List ℕ → Type 0
+RefusedAgain m call list = Accepted (step m call list) → step (step m call list .memory) call list .answer .number ≡ wrongView
+
+pub record MadeAgain (m : Memory) (list : List ℕ) : Type 0 where
+  pub view : (i w : ℕ) → FoundAgain m (View i w) list
+  pub accumulate : (i : ℕ) → FoundAgain m (Accumulate i) list
+  pub request : (i : ℕ) → FoundAgain m (Request i) list
+  pub reply : (i number : ℕ) → FoundAgain m (Reply i number) list
+  pub prepare : (i b : ℕ) (justification : Justification) → RefusedAgain m (Prepare i b justification) list
+  pub store : (i number : ℕ) → RefusedAgain m (Store i number) list
+
+unfoldable pub RepeatAtOnce : Type 0
+RepeatAtOnce = (m : Memory) (list : List ℕ) → MadeAgain m list
 
 -- ---- After an opening, a call that finds its certificate changes no word at all: when the certificate was issued the replica's words were
 -- set, and they have not gone back since. So a host may ask again where an answer was lost.

@@ -1,5 +1,7 @@
-//! Document 02, #102, on generated scripts: what an issuing call tells is what the issued count and the log show.
+//! Document 02, #102, on generated scripts: what an issuing call tells is what the issued count and the log show, and
+//! a call that is made again at once finds its certificate or is refused.
 
+use judge::call::{Outcome, PREPARE_ACC, PREPARE_COMMITS, STORE};
 use judge::certificate::{ADDED, FOUND};
 use judge::driver::{Driver, Line};
 use judge::generate::boundary::{full_log, many_boots};
@@ -8,7 +10,21 @@ use judge::generate::scripts::hostile;
 use judge::memory::{header, CERTIFICATE_WORDS};
 use judge::mistake::Correct;
 use judge::random::Random;
+use judge::refusal::{ACCEPTED, WRONG_VIEW};
 use judge::script::{BLOCK_SLOTS, CERTIFICATE_SLOTS};
+
+/// Makes an accepted issuing call once more: no word changes. A proposal or a commit is refused by its flag or its
+/// lowest view; any other certificate is found under the number that it just got.
+fn make_again(driver: &mut Driver<Correct>, line: &Line, number: u32) {
+    let (table, log) = (driver.table.clone(), driver.log.clone());
+    let again = driver.call(line.code, line.replica, line.number, &line.list);
+    let expected = match line.code {
+        PREPARE_ACC | PREPARE_COMMITS | STORE => Outcome { answer: WRONG_VIEW, first: 0, second: 0 },
+        _ => Outcome { answer: ACCEPTED, first: number, second: FOUND },
+    };
+    assert_eq!(again, expected, "{line:?}");
+    assert!(driver.table == table && driver.log == log);
+}
 
 /// Makes the calls after the opening, one by one; how many found their certificate and how many added it.
 fn replay(lines: &[Line]) -> (u32, u32) {
@@ -31,6 +47,9 @@ fn replay(lines: &[Line]) -> (u32, u32) {
                 assert!(driver.issued() == issued && driver.log == log);
                 found += u32::from(filed.is_some());
             }
+        }
+        if outcome.filed(line.code).is_some() {
+            make_again(&mut driver, line, outcome.first);
         }
     }
     (found, added)

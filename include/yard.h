@@ -14,7 +14,8 @@
 #define YARD_TABLE_WORDS(f) (3 + 9 * (2 * (f) + 1))
 #define YARD_CERTIFICATE_WORDS 7
 
-/* The second value of a call that issues a certificate: it was added to the log, or an equal one was found there. */
+/* The second value of an accepted call that issues a certificate: it was added to the log, or an equal one was found there. Where a call is
+ * refused both values are 0, so look at the answer first. */
 #define YARD_ADDED 0
 #define YARD_FOUND 1
 
@@ -44,10 +45,14 @@ uint32_t yard_write_number(uint32_t number, uint8_t *bytes, size_t length);
  *
  * Both values are always written, as 0 and 0 where the call is refused. A call that issues a certificate (codes 2 to 6, 10 and 11) gives
  * its number, and YARD_ADDED; or YARD_FOUND where one of the same words was issued before: then the number is that one's, and the log stays
- * as it was. So a view, an accumulate, a request or a reply whose answer got lost may be made again at once: it gives the same number and
- * YARD_FOUND, and changes no word. A prepare or a store that was accepted gives 7 when made again; its certificate stands in the log. The
- * other calls give: open the number of replicas and 0, block its number and 0 (a new block each time), decide the block and its view,
- * reboot the boot and the lowest view, reserve the limit and 0, recover the lowest view and the view of the block that it brought back. */
+ * as it was. The other calls give: open the number of replicas and 0, block its number and 0, decide the block and its view, reboot the
+ * boot and the lowest view as they then are, reserve the limit and 0, recover the lowest view and the view in which the block that it
+ * brought back was stored, 0 if none.
+ *
+ * Where an answer got lost, and no other call was made since: a view, an accumulate, a request or a reply may be made again. If it was
+ * accepted, it gives the same number and YARD_FOUND, and changes no word; if it was refused, it is refused again. A prepare or a store that
+ * was accepted gives 7 when made again, and so may one that was refused: look for its certificate in the log, where it would be the last. A
+ * decide gives the same again, a recover 4. A block, a reboot and a reserve made again do their work once more. */
 uint32_t yard_call(uint32_t code, uint32_t replica, uint32_t number, const uint32_t *list, size_t list_length, uint32_t *table,
                    size_t table_length, uint32_t *log, size_t log_length, uint32_t *blocks, size_t blocks_length, uint32_t *first,
                    uint32_t *second);

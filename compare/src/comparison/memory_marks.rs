@@ -1,5 +1,5 @@
-//! What a call on a memory can show that the generators are meant to reach: certificates found and added as in no list
-//! of calls.
+//! What a call on a memory can show that the generators are meant to reach: certificates found and added, also as in no
+//! list of calls.
 
 use crate::call::*;
 use crate::certificate::{ADDED, FOUND};

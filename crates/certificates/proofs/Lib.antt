@@ -1,5 +1,5 @@
--- Laws of searching, comparing, placing and filing; where the log fits; and what a call that issues a certificate gives.
+-- Laws of searching, comparing and filing; and where the log fits.
 pub mod Search
 pub mod Equal
-pub mod Slots
+pub mod Filing
 pub mod Fits

@@ -86,15 +86,16 @@ pub record Claims : Type 0 where
   -- ---- Repeats (document 02, #102).
   -- a certificate is found where an equal one is issued, under the first such number, and nowhere else
   pub foundIsFirstEqual : FoundIsFirstEqual
-  -- the second value of an issuing call is 1 exactly if the count of certificates stays, and then the log is as it was
+  -- the second value of an accepted issuing call is 1 exactly if the count of certificates stays, and then the log is as it was
   pub secondValueTellsRepeat : SecondValueTellsRepeat
-  -- made again at once, a View, Accumulate, Request or Reply finds its certificate, and a Prepare or Store is refused
+  -- an accepted call made again at once: a View, Accumulate, Request or Reply finds its certificate and leaves every word, a Prepare or
+  -- Store is refused
   pub repeatAtOnce : RepeatAtOnce
   -- after an opening, a call that finds its certificate changes no word
   pub repeatChangesNothing : RepeatChangesNothing
-  -- no Prepare finds its certificate
+  -- after an opening, no Prepare finds its certificate
   pub proposalsNeverRepeat : ProposalsNeverRepeat
-  -- nor does a Store
+  -- nor does any Store
   pub commitsNeverRepeat : CommitsNeverRepeat
   -- ---- Netting (document 02, #101).
   -- a netting changes no word

@@ -134,7 +134,7 @@ pub const REPLY: u32 = 6;
 
 pub const LAST_KIND: u32 = REPLY;
 
-// Which it is of a certificate that is filed.
+// What filing tells of a certificate: the second value of the call that issues it.
 pub const FOUND: u32 = 1;
 
 pub const APPENDED: u32 = 0;

@@ -12,7 +12,7 @@ use Rattle.protocol.proofs.Needs.{refusal, acceptance}
 use Rattle.certificates.specs.declared.Filed.{Filed}
 use Rattle.certificates.specs.declared.Filed.the-variants.{At, Refused}
 use Rattle.certificates.specs.inner.Filing.{Result, filing, filingRefusal}
-use Rattle.certificates.proofs.Slots.{placed, not-placed}
+use Rattle.certificates.proofs.Filing.{placed, not-placed}
 
 module _ (m : Memory) (i : ℕ) (changes : List Assignment) (c : Certificate) where
   refused-no-room : canFile m (words c) ≡ false → follow m (issuing m [] i changes c) ≡ refusal noRoom m

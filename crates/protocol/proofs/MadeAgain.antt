@@ -23,7 +23,7 @@ use Rattle.protocol.specs.Runs.{ruleOf, step}
 use Rattle.protocol.specs.Theorems.{Accepted}
 use Rattle.protocol.specs.Repeats.{SameAgain, FoundAgain, RefusedAgain, RepeatAtOnce}
 use Rattle.protocol.proofs.Booleans.{tests, by-test, by-cond}
-use Rattle.protocol.proofs.Needs.{Holds, none-refuses, hold-both, refused-first, holds, fails, accepts, refuses}
+use Rattle.protocol.proofs.Needs.{Holds, none-refuses, joined-hold, refused-first, holds, fails, accepts, refuses}
 use Rattle.protocol.proofs.Words.{withinRow}
 use Rattle.protocol.proofs.Changes.{changed}
 use Rattle.protocol.proofs.Formed.{Formed, formed, form}
@@ -88,7 +88,7 @@ module _ (m : Memory) (ns : List Need) (i : ℕ) (cs : List Assignment) (c : Cer
       let filed : isFiled m′ (words c) ≡ true = is-filed m′ (words c) (subst (λ (n : ℕ). n < certificateCount m′) (sym number) stands) in
       rw same
       (record {
-        needs = hold-both ns′ _ hold′ (rw filed refl, tt);
+        needs = joined-hold ns′ _ hold′ (rw filed refl, tt);
         first = number;
         second = rw filed refl;
         after = rw filed stays;

@@ -37,9 +37,9 @@ unfolding firstRefusal
 none-refuses [] h = refl
 none-refuses ((t else n) ∷ rest) h = rw (h .0) (none-refuses rest (h .1))
 
-pub hold-both : (ns ms : List Need) → Holds ns → Holds ms → Holds (ns ++ ms)
-hold-both [] ms h g = g
-hold-both ((t else n) ∷ ns) ms h g = (h .0, hold-both ns ms (h .1) g)
+pub joined-hold : (ns ms : List Need) → Holds ns → Holds ms → Holds (ns ++ ms)
+joined-hold [] ms h g = g
+joined-hold ((t else n) ∷ ns) ms h g = (h .0, joined-hold ns ms (h .1) g)
 
 pub holds-both : (ns ms : List Need) → Holds (ns ++ ms) → Holds ns × Holds ms
 holds-both [] ms h = (tt, h)

@@ -1,4 +1,4 @@
--- The table of cases: those that document 01 marks P ("Edges"), some beside them, and those of certificates issued again.
+-- The table of cases: those that document 01 marks P ("Edges"), some beside them, and those of issuing calls made again.
 use mathlib.Core.List.{List, [], _∷_, map}
 use mathlib.Core.Path.{_≡_}
 use Rattle.protocol.specs.declared.Call.the-variants.{Open, Block, Prepare, Store, View, Decide, Reboot, Reserve, Request}

@@ -1,4 +1,4 @@
--- Rows of the table of cases on certificates issued again. Document 02, #102: "1 for a certificate found, 0 for one added."
+-- Rows of the table of cases on issuing calls made again. Document 02, #102: "1 for a certificate found, 0 for one added."
 use Prim.Native.Nat.{ℕ}
 use mathlib.Core.List.{List, [], _∷_, _++_}
 use lib.ListN.{set}
@@ -10,7 +10,7 @@ use Rattle.protocol.specs.Outcome.{wrongView}
 use Rattle.protocol.specs.Runs.{run}
 use Rattle.protocol.specs.Rows.{Case, zeros, plain, _on_, accepted, refused, script, from, opened, accumulated}
 
--- A View made again is found, whatever came between; one of another view or replica is added.
+-- A View made again is found, also after other replicas' Views; one of another view or replica is added.
 unfoldable pub viewsRepeated : Case
 viewsRepeated =
     record {
@@ -70,7 +70,7 @@ requestsAndRepliesRepeated =
           ∷ [];
     }
 
--- The second value of a Recover is no such number: with nothing stored it is 0.
+-- The second value of a Recover is the view of what it brought back: with nothing stored it is 0.
 unfoldable pub nothingStored : Case
 nothingStored =
     record {
@@ -109,7 +109,8 @@ commitRepeated =
       expected = accepted 4 1 ∷ refused wrongView ∷ [];
     }
 
--- So do a View, in a full log too, and a Reply whose replica's lowest view is set back by hand.
+-- A View, in a full log too, and a Reply also change the replica's words where they are found: the lowest view, set back by hand, rises
+-- again.
 unfoldable pub foundInAFullLogRaises : Case
 foundInAFullLogRaises =
     record {

@@ -1,5 +1,5 @@
--- Certificates issued again (document 02, #102): which are found in the log, what the second value of an issuing call tells, what a call that
--- finds its certificate changes, and which calls never find one.
+-- Issuing calls made again (document 02, #102): which certificates are found in the log, what the second value tells, what a call made again
+-- gives and changes, and which calls never find their certificate.
 use Prim.Native.Nat.{ℕ, _+_, _<_}
 use mathlib.Core.Path.{_≡_}
 use mathlib.Core.Bool.{Bool, true, false, cond}
@@ -30,7 +30,8 @@ pub record FoundByEquality (m : Memory) (c : Certificate) : Type 0 where
 unfoldable pub FoundIsFirstEqual : Type 0
 FoundIsFirstEqual = (m : Memory) (c : Certificate) → FoundByEquality m c
 
--- ---- "the second value is 1 for a certificate found, 0 for one added": so it is 1 exactly if the count of certificates stays.
+-- ---- "the second value is 1 for a certificate found, 0 for one added": where the call is accepted, it is 1 exactly if the count of
+-- certificates stays.
 
 -- The six calls that issue a certificate. Block issues none: its second value stays 0.
 abbrev pub isIssuing : Call → Bool
@@ -67,7 +68,7 @@ SecondValueTellsRepeat =
     (m : Memory) (call : Call) (list : List ℕ) → isIssuing call ≡ true → Accepted (step m call list) → TellsRepeat m (step m call list)
 
 -- ---- Made again at once, on any memory: a View, an Accumulate, a Request or a Reply that was accepted finds its certificate and leaves every
--- word; a Prepare or a Store that was accepted is refused, by its flag or its lowest view.
+-- word; a Prepare or a Store that was accepted is refused, by its flag or its lowest view. So a host may ask again where an answer was lost.
 
 -- Accepted again, with the same number, found, and no word changed.
 pub record SameAgain (o again : Outcome) : Type 0 where
@@ -94,8 +95,8 @@ pub record MadeAgain (m : Memory) (list : List ℕ) : Type 0 where
 unfoldable pub RepeatAtOnce : Type 0
 RepeatAtOnce = (m : Memory) (list : List ℕ) → MadeAgain m list
 
--- ---- After an opening, a call that finds its certificate changes no word at all: when the certificate was issued the replica's words were
--- set, and they have not gone back since. So a host may ask again where an answer was lost.
+-- ---- After an opening, a call that finds its certificate changes no word, whatever came between: when the certificate was issued the
+-- replica's words were set, and they have not gone back since.
 
 unfoldable pub RepeatChangesNothing : Type 0
 RepeatChangesNothing =

@@ -1,6 +1,6 @@
 -- `file` meets its contract.
 use borrow.Author.Needs.{needs}
-use Rattle.certificates.proofs.Slots.{files-found, files-appended, files-none}
+use Rattle.certificates.proofs.Filing.{files-found, files-appended, files-none}
 use Rattle.certificates.proofs.file.Statement.{statement}
 use Rattle.certificates.proofs.file.Tie as tie
 

@@ -54,8 +54,8 @@ isEqual log ws number = equalFrom log (certificateAt number) ws
 abbrev pub isOfOtherView : List ℕ → ℕ → ℕ → Bool
 isOfOtherView log view number = not (eqb (getD log (certificateAt number + viewAt) 0) view)
 
--- "The filing step now says which" (document 02, #102). Where a certificate of these words is filed: its number, and whether it is found;
--- the refusal, where none is equal and no slot is free.
+-- Where a certificate of these words is filed: its number, and whether it is found or appended; the refusal, where none is equal and no slot
+-- is free.
 unfoldable pub filedAt : Memory → List ℕ → Filed
 filedAt m ws = cond (canFile m ws) (At (numberFor m ws) (foundOrAppended m ws)) (Refused noRoom)
 

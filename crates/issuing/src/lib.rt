@@ -13,8 +13,8 @@ use checks::accepted;
 use checks::refused;
 use protocol::Answer;
 
-// The answer of a call that issues, once its other needs hold: the certificate's number, and whether it was
-// found; or the refusal, and nothing is changed.
+// The answer of a call that issues, once its other needs hold: the certificate's number, and whether it was found or appended; or the
+// refusal, and nothing is changed.
 pub fn issue(
     table: &mut [u32],
     log: &mut [u32],

@@ -52,7 +52,7 @@ uint32_t yard_write_number(uint32_t number, uint8_t *bytes, size_t length);
  * Where an answer got lost, and no other call was made since: a view, an accumulate, a request or a reply may be made again. If it was
  * accepted, it gives the same number and YARD_FOUND, and changes no word; if it was refused, it is refused again. A prepare or a store that
  * was accepted gives 7 when made again, and so may one that was refused: look for its certificate in the log, where it would be the last. A
- * decide gives the same again, a recover 4. A block, a reboot and a reserve made again do their work once more. */
+ * decide gives the same again, a recover that was accepted 4. A block, a reboot and a reserve made again do their work once more. */
 uint32_t yard_call(uint32_t code, uint32_t replica, uint32_t number, const uint32_t *list, size_t list_length, uint32_t *table,
                    size_t table_length, uint32_t *log, size_t log_length, uint32_t *blocks, size_t blocks_length, uint32_t *first,
                    uint32_t *second);

@@ -46,7 +46,7 @@ module _ (m : Memory) (l b : List ℕ) (a : Alike m (twin m l b)) where
   pub named-same : (list : List ℕ) → allIssued m list ≡ true → certificatesOf m list ≡ certificatesOf (twin m l b) list
   named-same list e =
       sym
-      (same-named m (twin m l b) (omega arith)
+      (same-named m (twin m l b)
       (λ x h. certificate-same (twin m l b) m x (λ k j. sym (word-same x k (omega tests) (omega tests)))) list e)
 
   pub form-same : wellFormed m ≡ wellFormed (twin m l b)

@@ -19,23 +19,23 @@ every-at test [] d e i h = absurd (omega arith)
 every-at test (x ∷ xs) d e zero h = and-true (test x) (every test xs) e .0
 every-at test (x ∷ xs) d e (suc i) h = every-at test xs d (and-true (test x) (every test xs) e .1) i (omega arith)
 
--- Where issued certificates stand as they are, an issued list names the same ones.
-module _ (m m′ : Memory) (grows : certificateCount m ≤ certificateCount m′)
-    (same : (c : ℕ) → c < certificateCount m → certificate m′ c ≡ certificate m c) where
-  pub still-issued : (list : List ℕ) → allIssued m list ≡ true → allIssued m′ list ≡ true
-  unfolding every
-  still-issued [] e = refl
-  still-issued (x ∷ xs) e =
-      let both = and-true (isIssued m x) (allIssued m xs) e in
-      let here : isIssued m′ x ≡ true = omega tests in
-      rw (here, still-issued xs (both .1)) refl
+-- A list that is issued stays so as the count grows, and names the same certificates while these stand.
+pub still-issued : (m m′ : Memory) → certificateCount m ≤ certificateCount m′ → (list : List ℕ) → allIssued m list ≡ true
+    → allIssued m′ list ≡ true
+unfolding every
+still-issued m m′ grows [] e = refl
+still-issued m m′ grows (x ∷ xs) e =
+    let both = and-true (isIssued m x) (allIssued m xs) e in
+    let here : isIssued m′ x ≡ true = omega tests in
+    rw (here, still-issued m m′ grows xs (both .1)) refl
 
-  pub same-named : (list : List ℕ) → allIssued m list ≡ true → certificatesOf m′ list ≡ certificatesOf m list
-  unfolding every
-  same-named [] e = refl
-  same-named (x ∷ xs) e =
-      let both = and-true (isIssued m x) (allIssued m xs) e in
-      λ d. same x (omega tests) d ∷ same-named xs (both .1) d
+pub same-named : (m m′ : Memory) → ((c : ℕ) → c < certificateCount m → certificate m′ c ≡ certificate m c) → (list : List ℕ)
+    → allIssued m list ≡ true → certificatesOf m′ list ≡ certificatesOf m list
+unfolding every
+same-named m m′ same [] e = refl
+same-named m m′ same (x ∷ xs) e =
+    let both = and-true (isIssued m x) (allIssued m xs) e in
+    λ d. same x (omega tests) d ∷ same-named m m′ same xs (both .1) d
 
 abbrev pub All : (Certificate → Type 0) → List Certificate → Type 0
 All P [] = Unit {0}

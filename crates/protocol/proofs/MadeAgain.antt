@@ -4,7 +4,6 @@ use mathlib.Core.Path.{_≡_, refl, sym, ap, _∙_, subst}
 use mathlib.Core.Bool.{true}
 use mathlib.Core.List.{List}
 use native.Mathlib.Omega.{arith}
-use lib.ListN.{getD}
 use lib.Dec.{ltb, eqb}
 use Rattle.protocol.specs.declared.Call.{Call}
 use Rattle.protocol.specs.declared.Call.the-variants.{Prepare, Store, View, Accumulate, Request, Reply}
@@ -31,7 +30,7 @@ use Rattle.protocol.proofs.Filing.{number-below, is-filed, filed-below,
 use Rattle.protocol.proofs.Keeps.{issuing-needs}
 use Rattle.protocol.proofs.Lists.{still-issued, same-named}
 use Rattle.protocol.proofs.LeavesForm.{view-leaves, accumulate-leaves, request-leaves, reply-leaves, prepare-leaves, store-leaves}
-use Rattle.protocol.proofs.Acts.{Files, issuing-acts}
+use Rattle.protocol.proofs.Acts.{Files, issuing-acts, extends}
 use Rattle.protocol.proofs.Repeats.{given, accepted-gives, issuing-tells, enters-again, replies-again}
 
 -- ---- a certificate that was just filed
@@ -123,8 +122,8 @@ accumulate-again m i list hold =
     let faults = acts .faults in
     let status = ap (λ (r : Replica). r .status) (acts .own) in
     let issued = h .1 .1 .1 .0 in
-    let named = same-named m m′ (acts .files .grows) (acts .files .old) list issued in
-    let still = still-issued m m′ (acts .files .grows) (acts .files .old) list issued in
+    let named = same-named m m′ (acts .files .old) list issued in
+    let still = still-issued m m′ (acts .files .grows) list issued in
     let form′ = form m′ (accumulate-leaves m i list hold) in
     issuing-again m _ i _ _ hold z (h .1 .0) refl _ _ _
     (form′, (omega tests, (omega tests, (still, (omega tests, (rw named (h .1 .1 .1 .1 .1 .0), tt))))))
@@ -235,18 +234,19 @@ prepare-again m i b j list hold =
     let justified = ranged .1 .1 .1 in
     let block = justified .1 .1 in
     let turn = block .1 .1 in
-    let named = same-named m m′ (acts .files .grows) (acts .files .old) (numbersOf j list) (ranged .0) in
+    let named = same-named m m′ (acts .files .old) (numbersOf j list) (ranged .0) in
+    let kept = extends m m′ i _ _ acts .parent b (omega tests) in
     issuing-refuses m′ _ i _ _
     (holds _ _ (form m′ (prepare-leaves m i b j list hold))
     ∙ holds _ _ (omega tests)
     ∙ holds _ _ (sized-again m m′ j list faults (h .1 .1 .0))
-    ∙ holds _ _ (still-issued m m′ (acts .files .grows) (acts .files .old) (numbersOf j list) (ranged .0))
+    ∙ holds _ _ (still-issued m m′ (acts .files .grows) (numbersOf j list) (ranged .0))
     ∙ holds _ _ (omega tests)
     ∙ holds _ _ (omega tests)
     ∙ holds _ _ (ap (isJustified i j) named ∙ justified .0)
     ∙ holds _ _ ((λ d. leads (faults d) (proposalView j (named d)) i) ∙ justified .1 .0)
     ∙ holds _ _ (block .0)
-    ∙ holds _ _ ((λ d. eqb (getD (acts .parents d) b 0) (justifiedBlock j (named d))) ∙ block .1 .0)
+    ∙ holds _ _ ((λ d. eqb (kept d) (justifiedBlock j (named d))) ∙ block .1 .0)
     ∙ holds _ _ ((λ d. eqb (minView d) (proposalView j (named d))) ∙ turn .0)
     ∙ fails _ (omega tests))
 

@@ -127,8 +127,8 @@ foundReplyRaises =
       expected = accepted 7 1 ∷ refused wrongView ∷ [];
     }
 
--- "equal in all seven words": each of the first seven differs in one word from what replica 0 issues, the next two are equal, and the tenth,
--- past the count, is just that.
+-- "equal in all seven words", in the log's own: kind (3 a NEWVIEW, 2 a COMMIT), signer, view, block, of-view, subject, boot. Each of the first
+-- seven differs in one word from what replica 0 issues, the next two are equal, and the tenth, past the count, is just that.
 abbrev nearlyEqual : List ℕ
 nearlyEqual =
     (2 ∷ 0 ∷ 5 ∷ 1 ∷ 3 ∷ 0 ∷ 0 ∷ [])

@@ -18,6 +18,7 @@ ghost use Rattle.records.specs.inner.Replicas.{replicaOf};
 ghost use Rattle.checks.specs.inner.Verdicts.{tested};
 use self::justification::Judgement;
 use self::justification::Justified;
+use self::leader::FIRST_VIEW;
 use certificates::Certificate;
 use checks::FoundCertificate;
 use checks::FoundReplica;
@@ -54,9 +55,6 @@ mod leader;
 
 // The block that no leader proposes: it is there from the opening on.
 const ROOT: u32 = 0;
-
-// The lowest view that a replica can enter.
-const FIRST_VIEW: u32 = 1;
 
 // A PROP or a COMMIT: they name no earlier view, no subject and no boot.
 fn of_kind(kind: u32, signer: u32, view: u32, block: u32) -> Certificate

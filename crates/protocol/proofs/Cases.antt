@@ -17,6 +17,8 @@ use Rattle.protocol.specs.Calls.{issuing, freshReplicas, opening, block,
 use Rattle.protocol.specs.Calls.{reserve, request, reply, recover}
 use Rattle.protocol.specs.Runs.{ruleOf, step, run, answers}
 use Rattle.protocol.specs.Rows.{Case}
+use Rattle.protocol.specs.LeaderCases.{holding, leaderCases, turnGoesRound, viewZeroAtStore, viewZeroAtPrepare, commitsOfViewZero}
+use Rattle.protocol.specs.LeaderCases.{turnOfFive, lastViews}
 use Rattle.protocol.specs.RepeatCases.{repeatCases, viewsRepeated, accsAndBlocksRepeated, requestsAndRepliesRepeated, nothingStored}
 use Rattle.protocol.specs.RepeatCases.{proposalRepeated, proposalOnCommitsRepeated, commitRepeated, foundInAFullLogRaises}
 use Rattle.protocol.specs.RepeatCases.{foundReplyRaises, equalInAllWords}
@@ -132,6 +134,30 @@ counter-ends : holds counterEnds ≡ true
 unfolding holds counterEnds
 counter-ends = refl
 
+turn-goes-round : holds turnGoesRound ≡ true
+unfolding holds turnGoesRound
+turn-goes-round = refl
+
+turn-of-five : holds turnOfFive ≡ true
+unfolding holds turnOfFive
+turn-of-five = refl
+
+view-zero-at-store : holds viewZeroAtStore ≡ true
+unfolding holds holding viewZeroAtStore
+view-zero-at-store = refl
+
+view-zero-at-prepare : holds viewZeroAtPrepare ≡ true
+unfolding holds holding viewZeroAtPrepare
+view-zero-at-prepare = refl
+
+commits-of-view-zero : holds commitsOfViewZero ≡ true
+unfolding holds holding commitsOfViewZero
+commits-of-view-zero = refl
+
+last-views : holds lastViews ≡ true
+unfolding holds holding lastViews
+last-views = refl
+
 views-repeated : holds viewsRepeated ≡ true
 unfolding holds viewsRepeated
 views-repeated = refl
@@ -173,7 +199,7 @@ unfolding holds equalInAllWords
 equal-in-all-words = refl
 
 pub cases-hold : CasesHold
-unfolding CasesHold cases repeatCases
+unfolding CasesHold cases leaderCases repeatCases
 cases-hold =
     rw (
       row workedScript worked-script,
@@ -192,6 +218,12 @@ cases-hold =
       row secondProposalInAView second-proposal-in-a-view,
       row fullLog full-log,
       row counterEnds counter-ends,
+      row turnGoesRound turn-goes-round,
+      row turnOfFive turn-of-five,
+      row viewZeroAtStore view-zero-at-store,
+      row viewZeroAtPrepare view-zero-at-prepare,
+      row commitsOfViewZero commits-of-view-zero,
+      row lastViews last-views,
       row viewsRepeated views-repeated,
       row accsAndBlocksRepeated accs-and-blocks-repeated,
       row requestsAndRepliesRepeated requests-and-replies-repeated,

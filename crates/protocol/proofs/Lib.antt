@@ -29,4 +29,5 @@ pub mod Reached
 pub mod Agreement
 pub mod Repeats
 pub mod MadeAgain
+pub mod Leaders
 pub mod Cases

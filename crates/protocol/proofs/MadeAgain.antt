@@ -22,7 +22,7 @@ use Rattle.protocol.specs.Runs.{ruleOf, step}
 use Rattle.protocol.specs.Theorems.{Accepted}
 use Rattle.protocol.specs.Repeats.{SameAgain, FoundAgain, RefusedAgain, RepeatAtOnce}
 use Rattle.protocol.proofs.Booleans.{tests, by-test, by-cond}
-use Rattle.protocol.proofs.Needs.{Holds, none-refuses, joined-hold, refused-first, holds, fails, accepts, refuses}
+use Rattle.protocol.proofs.Needs.{Holds, none-refuses, joined-hold, refused-first, holds, fails, accepts, returned}
 use Rattle.protocol.proofs.Words.{withinRow}
 use Rattle.protocol.proofs.Changes.{changed}
 use Rattle.protocol.proofs.Formed.{Formed, formed, form}
@@ -280,7 +280,7 @@ refused-again m call list again =
     after-it (λ o o′. o′ .answer .number ≡ wrongView) m call list
     (λ hold.
     let m′ = ruleOf m call list .after in
-    ap (λ (o : Outcome). o .answer .number) (sym (refuses m′ (ruleOf m′ call list) wrongView (sym (again hold)) (λ e. omega arith))))
+    returned m′ (ruleOf m′ call list) ∙ again hold)
 
 pub repeat-at-once : RepeatAtOnce
 unfolding RepeatAtOnce ruleOf

@@ -1,6 +1,6 @@
 -- What a list of needs tells: of an accepted call, that every need holds; of a refused one, that nothing changed and the lowest number won.
 use Prim.Native.Nat.{ℕ, zero, suc, _≤_}
-use mathlib.Core.Path.{_≡_, refl, ap}
+use mathlib.Core.Path.{_≡_, refl, sym, ap, _∙_}
 use mathlib.Core.Bool.{Bool, true, false, _&&_}
 use mathlib.Core.List.{List, [], _∷_, _++_, List·Memᴰ, List·Memᴰ·head, List·Memᴰ·tail, List·Memᴰ·cases-cons, List·Memᴰ·not-nil}
 use mathlib.Core.Logic.{⊎-elim}
@@ -73,16 +73,25 @@ pub holds : {t : Bool} (n : ℕ) (rest : List Need) → t ≡ true → firstRefu
 unfolding firstRefusal
 holds n rest e = rw e refl
 
+-- Where the needs after it refuse with its number, a need does not change that.
+pub either-fails : (t : Bool) (n : ℕ) (rest : List Need) → firstRefusal rest ≡ n → firstRefusal ((t else n) ∷ rest) ≡ n
+unfolding firstRefusal
+either-fails true n rest e = e
+either-fails false n rest e = refl
+
 -- ---- accepted and refused, of any rule
 
-accepted-number : (n : ℕ) (m : Memory) (rule : Rule) → Accepted (answered n m rule) → n ≡ 0
-unfolding answered
-accepted-number zero m rule e = refl
-accepted-number (suc n) m rule e = e
+-- What is returned is the first refusal's number, or 0.
+pub returned : (m : Memory) (rule : Rule) → follow m rule .answer .number ≡ firstRefusal (rule .needs)
+unfolding follow answered
+returned m rule = go (firstRefusal (rule .needs))
+  where
+    go : (n : ℕ) → answered n m rule .answer .number ≡ n
+    go zero = refl
+    go (suc n) = refl
 
 pub no-refusal : (m : Memory) (rule : Rule) → Accepted (follow m rule) → firstRefusal (rule .needs) ≡ 0
-unfolding follow
-no-refusal m rule e = accepted-number (firstRefusal (rule .needs)) m rule e
+no-refusal m rule e = sym (returned m rule) ∙ e
 
 pub accepted-after : (m : Memory) (rule : Rule) → Accepted (follow m rule) → follow m rule .memory ≡ rule .after
 unfolding follow answered

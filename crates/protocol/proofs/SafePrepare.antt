@@ -1,5 +1,5 @@
 -- The invariant after a proposal: its justification puts every earlier view that may be decided into its line.
-use Prim.Native.Nat.{ℕ, _≤_, _<_}
+use Prim.Native.Nat.{ℕ, zero, suc, _≤_, _<_}
 use mathlib.Core.Path.{_≡_, refl, ap}
 use mathlib.Core.Bool.{true}
 use mathlib.Core.Logic.{⊎-elim}
@@ -29,7 +29,8 @@ use Rattle.protocol.proofs.SafeParts.{replica-kept, extend}
 -- A view has one leader.
 one-leader : (f v i j : ℕ) → leads f v i ≡ true → leads f v j ≡ true → i ≡ j
 unfolding leads
-one-leader f v i j a b = omega tests
+one-leader f zero i j a b = cc
+one-leader f (suc before) i j a b = omega tests
 
 -- Block p was proposed in a view that is not below v.
 record ProposedFrom (m : Memory) (p v : ℕ) : Type 0 where

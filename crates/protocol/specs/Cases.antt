@@ -1,5 +1,6 @@
--- The table of cases: those that document 01 marks P ("Edges"), some beside them, and those of issuing calls made again.
-use mathlib.Core.List.{List, [], _∷_, map}
+-- The table of cases: those that document 01 marks P ("Edges"), some beside them, those on whose turn it is, and those of issuing calls made
+-- again.
+use mathlib.Core.List.{List, [], _∷_, _++_, map}
 use mathlib.Core.Path.{_≡_}
 use Rattle.protocol.specs.declared.Call.the-variants.{Open, Block, Prepare, Store, View, Decide, Reboot, Reserve, Request}
 use Rattle.protocol.specs.declared.Call.the-variants.{Reply, Recover}
@@ -9,7 +10,8 @@ use Rattle.protocol.specs.Outcome.{wrongForm, outOfRange, wrongStatus, w
 use Rattle.protocol.specs.Outcome.{counterLimit, noRoom}
 use Rattle.protocol.specs.Runs.{run, answers}
 use Rattle.protocol.specs.Rows.{Case, zeros, blank, plain, _on_, accepted, refused, script, scriptAnswers, from, opened}
-use Rattle.protocol.specs.Rows.{accumulated}
+use Rattle.protocol.specs.Rows.{accumulated, committed}
+use Rattle.protocol.specs.LeaderCases.{leaderCases}
 use Rattle.protocol.specs.RepeatCases.{repeatCases}
 
 -- "P: the script above."
@@ -81,20 +83,21 @@ freshView64 = record { start = opened; calls = plain (View 0 64) ∷ []; expecte
 unfoldable pub oneCommitTwice : Case
 oneCommitTwice =
     record {
-      start = from script;
-      calls = Decide 0 on (4 ∷ 4 ∷ []) ∷ Prepare 2 1 (Commits 1 1) on (4 ∷ 4 ∷ []) ∷ [];
+      start = committed;
+      calls = Decide 0 on (4 ∷ 4 ∷ []) ∷ Prepare 1 1 (Commits 1 1) on (4 ∷ 4 ∷ []) ∷ [];
       expected = refused wrongCertificate ∷ refused wrongCertificate ∷ [];
     }
 
--- Commits justify a proposal of the view above theirs, once that is the leader's lowest view. It can be decided in its turn.
+-- Commits justify a proposal of the view above theirs, once that is the leader's lowest view, and only if their block is the one that the
+-- call names. It can be decided in its turn.
 unfoldable pub commitsJustify : Case
 commitsJustify =
     record {
-      start = from script;
+      start = committed;
       calls =
           plain (Block 1)
-          ∷ Prepare 2 2 (Commits 1 1) on (4 ∷ 5 ∷ [])
-          ∷ Prepare 2 2 (Commits 1 0) on (4 ∷ 5 ∷ [])
+          ∷ Prepare 1 2 (Commits 1 1) on (4 ∷ 5 ∷ [])
+          ∷ Prepare 1 2 (Commits 1 0) on (4 ∷ 5 ∷ [])
           ∷ plain (Store 0 6)
           ∷ plain (Store 2 6)
           ∷ Decide 0 on (7 ∷ 8 ∷ [])
@@ -111,14 +114,14 @@ commitsJustify =
 
 -- "P: block 0 on a ground of block 0, 6."
 unfoldable pub blockZeroProposed : Case
-blockZeroProposed = record { start = accumulated; calls = plain (Prepare 1 0 (Acc 2)) ∷ []; expected = refused wrongBlock ∷ [] }
+blockZeroProposed = record { start = accumulated; calls = plain (Prepare 0 0 (Acc 2)) ∷ []; expected = refused wrongBlock ∷ [] }
 
 -- "P: second prepare in a view, 7."
 unfoldable pub secondProposalInAView : Case
 secondProposalInAView =
     record {
       start = accumulated;
-      calls = plain (Prepare 1 1 (Acc 2)) ∷ plain (Prepare 1 1 (Acc 2)) ∷ plain (Block 0) ∷ plain (Prepare 1 2 (Acc 2)) ∷ [];
+      calls = plain (Prepare 0 1 (Acc 2)) ∷ plain (Prepare 0 1 (Acc 2)) ∷ plain (Block 0) ∷ plain (Prepare 0 2 (Acc 2)) ∷ [];
       expected = accepted 3 0 ∷ refused wrongView ∷ accepted 2 0 ∷ refused wrongView ∷ [];
     }
 
@@ -160,7 +163,7 @@ cases =
     ∷ secondProposalInAView
     ∷ fullLog
     ∷ counterEnds
-    ∷ repeatCases
+    ∷ leaderCases ++ repeatCases
 
 -- Every row's calls get the answers expected.
 unfoldable pub CasesHold : Type 0

@@ -9,6 +9,7 @@ use Rattle.protocol.specs.Memory.{certificateCountAt, minViewAt, flagAt,
 use Rattle.protocol.specs.Outcome.{wrongView}
 use Rattle.protocol.specs.Runs.{run}
 use Rattle.protocol.specs.Rows.{Case, zeros, plain, _on_, accepted, refused, script, from, opened, accumulated}
+use Rattle.protocol.specs.Rows.{committed}
 
 -- A View made again is found, also after other replicas' Views; one of another view or replica is added.
 unfoldable pub viewsRepeated : Case
@@ -33,9 +34,9 @@ accsAndBlocksRepeated =
     record {
       start = accumulated;
       calls =
-          Accumulate 1 on (0 ∷ 1 ∷ [])
-          ∷ Accumulate 1 on (1 ∷ 0 ∷ [])
-          ∷ Accumulate 0 on (0 ∷ 1 ∷ [])
+          Accumulate 0 on (0 ∷ 1 ∷ [])
+          ∷ Accumulate 0 on (1 ∷ 0 ∷ [])
+          ∷ Accumulate 1 on (0 ∷ 1 ∷ [])
           ∷ plain (Block 0)
           ∷ [];
       expected = accepted 2 1 ∷ accepted 2 1 ∷ accepted 3 0 ∷ accepted 2 0 ∷ [];
@@ -45,28 +46,30 @@ accsAndBlocksRepeated =
 unfoldable pub requestsAndRepliesRepeated : Case
 requestsAndRepliesRepeated =
     record {
-      start = from script;
+      start = accumulated;
       calls =
-          plain (Request 1)
-          ∷ plain (Request 1)
-          ∷ plain (Reply 0 6)
-          ∷ plain (Reply 0 6)
-          ∷ plain (Reply 2 6)
-          ∷ Recover 1 on (7 ∷ 8 ∷ [])
-          ∷ Accumulate 1 on (0 ∷ 1 ∷ [])
-          ∷ plain (Reboot 1)
-          ∷ plain (Request 1)
+          plain (Reboot 0)
+          ∷ plain (Request 0)
+          ∷ plain (Request 0)
+          ∷ plain (Reply 1 3)
+          ∷ plain (Reply 1 3)
+          ∷ plain (Reply 2 3)
+          ∷ Recover 0 on (4 ∷ 5 ∷ [])
+          ∷ Accumulate 0 on (0 ∷ 1 ∷ [])
+          ∷ plain (Reboot 0)
+          ∷ plain (Request 0)
           ∷ [];
       expected =
-          accepted 6 0
-          ∷ accepted 6 1
-          ∷ accepted 7 0
-          ∷ accepted 7 1
-          ∷ accepted 8 0
-          ∷ accepted 64 1
+          accepted 1 64
+          ∷ accepted 3 0
+          ∷ accepted 3 1
+          ∷ accepted 4 0
+          ∷ accepted 4 1
+          ∷ accepted 5 0
+          ∷ accepted 64 0
           ∷ accepted 2 1
           ∷ accepted 2 128
-          ∷ accepted 9 0
+          ∷ accepted 6 0
           ∷ [];
     }
 
@@ -85,16 +88,16 @@ nothingStored =
 unfoldable pub proposalRepeated : Case
 proposalRepeated =
     record {
-      start = update (run accumulated (plain (Prepare 1 1 (Acc 2)) ∷ [])) 1 (flagAt becomes lowered ∷ []);
-      calls = plain (Prepare 1 1 (Acc 2)) ∷ plain (Prepare 1 1 (Acc 2)) ∷ [];
+      start = update (run accumulated (plain (Prepare 0 1 (Acc 2)) ∷ [])) 0 (flagAt becomes lowered ∷ []);
+      calls = plain (Prepare 0 1 (Acc 2)) ∷ plain (Prepare 0 1 (Acc 2)) ∷ [];
       expected = accepted 3 1 ∷ refused wrongView ∷ [];
     }
 
 unfoldable pub proposalOnCommitsRepeated : Case
 proposalOnCommitsRepeated =
-    let again = Prepare 2 2 (Commits 1 1) on (4 ∷ 5 ∷ []) in
+    let again = Prepare 1 2 (Commits 1 1) on (4 ∷ 5 ∷ []) in
     record {
-      start = update (run (from script) (plain (Block 1) ∷ again ∷ [])) 2 (flagAt becomes lowered ∷ []);
+      start = update (run committed (plain (Block 1) ∷ again ∷ [])) 1 (flagAt becomes lowered ∷ []);
       calls = again ∷ again ∷ [];
       expected = accepted 6 1 ∷ refused wrongView ∷ [];
     }
@@ -103,10 +106,9 @@ unfoldable pub commitRepeated : Case
 commitRepeated =
     record {
       start =
-          update (run accumulated (plain (Prepare 1 1 (Acc 2)) ∷ plain (Store 0 3) ∷ [])) 0
-          (storedViewAt becomes 0 ∷ minViewAt becomes 1 ∷ []);
-      calls = plain (Store 0 3) ∷ plain (Store 0 3) ∷ [];
-      expected = accepted 4 1 ∷ refused wrongView ∷ [];
+          update committed 1 (storedViewAt becomes 0 ∷ minViewAt becomes 1 ∷ []);
+      calls = plain (Store 1 3) ∷ plain (Store 1 3) ∷ [];
+      expected = accepted 5 1 ∷ refused wrongView ∷ [];
     }
 
 -- A View, in a full log too, and a Reply also change the replica's words where they are found: the lowest view, set back by hand, rises

@@ -39,15 +39,17 @@ accepted first second = record { number = 0; first = first; second = second }
 abbrev pub refused : ℕ → Answer
 refused number = record { number = number; first = 0; second = 0 }
 
--- "Input fields: `0 1 0`, `5 0 1`, `5 1 1`, `6 1 0 0 1`, `1 0 0`, `2 1 1 2`, `4 0 3`, `8 1 0`, `4 1 3`, `4 2 3`, `7 0 0 4 5`."
+-- "Input fields: `0 1 0`, `5 0 1`, `5 1 1`, `6 1 0 0 1`, `1 0 0`, `2 1 1 2`, `4 0 3`, `8 1 0`, `4 1 3`, `4 2 3`, `7 0 0 4 5`." Document 02,
+-- #103: "In 01's script prepare and accumulate move to box 0 and the answers are worked out anew": so `6 0 0 0 1` and `2 0 1 2`; the answers
+-- come out as they were.
 abbrev pub script : List Invocation
 script =
     plain (Open 1)
     ∷ plain (View 0 1)
     ∷ plain (View 1 1)
-    ∷ Accumulate 1 on (0 ∷ 1 ∷ [])
+    ∷ Accumulate 0 on (0 ∷ 1 ∷ [])
     ∷ plain (Block 0)
-    ∷ plain (Prepare 1 1 (Acc 2))
+    ∷ plain (Prepare 0 1 (Acc 2))
     ∷ plain (Store 0 3)
     ∷ plain (Reboot 1)
     ∷ plain (Store 1 3)
@@ -77,7 +79,11 @@ from calls = run (blank 1) calls
 abbrev pub opened : Memory
 opened = from (plain (Open 1) ∷ [])
 
--- f = 1, with an ACC of view 1 on block 0, number 2, and a block 1 on block 0
+-- f = 1, with an ACC of view 1 on block 0, number 2, by its leader, and a block 1 on block 0
 abbrev pub accumulated : Memory
 accumulated =
-    from (plain (Open 1) ∷ plain (View 0 1) ∷ plain (View 1 1) ∷ Accumulate 1 on (0 ∷ 1 ∷ []) ∷ plain (Block 0) ∷ [])
+    from (plain (Open 1) ∷ plain (View 0 1) ∷ plain (View 1 1) ∷ Accumulate 0 on (0 ∷ 1 ∷ []) ∷ plain (Block 0) ∷ [])
+
+-- Then block 1 is proposed, PROP 3, and stored by replicas 0 and 1, COMMITs 4 and 5; replica 1 leads the next view.
+abbrev pub committed : Memory
+committed = run accumulated (plain (Prepare 0 1 (Acc 2)) ∷ plain (Store 0 3) ∷ plain (Store 1 3) ∷ [])

@@ -1,7 +1,7 @@
 -- What holds of the rules, for every call and any contents of the memory: what a refused call leaves, what an accepted one leaves and
--- may change, what is not read, which refusal is returned, and how large an answer is. Each unfoldable type here is a statement,
--- proved in proofs/ under the same name in lower case with hyphens.
-use Prim.Native.Nat.{ℕ, zero, suc, _+_, _≤_, _<_}
+-- may change, what is not read, which refusal is returned, how large an answer is, and whose turn it is. Each unfoldable type here is a
+-- statement, proved in proofs/ under the same name in lower case with hyphens.
+use Prim.Native.Nat.{ℕ, zero, suc, _+_, _%_, _≤_, _<_}
 use mathlib.Core.Path.{_≡_}
 use mathlib.Core.Bool.{Bool, true, false}
 use mathlib.Core.List.{List, [], _∷_, _++_, map, List·Memᴰ}
@@ -10,11 +10,16 @@ use Rattle.protocol.specs.declared.Answer.{Answer}
 use Rattle.protocol.specs.declared.Call.{Call}
 use Rattle.protocol.specs.declared.Call.the-variants.{Open, Block, Prepare, Store, View, Accumulate, Decide, Reboot}
 use Rattle.protocol.specs.declared.Call.the-variants.{Reserve, Request, Reply, Recover}
-use Rattle.protocol.specs.Memory.{Memory, certificateCountAt, blockCountAt, certificateCount, blockCount, rowAt, statusAt}
-use Rattle.protocol.specs.Memory.{bootAt, minViewAt, viewLimitAt, flagAt, storedViewAt, storedBlockAt, decidedViewAt}
-use Rattle.protocol.specs.Memory.{decidedBlockAt, certificateWords, certificateAt, blockAt, ceiling}
+use Rattle.protocol.specs.declared.Justification.the-variants.{Acc, Commits}
+use Rattle.protocol.specs.Memory.{Memory, certificateCountAt, blockCountAt, faultBound, certificateCount, blockCount}
+use Rattle.protocol.specs.Memory.{replicaCount, rowAt, statusAt, bootAt, minViewAt, viewLimitAt, flagAt, storedViewAt}
+use Rattle.protocol.specs.Memory.{storedBlockAt, decidedViewAt, decidedBlockAt, live, replica, certificateWords}
+use Rattle.protocol.specs.Memory.{certificateAt, certificate, blockAt, ceiling}
 use Rattle.protocol.specs.Form.{isFaultBound, wellFormed}
-use Rattle.protocol.specs.Outcome.{Outcome, _else_, Rule, outOfRange, noRoom}
+use Rattle.protocol.specs.Quorum.{isIssued}
+use Rattle.protocol.specs.Outcome.{Outcome, _else_, Rule, outOfRange, wrongCertificate, noRoom}
+use Rattle.protocol.specs.FirstNeeds.{isReplica, isBlock}
+use Rattle.protocol.specs.Calls.{hasStatus}
 use Rattle.protocol.specs.Runs.{ruleOf, step}
 
 -- A call is accepted: its number is 0.
@@ -153,3 +158,35 @@ pub record Fits (a : Answer) : Type 0 where
 
 unfoldable pub ValuesFit : Type 0
 ValuesFit = (m : Memory) (call : Call) (list : List ℕ) → Fits (step m call list .answer)
+
+-- ---- Document 02, #103: "The leader of view v is (v−1) mod n. View 0 has no leader, so a PROP of view 0 returns 5 at store."
+
+-- A replica leads a view: the view is one above some other, and the replica is that other's number mod n.
+pub record LedBy (m : Memory) (view i : ℕ) : Type 0 where
+  pub before : ℕ
+  pub next : view ≡ before + 1
+  pub leader : i ≡ before % replicaCount (faultBound m)
+
+-- Who proposes on an ACC leads the ACC's view, who proposes on commits of view v is replica v mod n, and who signed a PROP that is stored
+-- leads the PROP's view.
+pub record Led (m : Memory) : Type 0 where
+  pub onAcc : (i b number : ℕ) (list : List ℕ) → Accepted (step m (Prepare i b (Acc number)) list)
+      → LedBy m (certificate m number .view) i
+  pub onCommits : (i b v c : ℕ) (list : List ℕ) → Accepted (step m (Prepare i b (Commits v c)) list)
+      → i ≡ v % replicaCount (faultBound m)
+  pub store : (i number : ℕ) (list : List ℕ) → Accepted (step m (Store i number) list)
+      → LedBy m (certificate m number .view) (certificate m number .signer)
+
+unfoldable pub LeadersTakeTurns : Type 0
+LeadersTakeTurns = (m : Memory) → Led m
+
+-- A live replica's Prepare on an ACC of view 0, and its Store of a PROP of view 0, return 5 where what they name is there.
+pub record Unled (m : Memory) (i number : ℕ) : Type 0 where
+  pub prepare : (b : ℕ) (list : List ℕ) → isBlock m b ≡ true
+      → step m (Prepare i b (Acc number)) list .answer .number ≡ wrongCertificate
+  pub store : (list : List ℕ) → step m (Store i number) list .answer .number ≡ wrongCertificate
+
+unfoldable pub ViewZeroHasNoLeader : Type 0
+ViewZeroHasNoLeader =
+    (m : Memory) (i number : ℕ) → wellFormed m ≡ true → isReplica m i ≡ true → isIssued m number ≡ true
+    → hasStatus live (replica m i) ≡ true → certificate m number .view ≡ 0 → Unled m i number

@@ -17,15 +17,17 @@ unfoldable pub textOf : List (List ℕ) → List ℕ
 textOf [] = []
 textOf (numbers ∷ rest) = lineOf numbers ++ textOf rest
 
--- "Input fields: `0 1 0`, `5 0 1`, `5 1 1`, `6 1 0 0 1`, `1 0 0`, `2 1 1 2`, `4 0 3`, `8 1 0`, `4 1 3`, `4 2 3`, `7 0 0 4 5`."
+-- "Input fields: `0 1 0`, `5 0 1`, `5 1 1`, `6 1 0 0 1`, `1 0 0`, `2 1 1 2`, `4 0 3`, `8 1 0`, `4 1 3`, `4 2 3`, `7 0 0 4 5`." Document 02,
+-- #103: "In 01's script prepare and accumulate move to box 0 and the answers are worked out anew": so `6 0 0 0 1` and `2 0 1 2`; the answers
+-- come out as they were.
 unfoldable pub workedInput : List (List ℕ)
 workedInput =
     (0 ∷ 1 ∷ 0 ∷ [])
     ∷ (5 ∷ 0 ∷ 1 ∷ [])
     ∷ (5 ∷ 1 ∷ 1 ∷ [])
-    ∷ (6 ∷ 1 ∷ 0 ∷ 0 ∷ 1 ∷ [])
+    ∷ (6 ∷ 0 ∷ 0 ∷ 0 ∷ 1 ∷ [])
     ∷ (1 ∷ 0 ∷ 0 ∷ [])
-    ∷ (2 ∷ 1 ∷ 1 ∷ 2 ∷ [])
+    ∷ (2 ∷ 0 ∷ 1 ∷ 2 ∷ [])
     ∷ (4 ∷ 0 ∷ 3 ∷ [])
     ∷ (8 ∷ 1 ∷ 0 ∷ [])
     ∷ (4 ∷ 1 ∷ 3 ∷ [])

@@ -1,0 +1,184 @@
+-- Rows of the table of cases on whose turn it is. Document 02, #103: "The leader of view v is (v−1) mod n. View 0 has no leader".
+use Prim.Native.Nat.{ℕ}
+use mathlib.Core.List.{List, [], _∷_}
+use Rattle.protocol.specs.declared.Call.the-variants.{Open, Block, Prepare, Store, View, Accumulate}
+use Rattle.protocol.specs.declared.Justification.the-variants.{Acc, Commits}
+use Rattle.protocol.specs.Memory.{Memory, Certificate, minViewAt, viewLimitAt, ceiling, words, _becomes_, update}
+use Rattle.protocol.specs.Memory.{appendCertificate}
+use Rattle.protocol.specs.Certificates.{propOf, commitOf, accOf}
+use Rattle.protocol.specs.Outcome.{wrongCertificate, wrongView, counterLimit}
+use Rattle.protocol.specs.Runs.{run}
+use Rattle.protocol.specs.Rows.{Case, blank, plain, _on_, accepted, refused, opened, committed}
+
+-- The turn goes round: on COMMITs of view 1 only replica 1 can propose, on those of view 2 replica 2, on those of view 3 replica 0.
+unfoldable pub turnGoesRound : Case
+turnGoesRound =
+    record {
+      start = run committed (plain (Store 2 3) ∷ plain (Block 1) ∷ plain (Block 2) ∷ plain (Block 3) ∷ []);
+      calls =
+          Prepare 0 2 (Commits 1 1) on (4 ∷ 5 ∷ [])
+          ∷ Prepare 2 2 (Commits 1 1) on (4 ∷ 5 ∷ [])
+          ∷ Prepare 1 2 (Commits 1 1) on (4 ∷ 5 ∷ [])
+          ∷ plain (Store 0 7)
+          ∷ plain (Store 1 7)
+          ∷ plain (Store 2 7)
+          ∷ Prepare 0 3 (Commits 2 2) on (8 ∷ 9 ∷ [])
+          ∷ Prepare 1 3 (Commits 2 2) on (8 ∷ 9 ∷ [])
+          ∷ Prepare 2 3 (Commits 2 2) on (8 ∷ 9 ∷ [])
+          ∷ plain (Store 0 11)
+          ∷ plain (Store 1 11)
+          ∷ plain (Store 2 11)
+          ∷ Prepare 1 4 (Commits 3 3) on (12 ∷ 13 ∷ [])
+          ∷ Prepare 2 4 (Commits 3 3) on (12 ∷ 13 ∷ [])
+          ∷ Prepare 0 4 (Commits 3 3) on (12 ∷ 13 ∷ [])
+          ∷ [];
+      expected =
+          refused wrongCertificate
+          ∷ refused wrongCertificate
+          ∷ accepted 7 0
+          ∷ accepted 8 0
+          ∷ accepted 9 0
+          ∷ accepted 10 0
+          ∷ refused wrongCertificate
+          ∷ refused wrongCertificate
+          ∷ accepted 11 0
+          ∷ accepted 12 0
+          ∷ accepted 13 0
+          ∷ accepted 14 0
+          ∷ refused wrongCertificate
+          ∷ refused wrongCertificate
+          ∷ accepted 15 0
+          ∷ [];
+    }
+
+-- Among five the last replica leads view 5, and replica 0 view 6. By document 01's rule view 5 was replica 0's: its own ACC does not help it.
+unfoldable pub turnOfFive : Case
+turnOfFive =
+    record {
+      start = run (blank 2) (plain (Open 2) ∷ plain (Block 0) ∷ []);
+      calls =
+          plain (View 0 5)
+          ∷ plain (View 1 5)
+          ∷ plain (View 4 5)
+          ∷ Accumulate 0 on (0 ∷ 1 ∷ 2 ∷ [])
+          ∷ Accumulate 4 on (0 ∷ 1 ∷ 2 ∷ [])
+          ∷ plain (Prepare 0 1 (Acc 3))
+          ∷ plain (Prepare 4 1 (Acc 4))
+          ∷ plain (View 0 6)
+          ∷ plain (View 1 6)
+          ∷ plain (View 4 6)
+          ∷ Accumulate 0 on (6 ∷ 7 ∷ 8 ∷ [])
+          ∷ plain (Prepare 0 1 (Acc 9))
+          ∷ [];
+      expected =
+          accepted 0 0
+          ∷ accepted 1 0
+          ∷ accepted 2 0
+          ∷ accepted 3 0
+          ∷ accepted 4 0
+          ∷ refused wrongCertificate
+          ∷ accepted 5 0
+          ∷ accepted 6 0
+          ∷ accepted 7 0
+          ∷ accepted 8 0
+          ∷ accepted 9 0
+          ∷ accepted 10 0
+          ∷ [];
+    }
+
+-- No list of calls issues a certificate of view 0. The rows below start from a ledger with a block 1 on block 0 and with certificates that
+-- are put there by hand.
+unfoldable pub holding : Memory → List Certificate → Memory
+holding m [] = m
+holding m (c ∷ cs) = holding (appendCertificate m (words c)) cs
+
+abbrev withBlock : Memory
+withBlock = run opened (plain (Block 0) ∷ [])
+
+-- "View 0 has no leader, so a PROP of view 0 returns 5 at store." If its signer led it, the store would return 7, as view 0 is below every
+-- lowest view.
+unfoldable pub viewZeroAtStore : Case
+viewZeroAtStore =
+    record {
+      start = holding withBlock (propOf 0 0 1 ∷ propOf 1 0 1 ∷ propOf 2 0 1 ∷ []);
+      calls = plain (Store 0 0) ∷ plain (Store 0 1) ∷ plain (Store 0 2) ∷ [];
+      expected = refused wrongCertificate ∷ refused wrongCertificate ∷ refused wrongCertificate ∷ [];
+    }
+
+-- Nor does anyone propose on an ACC of view 0.
+unfoldable pub viewZeroAtPrepare : Case
+viewZeroAtPrepare =
+    record {
+      start = holding withBlock (accOf 0 0 0 0 ∷ accOf 1 0 0 0 ∷ accOf 2 0 0 0 ∷ []);
+      calls = plain (Prepare 0 1 (Acc 0)) ∷ plain (Prepare 1 1 (Acc 1)) ∷ plain (Prepare 2 1 (Acc 2)) ∷ [];
+      expected = refused wrongCertificate ∷ refused wrongCertificate ∷ refused wrongCertificate ∷ [];
+    }
+
+-- COMMITs of view 0 justify view 1: "the founder, box 0, leads view 1."
+unfoldable pub commitsOfViewZero : Case
+commitsOfViewZero =
+    record {
+      start = holding withBlock (commitOf 1 0 0 ∷ commitOf 2 0 0 ∷ []);
+      calls =
+          Prepare 1 1 (Commits 0 0) on (0 ∷ 1 ∷ [])
+          ∷ Prepare 2 1 (Commits 0 0) on (0 ∷ 1 ∷ [])
+          ∷ Prepare 0 1 (Commits 0 0) on (0 ∷ 1 ∷ [])
+          ∷ plain (Store 1 2)
+          ∷ [];
+      expected = refused wrongCertificate ∷ refused wrongCertificate ∷ accepted 2 0 ∷ accepted 3 0 ∷ [];
+    }
+
+-- ACCs, PROPs and COMMITs of the counter's last views.
+abbrev ofLastViews : List Certificate
+ofLastViews =
+    accOf 2 999999 0 0
+    ∷ accOf 0 1000000 0 0
+    ∷ accOf 1 1000000 0 0
+    ∷ accOf 2 1000000 0 0
+    ∷ propOf 0 1000000 1
+    ∷ propOf 1 1000000 1
+    ∷ propOf 2 1000000 1
+    ∷ commitOf 0 1000000 0
+    ∷ commitOf 1 1000000 0
+    ∷ []
+
+-- The memory with a replica's lowest view, and with its limit at the counter's end.
+abbrev late : Memory → ℕ → ℕ → Memory
+late m i lowest = update m i (minViewAt becomes lowest ∷ viewLimitAt becomes ceiling ∷ [])
+
+-- Replica 2 leads view 999,999, the last that can be proposed and stored. Replica 0 leads view 1,000,000, which is below no limit: 8. COMMITs
+-- of view 1,000,000 justify view 1,000,001, which replica 1 leads, and which is above every lowest view: 7.
+unfoldable pub lastViews : Case
+lastViews =
+    record {
+      start = late (late (late (holding withBlock ofLastViews) 0 1000000) 1 1000000) 2 999999;
+      calls =
+          plain (Prepare 2 1 (Acc 0))
+          ∷ plain (Store 2 9)
+          ∷ plain (Prepare 0 1 (Acc 1))
+          ∷ plain (Prepare 1 1 (Acc 2))
+          ∷ plain (Prepare 2 1 (Acc 3))
+          ∷ plain (Store 0 4)
+          ∷ plain (Store 0 5)
+          ∷ plain (Store 0 6)
+          ∷ Prepare 0 1 (Commits 1000000 0) on (7 ∷ 8 ∷ [])
+          ∷ Prepare 1 1 (Commits 1000000 0) on (7 ∷ 8 ∷ [])
+          ∷ Prepare 2 1 (Commits 1000000 0) on (7 ∷ 8 ∷ [])
+          ∷ [];
+      expected =
+          accepted 9 0
+          ∷ accepted 10 0
+          ∷ refused counterLimit
+          ∷ refused wrongCertificate
+          ∷ refused wrongCertificate
+          ∷ refused counterLimit
+          ∷ refused wrongCertificate
+          ∷ refused wrongCertificate
+          ∷ refused wrongCertificate
+          ∷ refused wrongView
+          ∷ refused wrongCertificate
+          ∷ [];
+    }
+
+unfoldable pub leaderCases : List Case
+leaderCases = turnGoesRound ∷ turnOfFive ∷ viewZeroAtStore ∷ viewZeroAtPrepare ∷ commitsOfViewZero ∷ lastViews ∷ []

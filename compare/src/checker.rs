@@ -72,8 +72,12 @@ pub fn prepare<R: Rules>(rules: R, m: &mut Memory, replica: u32, block: u32, j: 
     let let_in = rules.has(Mistake::PrepareRecovering) && r.status == RECOVERING;
     need(r.status == LIVE || let_in, WRONG_STATUS)?;
     let (w, base) = justified(rules, m, replica, j)?;
-    let any_leader = rules.has(Mistake::PrepareAnyLeader) || rules.has(Mistake::LeaderNowhere);
-    need(m.leads(replica, w) || any_leader, WRONG_CERTIFICATE)?;
+    let any_leader = rules.has(Mistake::PrepareAnyLeader)
+        || rules.has(Mistake::LeaderNowhere)
+        || rules.has(Mistake::PrepareViewZero) && w == 0;
+    let own_view = rules.has(Mistake::CommitsOwnLeader) && matches!(j, Justification::Commits(_));
+    let led = if own_view { w - 1 } else { w };
+    need(m.leads(rules, replica, led, Mistake::PrepareOldLeader) || any_leader, WRONG_CERTIFICATE)?;
     need(block != 0 || rules.has(Mistake::PrepareBlockZero), WRONG_BLOCK)?;
     need(m.parent(block) == base || rules.has(Mistake::PrepareAnyParent), WRONG_BLOCK)?;
     need(r.min_view == w || rules.has(Mistake::PrepareAboveMinView) && r.min_view < w, WRONG_VIEW)?;
@@ -97,8 +101,10 @@ pub fn store<R: Rules>(rules: R, m: &mut Memory, replica: u32, number: u32) -> A
     need(r.status == LIVE || let_in, WRONG_STATUS)?;
     let Certificate { kind, signer, view, block, .. } = m.certificate(number);
     need(kind == PROP, WRONG_CERTIFICATE)?;
-    let any_leader = rules.has(Mistake::StoreAnyLeader) || rules.has(Mistake::LeaderNowhere);
-    need(m.leads(signer, view) || any_leader, WRONG_CERTIFICATE)?;
+    let any_leader = rules.has(Mistake::StoreAnyLeader)
+        || rules.has(Mistake::LeaderNowhere)
+        || rules.has(Mistake::StoreViewZero) && view == 0;
+    need(m.leads(rules, signer, view, Mistake::StoreOldLeader) || any_leader, WRONG_CERTIFICATE)?;
     need(view >= r.min_view || rules.has(Mistake::StoreBelowMinView), WRONG_VIEW)?;
     need(below_limit(view, r, rules.has(Mistake::StoreLimitInclusive)), COUNTER_LIMIT)?;
     let commit = Certificate { kind: COMMIT, signer: replica, view, block, ..Certificate::default() };

@@ -3,6 +3,7 @@
 use crate::call::*;
 use crate::certificate::Certificate;
 use crate::field::field_text;
+use crate::leader::leader;
 use crate::memory::{header, replica_count, table_length, Memory, Replica, CERTIFICATE_WORDS};
 use crate::mistake::Rules;
 
@@ -83,6 +84,10 @@ impl<R: Rules> Driver<R> {
 
     pub fn n(&self) -> u32 {
         replica_count(self.f())
+    }
+
+    pub fn leader(&self, view: u32) -> Option<u32> {
+        leader(view, self.n())
     }
 
     pub fn issued(&self) -> u32 {

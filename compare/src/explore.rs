@@ -54,6 +54,14 @@ impl<R: Rules> Explorer<R> {
         self.random.below(n)
     }
 
+    /// The view's leader, or now and then any replica.
+    fn mostly_leader(&mut self, view: u32) -> u32 {
+        match self.driver.leader(view) {
+            Some(leader) if !self.random.once_in(8) => leader,
+            _ => self.any_replica(),
+        }
+    }
+
     fn plain(&mut self, code: u32) {
         let replica = self.any_replica();
         self.driver.call(code, replica, 0, &[]);
@@ -108,7 +116,7 @@ impl<R: Rules> Explorer<R> {
             self.driver.issued_where(|c| c.kind == NEWVIEW && c.view == view)
         };
         let list = self.list_of(&same);
-        let leader = if self.random.once_in(8) { self.any_replica() } else { view % self.driver.n() };
+        let leader = self.mostly_leader(view);
         self.driver.call(ACCUMULATE, leader, 0, &list);
     }
 
@@ -132,7 +140,7 @@ impl<R: Rules> Explorer<R> {
         let block = self.child_of(acc.block);
         let leader = match self.random.below(8) {
             0 => self.any_replica(),
-            1 => acc.view % self.driver.n(),
+            1 => self.driver.leader(acc.view).unwrap_or(acc.signer),
             _ => acc.signer,
         };
         self.driver.call(PREPARE_ACC, leader, block, &[number]);
@@ -153,7 +161,7 @@ impl<R: Rules> Explorer<R> {
     fn propose_on_commits(&mut self) {
         let Some((one, list)) = self.commits() else { return };
         let block = self.child_of(one.block);
-        let leader = if self.random.once_in(8) { self.any_replica() } else { (one.view + 1) % self.driver.n() };
+        let leader = self.mostly_leader(one.view + 1);
         self.driver.call(PREPARE_COMMITS, leader, block, &list);
     }
 

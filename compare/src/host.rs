@@ -45,7 +45,7 @@ impl<R: Rules> Driver<R> {
 
     /// The ACC that w's leader makes of the first f+1 voters' NEWVIEWs; the leader enters w itself.
     pub fn gather(&mut self, w: u32, voters: &[u32]) -> Option<u32> {
-        let leader = w % self.n();
+        let leader = self.leader(w)?;
         let quorum = self.f() as usize + 1;
         let promises = self.promises(w, &voters[..quorum])?;
         if !voters[..quorum].contains(&leader) {

@@ -164,10 +164,6 @@ impl Memory<'_> {
         block < self.added()
     }
 
-    pub fn leads(&self, replica: u32, view: u32) -> bool {
-        view % self.replicas() == replica
-    }
-
     pub fn replica(&self, replica: u32) -> Replica {
         let start = HEADER + REPLICA_WORDS * replica as usize;
         Replica::from_words(&self.table[start..start + REPLICA_WORDS])

@@ -77,8 +77,6 @@ mistakes! {
     RecoverNoLimit "recover-no-limit" "recover does not look at the limit" "min_view above the limit is wrong form: nothing is accepted any more";
     // Checker.
     PrepareIgnoresFlag "prepare-ignores-flag" "prepare does not look at its flag" "";
-    PrepareAnyLeader "prepare-any-leader" "prepare does not ask for the leader" "store asks again";
-    LeaderNowhere "leader-nowhere" "neither prepare nor store asks for the leader" "";
     PrepareAnyParent "prepare-any-parent" "prepare does not look at the block's parent" "";
     PrepareBlockZero "prepare-block-zero" "prepare takes block 0" "block 0 stands in every block's ancestry";
     PrepareOtherAcc "prepare-other-acc" "prepare takes another replica's ACC" "an ACC is sound whoever signed it";
@@ -89,12 +87,24 @@ mistakes! {
     ViewLimitInclusive "view-limit-inclusive" "view tests the limit with <= instead of <" "no two proposals come of it, and a promise still binds after the cut";
     StoreChangesNothing "store-changes-nothing" "store issues and changes no word of its replica" "";
     StoreBelowMinView "store-below-min-view" "store takes views below min_view" "";
-    StoreAnyLeader "store-any-leader" "store does not ask that the signer leads" "prepare asked already";
     StoreRecovering "store-recovering" "a recovering replica may store" "min_view rises above the stored view, and replies must match it";
     ViewClearsFlag "view-clears-flag" "view clears the flag at an equal view" "";
     ViewBelowMinView "view-below-min-view" "view may go below min_view" "";
     ViewRecovering "view-recovering" "a recovering replica may ask for a view" "";
     ViewPastCeiling "view-past-ceiling" "a view above the ceiling is refused by the limit, not as out of range" "refused in any case";
+    // Leaders.
+    PrepareAnyLeader "prepare-any-leader" "prepare does not ask for the leader" "store asks again";
+    StoreAnyLeader "store-any-leader" "store does not ask that the signer leads" "prepare asked already";
+    LeaderNowhere "leader-nowhere" "neither prepare nor store asks for the leader" "";
+    PrepareOldLeader "prepare-old-leader" "prepare asks for document 01's leader, v mod n" "store takes no proposal then: nothing is decided";
+    StoreOldLeader "store-old-leader" "store asks for document 01's leader, v mod n" "store takes no proposal then: nothing is decided";
+    OldLeader "old-leader" "prepare and store ask for document 01's leader, v mod n" "each view still has one leader";
+    CommitsOwnLeader "commits-own-leader" "prepare on commits asks for the leader of their own view, not of the next" "store asks again";
+    ViewZeroFirst "view-zero-first" "replica 0 leads view 0" "no list of calls reaches view 0";
+    ViewZeroLast "view-zero-last" "the last replica leads view 0" "no list of calls reaches view 0";
+    ViewZeroWraps "view-zero-wraps" "v-1 wraps: replica 4,294,967,295 mod n leads view 0" "no list of calls reaches view 0";
+    PrepareViewZero "prepare-view-zero" "prepare asks for no leader of view 0: another refusal follows" "no list of calls reaches view 0";
+    StoreViewZero "store-view-zero" "store asks for no leader of view 0: 7 follows" "no list of calls reaches view 0";
     // Lists.
     AccumulateTakesLast "accumulate-takes-last" "accumulate takes the last message instead of the greatest of-view" "";
     AccumulateTieLast "accumulate-tie-last" "accumulate takes the last of equal of-views" "equal of-views name one block";

@@ -106,13 +106,22 @@ impl<R: Rules> Program<R> {
         }
         let opening = code == OPEN && (1..=MAX_F).contains(&replica);
         let f = if opening { replica } else { self.f };
-        let lent = if f == 0 { 0 } else { table_length(f) as usize };
-        let mut memory = Memory { table: &mut self.table[..lent], log: &mut self.log, blocks: &mut self.blocks };
-        let outcome = call(self.rules, &mut memory, code, replica, number, list);
+        let outcome = call(self.rules, &mut self.lent(f), code, replica, number, list);
         if opening && outcome.is_accepted() {
             self.f = f;
         }
         outcome
+    }
+
+    /// With a table of the length for f; without one where f is 0.
+    fn lent(&mut self, f: u32) -> Memory<'_> {
+        let words = if f == 0 { 0 } else { table_length(f) as usize };
+        Memory { table: &mut self.table[..words], log: &mut self.log, blocks: &mut self.blocks }
+    }
+
+    /// The memory as the lines so far leave it.
+    pub fn memory(&mut self) -> Memory<'_> {
+        self.lent(self.f)
     }
 }
 

@@ -1,6 +1,6 @@
-//! The cases that document 01 marks P, the one it marks "run only", and the lengths it allows; certificates found and
-//! added, by document 02's #102. Codes, numbers and answers are literal, as the documents have them: derived from the
-//! library's constants they would hold for any others.
+//! The cases that document 01 marks P, the one it marks "run only", and the lengths it allows, with the leaders of
+//! document 02's #103; certificates found and added, by its #102. Codes, numbers and answers are literal, as the
+//! documents have them: derived from the library's constants they would hold for any others.
 
 use judge::call::{call, Outcome};
 use judge::memory::{replica_word, table_length, Memory, CERTIFICATE_WORDS, HEADER, MAX_F, REPLICA_WORDS};
@@ -44,19 +44,37 @@ impl Yard {
         &mut self.table[HEADER + REPLICA_WORDS * replica + word]
     }
 
-    /// Document 01's script after its opening, each answer checked.
+    /// Document 01's script after its opening, each answer checked. Document 02: "In 01's script prepare and
+    /// accumulate move to box 0".
     fn worked() -> Yard {
+        let mut yard = Yard::proposed();
+        yard.rows(&[
+            (4, 0, 3, &[], (0, 4, 0)),
+            (8, 1, 0, &[], (0, 1, 64)),
+            (4, 1, 3, &[], (4, 0, 0)),
+            (4, 2, 3, &[], (0, 5, 0)),
+            (7, 0, 0, &[4, 5], (0, 1, 1)),
+        ]);
+        yard
+    }
+
+    /// The script's part up to the proposal.
+    fn proposed() -> Yard {
         let mut yard = Yard::new(1);
-        assert_eq!(yard.call(5, 0, 1, &[]), (0, 0, 0));
-        assert_eq!(yard.call(5, 1, 1, &[]), (0, 1, 0));
-        assert_eq!(yard.call(6, 1, 0, &[0, 1]), (0, 2, 0));
-        assert_eq!(yard.call(1, 0, 0, &[]), (0, 1, 0));
-        assert_eq!(yard.call(2, 1, 1, &[2]), (0, 3, 0));
-        assert_eq!(yard.call(4, 0, 3, &[]), (0, 4, 0));
-        assert_eq!(yard.call(8, 1, 0, &[]), (0, 1, 64));
-        assert_eq!(yard.call(4, 1, 3, &[]), (4, 0, 0));
-        assert_eq!(yard.call(4, 2, 3, &[]), (0, 5, 0));
-        assert_eq!(yard.call(7, 0, 0, &[4, 5]), (0, 1, 1));
+        yard.rows(&[
+            (5, 0, 1, &[], (0, 0, 0)),
+            (5, 1, 1, &[], (0, 1, 0)),
+            (6, 0, 0, &[0, 1], (0, 2, 0)),
+            (1, 0, 0, &[], (0, 1, 0)),
+            (2, 0, 1, &[2], (0, 3, 0)),
+        ]);
+        yard
+    }
+
+    /// No power cut: boxes 0 and 1 have committed block 1 in view 1, and box 1 leads view 2. Block 2 is on block 1.
+    fn committed() -> Yard {
+        let mut yard = Yard::proposed();
+        yard.rows(&[(4, 0, 3, &[], (0, 4, 0)), (4, 1, 3, &[], (0, 5, 0)), (1, 0, 1, &[], (0, 2, 0))]);
         yard
     }
 }
@@ -108,9 +126,13 @@ fn a_fresh_limit_of_64() {
 
 #[test]
 fn one_commit_twice() {
-    let mut yard = Yard::worked();
-    assert_eq!(yard.call(7, 0, 0, &[4, 4]), (5, 0, 0));
-    assert_eq!(yard.call(3, 2, 1, &[4, 4]), (5, 0, 0));
+    let rows: [Row; 4] = [
+        (7, 0, 0, &[4, 4], (5, 0, 0)),
+        (3, 1, 2, &[4, 4], (5, 0, 0)),
+        (7, 0, 0, &[4, 5], (0, 1, 1)),
+        (3, 1, 2, &[4, 5], (0, 6, 0)),
+    ];
+    Yard::committed().rows(&rows);
 }
 
 #[test]
@@ -118,21 +140,14 @@ fn block_0_on_block_0() {
     let mut yard = Yard::new(1);
     assert_eq!(yard.call(5, 0, 1, &[]), (0, 0, 0));
     assert_eq!(yard.call(5, 1, 1, &[]), (0, 1, 0));
-    assert_eq!(yard.call(6, 1, 0, &[0, 1]), (0, 2, 0));
-    assert_eq!(yard.call(2, 1, 0, &[2]), (6, 0, 0));
+    assert_eq!(yard.call(6, 0, 0, &[0, 1]), (0, 2, 0));
+    assert_eq!(yard.call(2, 0, 0, &[2]), (6, 0, 0));
 }
 
 #[test]
 fn a_second_prepare_in_a_view() {
-    let mut yard = Yard::new(1);
-    for (code, replica, number, list) in
-        [(5, 0, 1, &[][..]), (5, 1, 1, &[]), (6, 1, 0, &[0, 1]), (1, 0, 0, &[]), (1, 0, 0, &[])]
-    {
-        assert_eq!(yard.call(code, replica, number, list).0, 0);
-    }
-    assert_eq!(yard.call(2, 1, 1, &[2]), (0, 3, 0));
-    assert_eq!(yard.call(2, 1, 2, &[2]), (7, 0, 0));
-    assert_eq!(yard.call(2, 1, 1, &[2]), (7, 0, 0));
+    let rows = [(1, 0, 0, &[][..], (0, 2, 0)), (2, 0, 2, &[2], (7, 0, 0)), (2, 0, 1, &[2], (7, 0, 0))];
+    Yard::proposed().rows(&rows);
 }
 
 #[test]
@@ -185,9 +200,9 @@ fn the_same_line_may_issue_another_certificate() {
         (9, 1, 0, &[], (0, 128, 0)),
         (5, 0, 64, &[], (0, 3, 0)),
         (5, 1, 64, &[], (0, 4, 0)),
-        (6, 1, 0, &[3, 4], (0, 5, 0)),
+        (6, 0, 0, &[3, 4], (0, 5, 0)),
         (1, 0, 0, &[], (0, 1, 0)),
-        (2, 1, 1, &[5], (0, 6, 0)),
+        (2, 0, 1, &[5], (0, 6, 0)),
         (4, 0, 6, &[], (0, 7, 0)),
         (11, 0, 0, &[], (0, 8, 0)),
         (11, 0, 0, &[], (0, 8, 1)),
@@ -211,24 +226,24 @@ fn a_second_store_is_refused() {
 
 #[test]
 fn a_prepare_finds_its_certificate_where_the_flag_is_lowered_by_hand() {
-    let mut yard = Yard::worked();
-    yard.rows(&[(1, 0, 1, &[], (0, 2, 0)), (3, 2, 2, &[4, 5], (0, 6, 0)), (3, 2, 2, &[4, 5], (7, 0, 0))]);
+    let mut yard = Yard::committed();
+    yard.rows(&[(3, 1, 2, &[4, 5], (0, 6, 0)), (3, 1, 2, &[4, 5], (7, 0, 0))]);
     let (table, log) = (yard.table.clone(), yard.log.clone());
     for list in [[4, 5], [5, 4]] {
-        *yard.word(2, replica_word::FLAG) = 0;
-        yard.rows(&[(3, 2, 2, &list, (0, 6, 1)), (3, 2, 2, &list, (7, 0, 0))]);
+        *yard.word(1, replica_word::FLAG) = 0;
+        yard.rows(&[(3, 1, 2, &list, (0, 6, 1)), (3, 1, 2, &list, (7, 0, 0))]);
         assert!(yard.table == table && yard.log == log);
     }
     let mut yard = Yard::with_slots(1, 4, 2);
     yard.rows(&[
         (5, 0, 1, &[], (0, 0, 0)),
         (5, 1, 1, &[], (0, 1, 0)),
-        (6, 1, 0, &[0, 1], (0, 2, 0)),
+        (6, 0, 0, &[0, 1], (0, 2, 0)),
         (1, 0, 0, &[], (0, 1, 0)),
-        (2, 1, 1, &[2], (0, 3, 0)),
+        (2, 0, 1, &[2], (0, 3, 0)),
     ]);
-    *yard.word(1, replica_word::FLAG) = 0;
-    yard.rows(&[(2, 1, 1, &[2], (0, 3, 1)), (2, 1, 1, &[2], (7, 0, 0)), (4, 0, 3, &[], (9, 0, 0))]);
+    *yard.word(0, replica_word::FLAG) = 0;
+    yard.rows(&[(2, 0, 1, &[2], (0, 3, 1)), (2, 0, 1, &[2], (7, 0, 0)), (4, 0, 3, &[], (9, 0, 0))]);
 }
 
 #[test]

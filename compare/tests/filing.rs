@@ -58,7 +58,7 @@ fn replay(lines: &[Line]) -> (u32, u32) {
 #[test]
 fn found_exactly_if_the_count_stays() {
     let mut scripts = vec![full_log(Random::new(1), 1), many_boots(Random::new(1), 1)];
-    for seed in 1..=16 {
+    for seed in 1..=24 {
         let f = 1 + seed as u32 % 3;
         scripts.extend([hostile(Random::new(seed), f), progress(Random::new(seed), f, 200, true)]);
     }

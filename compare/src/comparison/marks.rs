@@ -1,12 +1,12 @@
 //! What a script's line can show that the generators are meant to reach.
 
 use crate::call::*;
-use crate::certificate::{ADDED, FOUND};
+use crate::certificate::{Certificate, ADDED, FOUND};
 use crate::field::{read_number, COLUMNS, NO_NUMBER};
 use crate::memory::{CEILING, LAST_STEP_BOOT};
 use crate::mistake::Correct;
 use crate::refusal::*;
-use crate::script::{run, ANSWER_BYTES, CERTIFICATE_SLOTS, INPUT_CHUNK, MAX_LINE_BYTES};
+use crate::script::{Program, CERTIFICATE_SLOTS, INPUT_CHUNK, MAX_LINE_BYTES};
 use std::collections::HashSet;
 
 /// A line and what it gives.
@@ -22,6 +22,17 @@ pub struct Seen<'a> {
     again: bool,
     /// Before it, no slot of the log is free.
     full: bool,
+    /// Of an accepted prepare.
+    proposal: Option<Proposal>,
+}
+
+struct Proposal {
+    view: u32,
+    /// Its leader, one of n.
+    replica: u32,
+    n: u32,
+    /// How many views in a row have a proposal, up to this one.
+    turns: u32,
 }
 
 /// What the lines since the last accepted opening leave.
@@ -29,6 +40,8 @@ pub struct Seen<'a> {
 struct Ledger<'a> {
     accepted: HashSet<&'a [u8]>,
     issued: usize,
+    /// View and turns of the last proposal.
+    last: (u32, u32),
 }
 
 impl<'a> Ledger<'a> {
@@ -40,6 +53,14 @@ impl<'a> Ledger<'a> {
             self.accepted.insert(text);
         }
         self.issued += usize::from(outcome.filed(code) == Some(ADDED));
+    }
+
+    fn proposal(&mut self, program: &mut Program<Correct>, prop: u32) -> Proposal {
+        let memory = program.memory();
+        let Certificate { view, signer: replica, .. } = memory.certificate(prop);
+        let turns = if view == self.last.0 + 1 { self.last.1 + 1 } else { 1 };
+        self.last = (view, turns);
+        Proposal { view, replica, n: memory.replicas(), turns }
     }
 }
 
@@ -66,6 +87,10 @@ impl Seen<'_> {
         self.code == code && self.outcome.filed(code) == Some(told)
     }
 
+    fn proposes(&self, test: fn(&Proposal) -> bool) -> bool {
+        self.proposal.as_ref().is_some_and(test)
+    }
+
     fn found_in_full_log(&self) -> bool {
         self.full && self.outcome.filed(self.code) == Some(FOUND)
     }
@@ -81,6 +106,11 @@ type Mark = (&'static str, fn(&Seen) -> bool);
 pub const MARKS: &[Mark] = &[
     ("decisions", |seen| seen.is(DECIDE, ACCEPTED)),
     ("proposals on commits", |seen| seen.is(PREPARE_COMMITS, ACCEPTED)),
+    ("proposals of view 1, by replica 0", |seen| seen.proposes(|made| made.view == 1 && made.replica == 0)),
+    ("proposals by the last replica", |seen| seen.proposes(|made| made.replica + 1 == made.n)),
+    ("proposals by replica 0 again, after a whole round of turns", |seen| {
+        seen.proposes(|made| made.replica == 0 && made.turns > made.n)
+    }),
     ("power cuts", |seen| seen.is(REBOOT, ACCEPTED)),
     ("recoveries", |seen| seen.is(RECOVER, ACCEPTED)),
     ("wrong lists", |seen| seen.wrong_list()),
@@ -133,18 +163,28 @@ pub const MARKS: &[Mark] = &[
 
 /// Shows every line of a script.
 pub fn seen_lines(script: &[u8], mut show: impl FnMut(Seen)) {
-    let out = run(Correct, script);
+    let mut program = Program::new(Correct);
     let mut ledger = Ledger::default();
     let mut start = 0;
-    for (line, answer) in script.split_inclusive(|&byte| byte == b'\n').zip(out.chunks(ANSWER_BYTES)) {
+    for line in script.split_inclusive(|&byte| byte == b'\n') {
         let text = line.strip_suffix(b"\n").unwrap_or(line);
         let fed = text.len() < line.len();
-        let number = |field: usize| read_number(Correct, &answer[COLUMNS * field..COLUMNS * (field + 1)]);
-        let outcome = Outcome { answer: number(1), first: number(2), second: number(3) };
+        let outcome = answered(&mut program, line);
         let code = text.get(..COLUMNS).map_or(NO_NUMBER, |field| read_number(Correct, field));
         let (again, full) = (ledger.accepted.contains(text), ledger.issued == CERTIFICATE_SLOTS);
-        show(Seen { start, text, fed, code, outcome, again, full });
+        let proposes = outcome.is_accepted() && [PREPARE_ACC, PREPARE_COMMITS].contains(&code);
+        let proposal = proposes.then(|| ledger.proposal(&mut program, outcome.first));
+        show(Seen { start, text, fed, code, outcome, again, full, proposal });
         ledger.note(text, code, outcome);
         start += line.len();
     }
+}
+
+/// What the program gives for one more line; only the last may lack its line feed.
+fn answered(program: &mut Program<Correct>, line: &[u8]) -> Outcome {
+    let mut out = Vec::new();
+    program.feed(line, &mut out);
+    program.finish(&mut out);
+    let number = |field: usize| read_number(Correct, &out[COLUMNS * field..COLUMNS * (field + 1)]);
+    Outcome { answer: number(1), first: number(2), second: number(3) }
 }

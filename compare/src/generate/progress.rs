@@ -72,7 +72,7 @@ impl Progress {
     /// The next view's leader goes by the commits, without any NEWVIEW.
     fn chain(&mut self) -> Option<()> {
         let parent = self.hosts.driver.certificate(self.commits[0]).block;
-        let leader = (self.view + 1) % self.hosts.driver.n();
+        let leader = self.hosts.driver.leader(self.view + 1)?;
         let commits = std::mem::take(&mut self.commits);
         if self.hosts.driver.replica(leader).min_view != self.view + 1 {
             return Some(());
@@ -105,7 +105,7 @@ impl Progress {
         let (quorum, n) = (self.hosts.driver.f() as usize + 1, self.hosts.driver.n());
         let count = self.hosts.random.within(quorum as u32, n) as usize;
         let mut storing = self.some_replicas(count, self.asleep);
-        let next = (self.view + 1) % n;
+        let next = self.hosts.driver.leader(self.view + 1)?;
         if !storing.contains(&next) && Some(next) != self.asleep {
             storing[0] = next;
         }

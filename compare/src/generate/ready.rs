@@ -3,6 +3,7 @@
 use super::memory::{any_view, Sample};
 use crate::call::*;
 use crate::certificate::*;
+use crate::leader::leader;
 use crate::memory::{header, Replica, CEILING, FIRST_LIMIT, LIVE, RECOVERING};
 use crate::random::Random;
 
@@ -48,11 +49,30 @@ fn live_at(random: &mut Random, sample: &mut Sample, w: u32) {
     set_caller(sample, r);
 }
 
+/// Live and about to prepare in view w; now and then a view off, or with its flag set.
+fn proposing_at(random: &mut Random, sample: &mut Sample, w: u32) {
+    let near = random.pick(&[w.saturating_sub(1), w + 1]);
+    let low = if random.once_in(16) { near } else { w };
+    live_at(random, sample, low);
+    let mut r = caller(sample);
+    r.flag = u32::from(random.once_in(16));
+    set_caller(sample, r);
+}
+
 /// Different signers in any order.
 fn signers(random: &mut Random, sample: &Sample, without: Option<u32>) -> Vec<u32> {
     let mut signers: Vec<u32> = (0..sample.n()).filter(|&signer| Some(signer) != without).collect();
     random.shuffle(&mut signers);
     signers
+}
+
+/// The view's leader; now and then, and for view 0, which has none, the first replica, the last or any.
+fn proposer(random: &mut Random, n: u32, view: u32) -> u32 {
+    let any = random.below(n);
+    match leader(view, n) {
+        Some(leader) if !random.once_in(12) => leader,
+        _ => random.pick(&[0, n - 1, any]),
+    }
 }
 
 /// A block on a base, made so where there is one above it.
@@ -68,13 +88,13 @@ fn child(random: &mut Random, sample: &mut Sample, base: u32) -> u32 {
 
 fn ready_for_acc(random: &mut Random, sample: &mut Sample, place: u32) {
     let (view, block) = (any_view(random), random.below(sample.table[header::ADDED]));
-    sample.line.replica = view % sample.n();
+    sample.line.replica = proposer(random, sample.n(), view);
     let of_view = any_view(random);
     let acc = Certificate { kind: ACC, signer: sample.line.replica, view, block, of_view, ..Certificate::default() };
     sample.set_certificate(place, acc);
     sample.line.list = vec![place];
     sample.line.number = child(random, sample, block);
-    live_at(random, sample, view);
+    proposing_at(random, sample, view);
 }
 
 fn ready_for_commits(random: &mut Random, sample: &mut Sample, places: Vec<u32>) {
@@ -85,9 +105,9 @@ fn ready_for_commits(random: &mut Random, sample: &mut Sample, places: Vec<u32>)
     }
     sample.line.list = places;
     if sample.line.code == PREPARE_COMMITS {
-        sample.line.replica = (view + 1) % sample.n();
+        sample.line.replica = proposer(random, sample.n(), view + 1);
         sample.line.number = child(random, sample, block);
-        live_at(random, sample, view + 1);
+        proposing_at(random, sample, view + 1);
     } else {
         let mut r = caller(sample);
         r.decided_view = random.pick(&[0, view, view.saturating_sub(1), (view + 1).min(CEILING)]);
@@ -97,11 +117,12 @@ fn ready_for_commits(random: &mut Random, sample: &mut Sample, places: Vec<u32>)
 
 fn ready_for_store(random: &mut Random, sample: &mut Sample, place: u32) {
     let (view, block) = (any_view(random), random.below(sample.table[header::ADDED]));
-    let signer = view % sample.n();
+    let signer = proposer(random, sample.n(), view);
     sample.set_certificate(place, Certificate { kind: PROP, signer, view, block, ..Certificate::default() });
     sample.line.number = place;
+    let above = u32::from(random.once_in(8));
     let below = random.pick(&[0, 0, 1, 2]);
-    live_at(random, sample, view.saturating_sub(below));
+    live_at(random, sample, (view + above).saturating_sub(below));
 }
 
 fn ready_for_view(random: &mut Random, sample: &mut Sample) {

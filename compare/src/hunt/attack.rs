@@ -57,7 +57,7 @@ impl Attack {
         let n = self.driver.n();
         let leader = self.random.pick(leaders);
         let start = from + self.random.below(3);
-        (start..start + n).find(|view| view % n == leader).unwrap_or(start)
+        (start..start + n).find(|&view| self.driver.leader(view) == Some(leader)).unwrap_or(start)
     }
 
     /// A view above every replica's min_view, led by one of these.

@@ -19,7 +19,8 @@ impl Attack {
         let view = self.later_view(&self.late.clone());
         let promises = self.driver.promises(view, &self.late.clone())?;
         let list = vec![promises[0]; quorum.len()];
-        let acc = self.driver.accepted(ACCUMULATE, view % self.driver.n(), 0, &list)?;
+        let leader = self.driver.leader(view)?;
+        let acc = self.driver.accepted(ACCUMULATE, leader, 0, &list)?;
         self.decide_on(acc, &quorum)
     }
 
@@ -32,7 +33,8 @@ impl Attack {
         let view = self.later_view(&self.late.clone());
         let mut list = self.driver.promises(view, &self.late.clone())?;
         list.push(old);
-        let acc = self.driver.accepted(ACCUMULATE, view % self.driver.n(), 0, &list)?;
+        let leader = self.driver.leader(view)?;
+        let acc = self.driver.accepted(ACCUMULATE, leader, 0, &list)?;
         self.decide_on(acc, &quorum)
     }
 
@@ -42,7 +44,7 @@ impl Attack {
         let view = self.view_led_by(&quorum, 1);
         let acc = self.driver.gather(view, &quorum)?;
         let (prop, _) = self.driver.propose_on(acc)?;
-        let leader = view % self.driver.n();
+        let leader = self.driver.leader(view)?;
         let lone = *quorum.iter().find(|&&replica| replica != leader)?;
         let commit = self.driver.commit(prop, &[lone])?[0];
         let mut list = vec![commit; quorum.len()];
@@ -75,7 +77,8 @@ impl Attack {
     fn proposed_at(&mut self, view: u32, voters: &[u32], block: Option<u32>) -> Option<(u32, u32)> {
         let acc = self.driver.gather(view, voters)?;
         let Some(block) = block else { return self.driver.propose_on(acc) };
-        let prop = self.driver.accepted(PREPARE_ACC, view % self.driver.n(), block, &[acc])?;
+        let leader = self.driver.leader(view)?;
+        let prop = self.driver.accepted(PREPARE_ACC, leader, block, &[acc])?;
         Some((prop, block))
     }
 

@@ -26,7 +26,7 @@ impl Attack {
         let view = self.view_led_by(&voters, FIRST_LIMIT);
         let acc = self.driver.gather(view, &voters)?;
         let (one, _) = self.driver.propose_on(acc)?;
-        let leader = view % self.driver.n();
+        let leader = self.driver.leader(view)?;
         match self.random.below(3) {
             0 => self.driver.accepted(VIEW, leader, view, &[])?,
             1 => self.driver.accepted(REPLY_TO, leader, req, &[])?,
@@ -42,7 +42,7 @@ impl Attack {
         let view = self.view_led_by(&voters, 1);
         let acc = self.driver.gather(view, &voters)?;
         let (one, _) = self.driver.propose_on(acc)?;
-        let leader = view % self.driver.n();
+        let leader = self.driver.leader(view)?;
         self.driver.accepted(REBOOT, leader, 0, &[])?;
         let others: Vec<u32> = (0..self.driver.n()).filter(|&replica| replica != leader).collect();
         self.driver.restore(leader, &others)?;
@@ -54,7 +54,7 @@ impl Attack {
     pub fn proposes_at_the_limit(&mut self) -> Option<()> {
         let n = self.driver.n();
         let view = COUNTER_STEPS[0] * self.random.within(1, 6);
-        let leader = view % n;
+        let leader = self.driver.leader(view)?;
         let others: Vec<u32> = (0..n).filter(|&replica| replica != leader).collect();
         let asking = self.random.pick(&others);
         self.driver.reserve_past(asking, view - 1)?;
@@ -102,7 +102,7 @@ impl Attack {
         let voters = self.first_quorum();
         let view = self.view_led_by(&voters, 1);
         let promises = self.driver.promises(view, &voters)?;
-        let leader = view % self.driver.n();
+        let leader = self.driver.leader(view)?;
         let other = *voters.iter().find(|&&voter| voter != leader)?;
         let acc = self.driver.accepted(ACCUMULATE, other, 0, &promises)?;
         let block = self.driver.accepted(BLOCK, 0, 0, &[])?;

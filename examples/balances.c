@@ -29,10 +29,10 @@ static uint32_t call(uint32_t code, uint32_t replica, uint32_t number, const uin
     return first;
 }
 
-/* Replicas 0 and 2 store a proposal, and replica 0 decides by their two COMMITs: the block that is agreed. */
+/* Replicas 0 and 1 store a proposal, and replica 0 decides by their two COMMITs: the block that is agreed. */
 static uint32_t agree(uint32_t proposal, uint32_t commits[2]) {
     commits[0] = call(STORE, 0, proposal, NULL, 0);
-    commits[1] = call(STORE, 2, proposal, NULL, 0);
+    commits[1] = call(STORE, 1, proposal, NULL, 0);
     return call(DECIDE, 0, 0, commits, 2);
 }
 
@@ -59,12 +59,12 @@ int main(void) {
     call(OPEN, 1, 0, NULL, 0);
     views[0] = call(VIEW, 0, 1, NULL, 0);
     views[1] = call(VIEW, 1, 1, NULL, 0);
-    acc = call(ACCUMULATE, 1, 0, views, 2);
+    acc = call(ACCUMULATE, 0, 0, views, 2);
     first = call(BLOCK, 0, 0, NULL, 0);
-    first = agree(call(PREPARE, 1, first, &acc, 1), commits);
+    first = agree(call(PREPARE, 0, first, &acc, 1), commits);
     second = call(BLOCK, 0, first, NULL, 0);
     call(BLOCK, 0, first, NULL, 0); /* the rival: it is added, and never decided */
-    second = agree(call(PREPARE_ON_COMMITS, 2, second, commits, 2), commits);
+    second = agree(call(PREPARE_ON_COMMITS, 1, second, commits, 2), commits);
     print_balances(first);
     print_balances(second);
 

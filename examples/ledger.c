@@ -38,11 +38,11 @@ int main(void) {
     call(VIEW, 0, 1, NULL, 0, 0, 0, YARD_ADDED);
     call(VIEW, 0, 1, NULL, 0, 0, 0, YARD_FOUND);
     call(VIEW, 1, 1, NULL, 0, 0, 1, YARD_ADDED);
-    call(ACCUMULATE, 1, 0, views, 2, 0, 2, YARD_ADDED);
-    call(ACCUMULATE, 1, 0, views, 2, 0, 2, YARD_FOUND);
+    call(ACCUMULATE, 0, 0, views, 2, 0, 2, YARD_ADDED);
+    call(ACCUMULATE, 0, 0, views, 2, 0, 2, YARD_FOUND);
     call(BLOCK, 0, 0, NULL, 0, 0, 1, 0);
-    call(PREPARE, 1, 1, acc, 1, 0, 3, YARD_ADDED);
-    call(PREPARE, 1, 1, acc, 1, 7, 0, 0);
+    call(PREPARE, 0, 1, acc, 1, 0, 3, YARD_ADDED);
+    call(PREPARE, 0, 1, acc, 1, 7, 0, 0);
     call(STORE, 0, 3, NULL, 0, 0, 4, YARD_ADDED);
     call(STORE, 0, 3, NULL, 0, 7, 0, 0);
     call(REBOOT, 1, 0, NULL, 0, 0, 1, 64);

@@ -43,6 +43,9 @@ uint32_t yard_write_number(uint32_t number, uint8_t *bytes, size_t length);
  * refusals: 1 wrong form or lengths, 2 out of range, 3 no such certificate or block, 4 wrong status, 5 wrong certificates or not the
  * leader, 6 wrong block, 7 wrong view, 8 the counter must be moved or is at its end, 9 no room.
  *
+ * Replicas propose in turn: among n, replica (v - 1) mod n leads view v, so replica 0 leads view 1; view 0 has no leader. The view of a
+ * prepare is its ACC's, or the one above its commits'; so on commits of view v it is the turn of replica v mod n.
+ *
  * Both values are always written, as 0 and 0 where the call is refused. A call that issues a certificate (codes 2 to 6, 10 and 11) gives
  * its number, and YARD_ADDED; or YARD_FOUND where one of the same words was issued before: then the number is that one's, and the log stays
  * as it was. The other calls give: open the number of replicas and 0, block its number and 0, decide the block and its view, reboot the

@@ -13,7 +13,7 @@ use Rattle.field.proofs.Counts.{count-is-least}
 use Rattle.field.proofs.Theorems.{written-reads-back, read-writes-back, read-is-bounded}
 use Rattle.protocol.proofs.Agreement.{agreement, words-match-history, only-appended, would-agree}
 use Rattle.ledger.proofs.Theorems.{panel-shows-history, panel-never-falls}
-use Rattle.protocol.proofs.Leaders.{leaders-take-turns, view-zero-has-no-leader}
+use Rattle.protocol.proofs.Leaders.{only-leaders-propose, view-zero-has-no-leader}
 use Rattle.protocol.proofs.Repeats.{found-is-first-equal, second-value-tells-repeat, repeat-changes-nothing, proposals-never-repeat}
 use Rattle.protocol.proofs.Repeats.{commits-never-repeat}
 use Rattle.protocol.proofs.MadeAgain.{repeat-at-once}
@@ -57,7 +57,7 @@ proved =
       programAgrees = program-agrees;
       workedScriptTells = worked-script-tells;
       workedScriptOpens = worked-script-opens;
-      leadersTakeTurns = leaders-take-turns;
+      onlyLeadersPropose = only-leaders-propose;
       viewZeroHasNoLeader = view-zero-has-no-leader;
       foundIsFirstEqual = found-is-first-equal;
       secondValueTellsRepeat = second-value-tells-repeat;

@@ -2,7 +2,7 @@
 -- proof of each. A proof that is missing, or that asks more than its statement does, fails this crate; the gate holds that no statement
 -- of any specs/ is missing here.
 use Rattle.protocol.specs.Theorems.{RefusedChangesNothing, AcceptedLeavesForm, OnlyNamedChange, LengthsStay, PastCountsUnread, LowestWins}
-use Rattle.protocol.specs.Theorems.{OpeningTestsFaultsFirst, ValuesFit, LeadersTakeTurns, ViewZeroHasNoLeader}
+use Rattle.protocol.specs.Theorems.{OpeningTestsFaultsFirst, ValuesFit, OnlyLeadersPropose, ViewZeroHasNoLeader}
 use Rattle.script.specs.Theorems.{RefusedLeavesSession, BeforeOpening, AnswersPrintable}
 use Rattle.protocol.specs.Cases.{CasesHold}
 use Rattle.stream.specs.Theorems.{ChunksDoNotMatter, TurnsGiveOutput}
@@ -85,7 +85,7 @@ pub record Claims : Type 0 where
   pub workedScriptOpens : WorkedScriptOpens
   -- ---- Leaders (document 02, #103).
   -- an accepted Prepare is by the leader of its view, replica v mod n on commits of view v; an accepted Store is of a leader's proposal
-  pub leadersTakeTurns : LeadersTakeTurns
+  pub onlyLeadersPropose : OnlyLeadersPropose
   -- a Prepare on an ACC of view 0 and a Store of a PROP of view 0 return 5, unless a lower number is due
   pub viewZeroHasNoLeader : ViewZeroHasNoLeader
   -- ---- Repeats (document 02, #102).

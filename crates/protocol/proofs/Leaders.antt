@@ -4,7 +4,6 @@ use mathlib.Core.Path.{_≡_, refl, _∙_}
 use mathlib.Core.Bool.{true, false}
 use mathlib.Core.List.{List}
 use native.Mathlib.Omega.{arith}
-use Rattle.protocol.specs.declared.Call.{Call}
 use Rattle.protocol.specs.declared.Call.the-variants.{Prepare, Store}
 use Rattle.protocol.specs.declared.Justification.{Justification}
 use Rattle.protocol.specs.declared.Justification.the-variants.{Acc, Commits}
@@ -13,10 +12,10 @@ use Rattle.protocol.specs.Leader.{leads}
 use Rattle.protocol.specs.Quorum.{every, certificatesOf}
 use Rattle.protocol.specs.Calls.{numbersOf, proposalView, issuing, prepare, store}
 use Rattle.protocol.specs.Runs.{ruleOf, step}
-use Rattle.protocol.specs.Theorems.{Accepted, LedBy, LeadersTakeTurns, ViewZeroHasNoLeader}
+use Rattle.protocol.specs.Theorems.{Accepted, LedBy, OnlyLeadersPropose, ViewZeroHasNoLeader}
 use Rattle.protocol.proofs.Booleans.{tests}
-use Rattle.protocol.proofs.Needs.{Holds, holds, fails, either-fails, returned, no-refusal}
-use Rattle.protocol.proofs.Rules.{needs-hold}
+use Rattle.protocol.proofs.Needs.{holds, fails, either-fails, returned}
+use Rattle.protocol.proofs.Rules.{accepted-needs}
 
 led-by : (m : Memory) (view i : ℕ) → leads (faultBound m) view i ≡ true → LedBy m view i
 unfolding leads
@@ -26,18 +25,14 @@ led-by m (suc before) i e = record { before = before; next = omega arith; leader
 next-leader : (m : Memory) (v i : ℕ) → LedBy m (v + 1) i → i ≡ v % replicaCount (faultBound m)
 next-leader m v i led = let e : led .before ≡ v = omega arith in rw e at (led .leader)
 
-accepted-needs : (m : Memory) (call : Call) (list : List ℕ) → Accepted (step m call list) → Holds (ruleOf m call list .needs)
-unfolding step
-accepted-needs m call list e = needs-hold m call list (no-refusal m (ruleOf m call list) e)
-
 proposer : (m : Memory) (i b : ℕ) (j : Justification) (list : List ℕ) → Accepted (step m (Prepare i b j) list)
     → LedBy m (proposalView j (certificatesOf m (numbersOf j list))) i
 unfolding ruleOf issuing prepare
 proposer m i b j list e = led-by m _ i (accepted-needs m (Prepare i b j) list e .1 .1 .1 .1 .1 .1 .1 .0)
 
-pub leaders-take-turns : LeadersTakeTurns
-unfolding LeadersTakeTurns ruleOf issuing store
-leaders-take-turns m =
+pub only-leaders-propose : OnlyLeadersPropose
+unfolding OnlyLeadersPropose ruleOf issuing store
+only-leaders-propose m =
     record {
       onAcc = λ i b number list e. proposer m i b (Acc number) list e;
       onCommits = λ i b v c list e. next-leader m v i (proposer m i b (Commits v c) list e);

@@ -18,8 +18,8 @@ use Rattle.protocol.specs.Calls.{reserve, request, reply, recover}
 use Rattle.protocol.specs.Runs.{ruleOf, step}
 use Rattle.protocol.specs.Theorems.{AcceptedLeavesForm}
 use Rattle.protocol.proofs.Booleans.{tests, by-cond, or-false, each, all-hold}
-use Rattle.protocol.proofs.Needs.{Holds, no-refusal, accepted-after}
-use Rattle.protocol.proofs.Rules.{needs-hold}
+use Rattle.protocol.proofs.Needs.{Holds, accepted-after}
+use Rattle.protocol.proofs.Rules.{accepted-needs}
 use Rattle.protocol.proofs.Formed.{Formed, formed, form}
 use Rattle.protocol.proofs.Keeps.{Suits, update-keeps, block-keeps, issuing-needs, issuing-keeps}
 use Rattle.protocol.proofs.Lists.{all-named, first-named, picked}
@@ -171,5 +171,4 @@ leaves m (Recover i) list h = recover-leaves m i list h
 pub accepted-leaves-form : AcceptedLeavesForm
 unfolding AcceptedLeavesForm step
 accepted-leaves-form m call list accepted =
-    let e = no-refusal m (ruleOf m call list) accepted in
-    rw (accepted-after m (ruleOf m call list) accepted) (form _ (leaves m call list (needs-hold m call list e)))
+    rw (accepted-after m (ruleOf m call list) accepted) (form _ (leaves m call list (accepted-needs m call list accepted)))

@@ -14,8 +14,8 @@ use Rattle.protocol.specs.Outcome.{wrongForm, firstRefusal, answered, fo
 use Rattle.protocol.specs.Calls.{issuing, opening, block, prepare, store, view, accumulate, decide, reboot, reserve}
 use Rattle.protocol.specs.Calls.{request, reply, recover}
 use Rattle.protocol.specs.Runs.{ruleOf, step}
-use Rattle.protocol.specs.Theorems.{isOpening, RefusedChangesNothing, LowestWins, OpeningTestsFaultsFirst}
-use Rattle.protocol.proofs.Needs.{Holds, positive, risingFrom, all-needs, fails, refused, lowest}
+use Rattle.protocol.specs.Theorems.{Accepted, isOpening, RefusedChangesNothing, LowestWins, OpeningTestsFaultsFirst}
+use Rattle.protocol.proofs.Needs.{Holds, positive, risingFrom, all-needs, fails, no-refusal, refused, lowest}
 
 numbers-positive : (m : Memory) (call : Call) (list : List ℕ) → positive (ruleOf m call list .needs) ≡ true
 unfolding ruleOf issuing opening block prepare store view accumulate decide reboot reserve request reply recover
@@ -69,6 +69,10 @@ no-form m (Recover i) list n e = fails _ e
 pub needs-hold : (m : Memory) (call : Call) (list : List ℕ) → firstRefusal (ruleOf m call list .needs) ≡ 0
     → Holds (ruleOf m call list .needs)
 needs-hold m call list e = all-needs (ruleOf m call list .needs) (numbers-positive m call list) e
+
+pub accepted-needs : (m : Memory) (call : Call) (list : List ℕ) → Accepted (step m call list) → Holds (ruleOf m call list .needs)
+unfolding step
+accepted-needs m call list e = needs-hold m call list (no-refusal m (ruleOf m call list) e)
 
 pub refused-changes-nothing : RefusedChangesNothing
 unfolding RefusedChangesNothing step

@@ -26,7 +26,7 @@ use Rattle.protocol.proofs.Moves.{choosable-before, ancestor-after}
 use Rattle.protocol.proofs.Acts.{GoesOn, issuing-acts, moves, goes-on}
 use Rattle.protocol.proofs.SafeParts.{replica-kept, extend}
 
--- A view has one leader.
+-- A view has at most one leader.
 one-leader : (f v i j : ℕ) → leads f v i ≡ true → leads f v j ≡ true → i ≡ j
 unfolding leads
 one-leader f zero i j a b = cc

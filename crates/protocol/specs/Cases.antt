@@ -88,8 +88,8 @@ oneCommitTwice =
       expected = refused wrongCertificate ∷ refused wrongCertificate ∷ [];
     }
 
--- Commits justify a proposal of the view above theirs, once that is the leader's lowest view, and only if their block is the one that the
--- call names. It can be decided in its turn.
+-- Commits justify a proposal of the view above theirs, once that is the leader's lowest view, and only if the call claims just their block.
+-- The proposal can then be decided.
 unfoldable pub commitsJustify : Case
 commitsJustify =
     record {

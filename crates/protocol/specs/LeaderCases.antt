@@ -3,7 +3,7 @@ use Prim.Native.Nat.{ℕ}
 use mathlib.Core.List.{List, [], _∷_}
 use Rattle.protocol.specs.declared.Call.the-variants.{Open, Block, Prepare, Store, View, Accumulate}
 use Rattle.protocol.specs.declared.Justification.the-variants.{Acc, Commits}
-use Rattle.protocol.specs.Memory.{Memory, Certificate, minViewAt, viewLimitAt, ceiling, words, _becomes_, update}
+use Rattle.protocol.specs.Memory.{Memory, Certificate, minViewAt, viewLimitAt, words, _becomes_, update}
 use Rattle.protocol.specs.Memory.{appendCertificate}
 use Rattle.protocol.specs.Certificates.{propOf, commitOf, accOf}
 use Rattle.protocol.specs.Outcome.{wrongCertificate, wrongView, counterLimit}
@@ -142,12 +142,12 @@ ofLastViews =
     ∷ commitOf 1 1000000 0
     ∷ []
 
--- The memory with a replica's lowest view, and with its limit at the counter's end.
+-- The memory with a replica's lowest view set, and its limit at the counter's end.
 abbrev late : Memory → ℕ → ℕ → Memory
-late m i lowest = update m i (minViewAt becomes lowest ∷ viewLimitAt becomes ceiling ∷ [])
+late m i lowest = update m i (minViewAt becomes lowest ∷ viewLimitAt becomes 1000000 ∷ [])
 
--- Replica 2 leads view 999,999, the last that can be proposed and stored. Replica 0 leads view 1,000,000, which is below no limit: 8. COMMITs
--- of view 1,000,000 justify view 1,000,001, which replica 1 leads, and which is above every lowest view: 7.
+-- Replica 2 leads view 999,999, the last in which a block can be proposed and stored. Replica 0 leads view 1,000,000, which is below no
+-- limit: 8. COMMITs of view 1,000,000 justify view 1,000,001, which replica 1 leads, and which is above every lowest view: 7.
 unfoldable pub lastViews : Case
 lastViews =
     record {

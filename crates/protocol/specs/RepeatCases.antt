@@ -46,30 +46,30 @@ accsAndBlocksRepeated =
 unfoldable pub requestsAndRepliesRepeated : Case
 requestsAndRepliesRepeated =
     record {
-      start = accumulated;
+      start = committed;
       calls =
           plain (Reboot 0)
           ∷ plain (Request 0)
           ∷ plain (Request 0)
-          ∷ plain (Reply 1 3)
-          ∷ plain (Reply 1 3)
-          ∷ plain (Reply 2 3)
-          ∷ Recover 0 on (4 ∷ 5 ∷ [])
+          ∷ plain (Reply 1 6)
+          ∷ plain (Reply 1 6)
+          ∷ plain (Reply 2 6)
+          ∷ Recover 0 on (7 ∷ 8 ∷ [])
           ∷ Accumulate 0 on (0 ∷ 1 ∷ [])
           ∷ plain (Reboot 0)
           ∷ plain (Request 0)
           ∷ [];
       expected =
           accepted 1 64
-          ∷ accepted 3 0
-          ∷ accepted 3 1
-          ∷ accepted 4 0
-          ∷ accepted 4 1
-          ∷ accepted 5 0
-          ∷ accepted 64 0
+          ∷ accepted 6 0
+          ∷ accepted 6 1
+          ∷ accepted 7 0
+          ∷ accepted 7 1
+          ∷ accepted 8 0
+          ∷ accepted 64 1
           ∷ accepted 2 1
           ∷ accepted 2 128
-          ∷ accepted 6 0
+          ∷ accepted 9 0
           ∷ [];
     }
 
@@ -105,8 +105,7 @@ proposalOnCommitsRepeated =
 unfoldable pub commitRepeated : Case
 commitRepeated =
     record {
-      start =
-          update committed 1 (storedViewAt becomes 0 ∷ minViewAt becomes 1 ∷ []);
+      start = update committed 1 (storedViewAt becomes 0 ∷ minViewAt becomes 1 ∷ []);
       calls = plain (Store 1 3) ∷ plain (Store 1 3) ∷ [];
       expected = accepted 5 1 ∷ refused wrongView ∷ [];
     }

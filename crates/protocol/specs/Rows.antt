@@ -79,7 +79,7 @@ from calls = run (blank 1) calls
 abbrev pub opened : Memory
 opened = from (plain (Open 1) ∷ [])
 
--- f = 1, with an ACC of view 1 on block 0, number 2, by its leader, and a block 1 on block 0
+-- f = 1, with an ACC of view 1 on block 0, number 2, by the view's leader, and a block 1 on block 0
 abbrev pub accumulated : Memory
 accumulated =
     from (plain (Open 1) ∷ plain (View 0 1) ∷ plain (View 1 1) ∷ Accumulate 0 on (0 ∷ 1 ∷ []) ∷ plain (Block 0) ∷ [])

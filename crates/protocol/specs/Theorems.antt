@@ -161,7 +161,7 @@ ValuesFit = (m : Memory) (call : Call) (list : List ℕ) → Fits (step m call l
 
 -- ---- Document 02, #103: "The leader of view v is (v−1) mod n. View 0 has no leader, so a PROP of view 0 returns 5 at store."
 
--- A replica leads a view: the view is one above some other, and the replica is that other's number mod n.
+-- The view is v+1 for some v, and the replica is v mod n.
 pub record LedBy (m : Memory) (view i : ℕ) : Type 0 where
   pub before : ℕ
   pub next : view ≡ before + 1
@@ -177,10 +177,11 @@ pub record Led (m : Memory) : Type 0 where
   pub store : (i number : ℕ) (list : List ℕ) → Accepted (step m (Store i number) list)
       → LedBy m (certificate m number .view) (certificate m number .signer)
 
-unfoldable pub LeadersTakeTurns : Type 0
-LeadersTakeTurns = (m : Memory) → Led m
+unfoldable pub OnlyLeadersPropose : Type 0
+OnlyLeadersPropose = (m : Memory) → Led m
 
--- A live replica's Prepare on an ACC of view 0, and its Store of a PROP of view 0, return 5 where what they name is there.
+-- A Prepare on an ACC of view 0 and a Store of a PROP of view 0 return 5, unless a lower number is due: the form is right, the replica is one
+-- and live, and what they name is there.
 pub record Unled (m : Memory) (i number : ℕ) : Type 0 where
   pub prepare : (b : ℕ) (list : List ℕ) → isBlock m b ≡ true
       → step m (Prepare i b (Acc number)) list .answer .number ≡ wrongCertificate

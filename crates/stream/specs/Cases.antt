@@ -1,4 +1,5 @@
--- Document 01's worked script as the program reads and writes it: fields of eight columns, line feeds, line numbers.
+-- Document 01's worked script, as document 02 changes it, in the form in which the program reads and writes it: fields of eight columns, line
+-- feeds, line numbers.
 use Prim.Native.Nat.{ℕ}
 use mathlib.Core.Path.{_≡_}
 use mathlib.Core.List.{List, [], _∷_, _++_}

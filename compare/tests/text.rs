@@ -79,7 +79,7 @@ fn room_for_1024_blocks() {
 
 #[test]
 fn blocks_of_any_size() {
-    let script = line(&[0, 1, 0]) + &line(&[5, 0, 1]) + &line(&[6, 1, 0, 0, 1]) + "\n" + &line(&[8, 2, 0]);
+    let script = line(&[0, 1, 0]) + &line(&[5, 0, 1]) + &line(&[6, 0, 0, 0, 1]) + "\n" + &line(&[8, 2, 0]);
     let whole = run(Correct, script.as_bytes());
     for size in 1..script.len() {
         let mut program = Program::new(Correct);

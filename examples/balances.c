@@ -64,6 +64,7 @@ int main(void) {
     first = agree(call(PREPARE, 0, first, &acc, 1), commits);
     second = call(BLOCK, 0, first, NULL, 0);
     call(BLOCK, 0, first, NULL, 0); /* the rival: it is added, and never decided */
+    /* Replica 1 leads view 2, which the COMMITs of view 1 justify. */
     second = agree(call(PREPARE_ON_COMMITS, 1, second, commits, 2), commits);
     print_balances(first);
     print_balances(second);

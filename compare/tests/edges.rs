@@ -9,6 +9,15 @@ use judge::mistake::Correct;
 /// Code, replica, number and list of a call; its answer and both values.
 type Row<'a> = (u32, u32, u32, &'a [u32], (u32, u32, u32));
 
+/// The script after its opening, up to the proposal.
+const PROPOSAL: &[Row] = &[
+    (5, 0, 1, &[], (0, 0, 0)),
+    (5, 1, 1, &[], (0, 1, 0)),
+    (6, 0, 0, &[0, 1], (0, 2, 0)),
+    (1, 0, 0, &[], (0, 1, 0)),
+    (2, 0, 1, &[2], (0, 3, 0)),
+];
+
 struct Yard {
     table: Vec<u32>,
     log: Vec<u32>,
@@ -58,16 +67,9 @@ impl Yard {
         yard
     }
 
-    /// The script's part up to the proposal.
     fn proposed() -> Yard {
         let mut yard = Yard::new(1);
-        yard.rows(&[
-            (5, 0, 1, &[], (0, 0, 0)),
-            (5, 1, 1, &[], (0, 1, 0)),
-            (6, 0, 0, &[0, 1], (0, 2, 0)),
-            (1, 0, 0, &[], (0, 1, 0)),
-            (2, 0, 1, &[2], (0, 3, 0)),
-        ]);
+        yard.rows(PROPOSAL);
         yard
     }
 
@@ -235,13 +237,7 @@ fn a_prepare_finds_its_certificate_where_the_flag_is_lowered_by_hand() {
         assert!(yard.table == table && yard.log == log);
     }
     let mut yard = Yard::with_slots(1, 4, 2);
-    yard.rows(&[
-        (5, 0, 1, &[], (0, 0, 0)),
-        (5, 1, 1, &[], (0, 1, 0)),
-        (6, 0, 0, &[0, 1], (0, 2, 0)),
-        (1, 0, 0, &[], (0, 1, 0)),
-        (2, 0, 1, &[2], (0, 3, 0)),
-    ]);
+    yard.rows(PROPOSAL);
     *yard.word(0, replica_word::FLAG) = 0;
     yard.rows(&[(2, 0, 1, &[2], (0, 3, 1)), (2, 0, 1, &[2], (7, 0, 0)), (4, 0, 3, &[], (9, 0, 0))]);
 }

@@ -39,7 +39,7 @@ only-leaders-propose m =
       store = λ i number list e. led-by m _ _ (accepted-needs m (Store i number) list e .1 .1 .1 .1 .1 .0);
     }
 
-unled : (f view i : ℕ) → view ≡ 0 → leads f view i ≡ false
+pub unled : (f view i : ℕ) → view ≡ 0 → leads f view i ≡ false
 unfolding leads
 unled f view i e = rw e refl
 

@@ -1,6 +1,6 @@
 -- The proof of each claim.
 use Rattle.claims.specs.Claims.{Claims}
-use Rattle.protocol.proofs.Rules.{refused-changes-nothing, lowest-wins, opening-tests-faults-first}
+use Rattle.protocol.proofs.Rules.{refused-changes-nothing, lowest-wins, opening-order}
 use Rattle.protocol.proofs.LeavesForm.{accepted-leaves-form}
 use Rattle.protocol.proofs.Frame.{only-named-change, lengths-stay}
 use Rattle.protocol.proofs.Unread.{past-counts-unread}
@@ -8,11 +8,12 @@ use Rattle.script.proofs.Theorems.{refused-leaves-session, before-opening, answ
 use Rattle.protocol.proofs.Values.{values-fit}
 use Rattle.protocol.proofs.Cases.{cases-hold}
 use Rattle.stream.proofs.Theorems.{chunks-do-not-matter, turns-give-output}
-use Rattle.stream.proofs.Cases.{worked-script, worked-script-tells, worked-script-opens}
+use Rattle.stream.proofs.Cases.{worked-script, worked-script-tells, worked-script-opens, steps-script}
 use Rattle.field.proofs.Counts.{count-is-least}
 use Rattle.field.proofs.Theorems.{written-reads-back, read-writes-back, read-is-bounded}
 use Rattle.protocol.proofs.Agreement.{agreement, words-match-history, only-appended, would-agree}
 use Rattle.ledger.proofs.Theorems.{panel-shows-history, panel-never-falls}
+use Rattle.protocol.proofs.Steps.{opening-reads-nothing, without-steps-is-default, first-limit-is-first-step, counters-move-by-steps}
 use Rattle.protocol.proofs.Leaders.{only-leaders-propose, view-zero-has-no-leader}
 use Rattle.protocol.proofs.Repeats.{found-is-first-equal, second-value-tells-repeat, repeat-changes-nothing, proposals-never-repeat}
 use Rattle.protocol.proofs.Repeats.{commits-never-repeat}
@@ -34,7 +35,7 @@ proved =
       pastCountsUnread = past-counts-unread;
       refusedLeavesSession = refused-leaves-session;
       lowestWins = lowest-wins;
-      openingTestsFaultsFirst = opening-tests-faults-first;
+      openingOrder = opening-order;
       valuesFit = values-fit;
       casesHold = cases-hold;
       beforeOpening = before-opening;
@@ -42,6 +43,7 @@ proved =
       chunksDoNotMatter = chunks-do-not-matter;
       turnsGiveOutput = turns-give-output;
       workedScript = worked-script;
+      stepsScript = steps-script;
       countIsLeast = count-is-least;
       writtenReadsBack = written-reads-back;
       readWritesBack = read-writes-back;
@@ -57,6 +59,10 @@ proved =
       programAgrees = program-agrees;
       workedScriptTells = worked-script-tells;
       workedScriptOpens = worked-script-opens;
+      openingReadsNothing = opening-reads-nothing;
+      withoutStepsIsDefault = without-steps-is-default;
+      firstLimitIsFirstStep = first-limit-is-first-step;
+      countersMoveBySteps = counters-move-by-steps;
       onlyLeadersPropose = only-leaders-propose;
       viewZeroHasNoLeader = view-zero-has-no-leader;
       foundIsFirstEqual = found-is-first-equal;

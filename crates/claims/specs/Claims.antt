@@ -2,16 +2,17 @@
 -- proof of each. A proof that is missing, or that asks more than its statement does, fails this crate; the gate holds that no statement
 -- of any specs/ is missing here.
 use Rattle.protocol.specs.Theorems.{RefusedChangesNothing, AcceptedLeavesForm, OnlyNamedChange, LengthsStay, PastCountsUnread, LowestWins}
-use Rattle.protocol.specs.Theorems.{OpeningTestsFaultsFirst, ValuesFit, OnlyLeadersPropose, ViewZeroHasNoLeader}
+use Rattle.protocol.specs.Theorems.{OpeningOrder, ValuesFit, OnlyLeadersPropose, ViewZeroHasNoLeader}
 use Rattle.script.specs.Theorems.{RefusedLeavesSession, BeforeOpening, AnswersPrintable}
 use Rattle.protocol.specs.Cases.{CasesHold}
 use Rattle.stream.specs.Theorems.{ChunksDoNotMatter, TurnsGiveOutput}
-use Rattle.stream.specs.Cases.{WorkedScript, WorkedScriptTells, WorkedScriptOpens}
+use Rattle.stream.specs.Cases.{WorkedScript, WorkedScriptTells, WorkedScriptOpens, StepsScript}
 use Rattle.field.specs.Theorems.{CountIsLeast, WrittenReadsBack, ReadWritesBack, ReadIsBounded}
 use Rattle.protocol.specs.Agreement.{Agreement, WordsMatchHistory, OnlyAppended, WouldAgree}
 use Rattle.ledger.specs.Theorems.{PanelShowsHistory, PanelNeverFalls}
 use Rattle.protocol.specs.Repeats.{FoundIsFirstEqual, SecondValueTellsRepeat, RepeatAtOnce, RepeatChangesNothing}
 use Rattle.protocol.specs.Repeats.{ProposalsNeverRepeat, CommitsNeverRepeat}
+use Rattle.protocol.specs.Steps.{OpeningReadsNothing, WithoutStepsIsDefault, FirstLimitIsFirstStep, CountersMoveBySteps}
 use Rattle.netting.specs.Theorems.{NettingChangesNothing, RefusedNettingIsZero, NettingLowestWins, NettingPastCountsUnread}
 use Rattle.netting.specs.Theorems.{BalancesAddUp, BalancesBounded, LongerCountsMore, EquallyLongIsOne, ChainLengthIsHeight}
 use Rattle.netting.specs.Theorems.{CountsMatchHistory, LongerNetsMore, NettingMatchesHistory, DecidedCanBeNetted}
@@ -36,9 +37,9 @@ pub record Claims : Type 0 where
   -- ---- Demand 2: accepted exactly when the rules accept. (The contracts are equations with the rules; these follow from the rules.)
   -- of several refusals the lowest is returned
   pub lowestWins : LowestWins
-  -- opening tests f before lengths
-  pub openingTestsFaultsFirst : OpeningTestsFaultsFirst
-  -- a number is at most 9, a value at most 1,000,000
+  -- opening tests f, then its steps, then the lengths
+  pub openingOrder : OpeningOrder
+  -- a number is at most 9, or an opening's 12, a value at most 1,000,000
   pub valuesFit : ValuesFit
   -- the cases that document 01 marks P, and some more
   pub casesHold : CasesHold
@@ -52,6 +53,8 @@ pub record Claims : Type 0 where
   pub turnsGiveOutput : TurnsGiveOutput
   -- the worked script, byte for byte
   pub workedScript : WorkedScript
+  -- one of openings with steps
+  pub stepsScript : StepsScript
   -- a number has no digit too many
   pub countIsLeast : CountIsLeast
   -- what was written is what is read
@@ -83,6 +86,15 @@ pub record Claims : Type 0 where
   pub workedScriptTells : WorkedScriptTells
   -- the premise of ProgramAgrees holds of it
   pub workedScriptOpens : WorkedScriptOpens
+  -- ---- A pool's own steps (document 02, #104). (That decisions never conflict with any of them: demand 3.)
+  -- opening reads no word: what it answers and the table it leaves go by its arguments and the lengths
+  pub openingReadsNothing : OpeningReadsNothing
+  -- an opening without steps is the one with document 01's
+  pub withoutStepsIsDefault : WithoutStepsIsDefault
+  -- an opening's first limit is the first step
+  pub firstLimitIsFirstStep : FirstLimitIsFirstStep
+  -- after an opening, each Reserve and each Reboot moves the limit by the step that the opening was given for the boot
+  pub countersMoveBySteps : CountersMoveBySteps
   -- ---- Leaders (document 02, #103).
   -- an accepted Prepare is by the leader of its view, replica v mod n on commits of view v; an accepted Store is of a leader's proposal
   pub onlyLeadersPropose : OnlyLeadersPropose

@@ -22,7 +22,8 @@ maxList = 31
 abbrev pub isPlain : ℕ → List ℕ → Bool
 isPlain unused list = eqb unused 0 && eqb (length list) 0
 
--- "0 to 31 fields for codes 3, 6, 7 and 12"; an unused field is 0 here too.
+-- "0 to 31 fields for codes 3, 6, 7 and 12"; and document 02, #104, of steps: "In a script they are the list of code 0, which may have 0 to
+-- 31 fields." An unused field is 0 here too.
 abbrev pub isShort : ℕ → List ℕ → Bool
 isShort unused list = eqb unused 0 && leb (length list) maxList
 
@@ -43,7 +44,7 @@ when t call = cond t (Of call) noCall
 -- 6 accumulate, 7 decide, 8 reboot, 9 reserve, 10 request, 11 reply, 12 recover."
 unfoldable pub codeTable : Memory → ℕ → ℕ → List ℕ → List Coded
 codeTable m replica number list =
-    when (isPlain number list) (Open replica)  -- 0
+    when (isShort number list) (Open replica)  -- 0
     ∷ when (isPlain replica list) (Block number)  -- 1
     ∷ when (eqb (length list) 1) (Prepare replica number (Acc (getD list 0 0)))  -- 2
     ∷ when (isShort 0 list) (Prepare replica number (Commits (claimedWord m list viewAt) (claimedWord m list proposedBlockAt)))  -- 3

@@ -88,7 +88,7 @@ pub fn coded_call(
     ensures { λ r. ⌜ r ≡ codedCall (memory (now (table .entry)) (now (log .entry)) []) code replica number (now (list .entry)) ⌝ }
 {
     match code {
-        0 => coded_when(is_plain(number, list), Call::Open(replica)),
+        0 => coded_when(is_short(number, list), Call::Open(replica)),
         1 => coded_when(is_plain(replica, list), Call::Block(number)),
         2 => {
             if list.len() == 1 {

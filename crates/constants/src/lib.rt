@@ -10,6 +10,8 @@ ghost use Rattle.protocol.specs.Memory.{
   faultBoundAt,
   certificateCountAt,
   blockCountAt,
+  stepsAt,
+  stepCount,
   rowStart,
   replicaWords,
   statusAt,
@@ -37,7 +39,7 @@ ghost use Rattle.protocol.specs.Memory.{
   maxCertificates,
   maxBlocks,
 };
-ghost use Rattle.protocol.specs.Form.{lastKind};
+ghost use Rattle.protocol.specs.Form.{maxStep, lastKind};
 ghost use Rattle.protocol.specs.Certificates as Kinds;
 ghost use Rattle.protocol.specs.Certificates.{found, appended};
 ghost use Rattle.protocol.specs.Movements.{
@@ -65,8 +67,15 @@ pub const CERTIFICATE_COUNT_AT: usize = 1;
 
 pub const BLOCK_COUNT_AT: usize = 2;
 
+// The counter's steps.
+pub const STEPS_AT: usize = 3;
+
+pub const STEP_COUNT: usize = 8;
+
+pub const MAX_STEP: u32 = 4096;
+
 // The replicas' rows.
-pub const ROW_START: usize = 3;
+pub const ROW_START: usize = STEPS_AT + STEP_COUNT;
 
 pub const REPLICA_WORDS: usize = 9;
 
@@ -157,13 +166,14 @@ pub const MAX_PALLETS: u32 = 10000;
 
 pub const MAX_MOVEMENTS: usize = 2048;
 
-// The largest f, view, view limit and boot, number of certificates and of blocks, and pallets of a movement.
-pub fn limits() -> [u32; 5]
-    ensures { λ r. ⌜ r ≡ maxFaultBound ∷ ceiling ∷ maxCertificates ∷ maxBlocks ∷ maxPallets ∷ [] ⌝ }
+// The largest f, view, view limit and boot, step of the counter, number of certificates and of blocks, and pallets of a movement.
+pub fn limits() -> [u32; 6]
+    ensures { λ r. ⌜ r ≡ maxFaultBound ∷ ceiling ∷ maxStep ∷ maxCertificates ∷ maxBlocks ∷ maxPallets ∷ [] ⌝ }
 {
     [
         MAX_FAULT_BOUND,
         CEILING,
+        MAX_STEP,
         MAX_CERTIFICATES,
         MAX_BLOCKS,
         MAX_PALLETS,
@@ -177,14 +187,21 @@ pub fn most() -> [usize; 2]
     [MAX_REPLICAS, MAX_MOVEMENTS]
 }
 
-// The words of the header, a replica, a certificate and a movement.
-pub fn widths() -> [usize; 4]
-    ensures { λ r. ⌜ r ≡ rowStart ∷ replicaWords ∷ certificateWords ∷ movementWords ∷ [] ⌝ }
+// Where the steps and the rows start; and the words of the steps, a replica, a certificate and a movement.
+pub fn widths() -> [usize; 6]
+    ensures { λ r. ⌜ r ≡ stepsAt ∷ rowStart ∷ stepCount ∷ replicaWords ∷ certificateWords ∷ movementWords ∷ [] ⌝ }
 {
-    [ROW_START, REPLICA_WORDS, CERTIFICATE_WORDS, MOVEMENT_WORDS]
+    [
+        STEPS_AT,
+        ROW_START,
+        STEP_COUNT,
+        REPLICA_WORDS,
+        CERTIFICATE_WORDS,
+        MOVEMENT_WORDS,
+    ]
 }
 
-pub fn header_offsets() -> [usize; ROW_START]
+pub fn header_offsets() -> [usize; STEPS_AT]
     ensures { λ r. ⌜ r ≡ faultBoundAt ∷ certificateCountAt ∷ blockCountAt ∷ [] ⌝ }
 {
     [FAULT_BOUND_AT, CERTIFICATE_COUNT_AT, BLOCK_COUNT_AT]
@@ -247,11 +264,11 @@ pub fn filings() -> [u32; 2]
 }
 
 // The refusals' numbers stand with the answer that holds them.
-pub fn refusals() -> [u32; 11]
+pub fn refusals() -> [u32; 12]
     ensures { λ r. ⌜ r
         ≡ Refusals.wrongForm ∷ Refusals.outOfRange ∷ Refusals.unknownNumber ∷ Refusals.wrongStatus ∷ Refusals.wrongCertificate
         ∷ Refusals.wrongBlock ∷ Refusals.wrongView ∷ Refusals.counterLimit ∷ Refusals.noRoom ∷ Refusals.unreadable
-        ∷ Refusals.wrongMovement ∷ [] ⌝ }
+        ∷ Refusals.wrongMovement ∷ Refusals.wrongSteps ∷ [] ⌝ }
 {
     [
         protocol::WRONG_FORM,
@@ -265,5 +282,6 @@ pub fn refusals() -> [u32; 11]
         protocol::NO_ROOM,
         protocol::UNREADABLE,
         protocol::WRONG_MOVEMENT,
+        protocol::WRONG_STEPS,
     ]
 }

@@ -1,27 +1,62 @@
--- The steps of the counter: the index of a boot, and how large a step is.
-use Prim.Native.Nat.{ℕ, _≤_, min}
-use mathlib.Core.Path.{refl}
-use mathlib.Core.Bool.{Bool}
-use mathlib.Core.List.{List, [], _∷_}
+-- How large the step of a boot is; and the lists that a ledger may be opened with.
+use Prim.Native.Nat.{ℕ, _+_, _≤_, min}
+use mathlib.Core.Path.{_≡_, refl, sym, ap, _∙_}
+use mathlib.Core.Bool.{true, false}
+use mathlib.Core.List.{List, [], _∷_, _++_}
 use native.Mathlib.Omega.{arith}
-use lib.ListN.{length, getD}
-use lib.Dec.{leb}
-use Rattle.protocol.specs.Memory.{Memory}
-use Rattle.protocol.specs.Form.{allHold, allBelow}
-use Rattle.protocol.specs.Counter.{counterSteps, lastStepAt, counterStep}
-use Rattle.protocol.proofs.Booleans.{tests, each, at-below}
+use native.Mathlib.Nat.{zero-add}
+use lib.ListN.{length, getD, take, drop}
+use lib.Seq.{sets, sets-eq, paste, take-all}
+use lib.Dec.{eqb}
+use Rattle.protocol.specs.Memory.{Memory, stepCount, lastStep, stepAt, keptStep}
+use Rattle.protocol.specs.Form.{allHold, allBelow, stepsFormed}
+use Rattle.protocol.specs.Counter.{defaultSteps, stepsFrom, stepsAllowed, counterStep}
+use Rattle.protocol.proofs.Booleans.{tests, by-test, each}
+use Rattle.protocol.proofs.Formed.{Formed, StepBounds, step-bounds, steps-same}
+use Rattle.layout.specs.inner.Parts.{stepFrom}
+use Rattle.layout.proofs.Joined.{joined-all}
 
--- What a caller needs: a step moves the limit, and by at most 1,024.
-pub record StepBounds (m : Memory) (boot : ℕ) : Type 0 where
-  pub low : 1 ≤ counterStep m boot
-  pub high : counterStep m boot ≤ 1024
+pub counter-step-bounds : (m : Memory) (boot : ℕ) → Formed m → StepBounds (counterStep m boot)
+unfolding counterStep
+counter-step-bounds m boot h = step-bounds (keptStep m) (h .steps) (min boot lastStep) (omega arith)
 
-abbrev bounds : Memory → ℕ → List Bool
-bounds m k = leb 1 (getD (counterSteps m) k 0) ∷ leb (getD (counterSteps m) k 0) 1024 ∷ []
+-- ---- a list beside an opening
 
-pub step-bounds : (m : Memory) (boot : ℕ) → StepBounds m boot
-unfolding allBelow allHold counterStep
-step-bounds m boot =
-    let k = min boot lastStepAt in
-    let h = each (bounds m k) (at-below (length (counterSteps m)) (λ j. allHold (bounds m j)) refl k (omega arith)) in
-    omega tests
+pub none-allowed : (list : List ℕ) → length list ≡ 0 → true ≡ stepsAllowed list
+unfolding stepsAllowed stepsFrom stepsFormed allHold allBelow
+none-allowed [] e = refl
+none-allowed (step ∷ rest) e = absurd (omega arith)
+
+pub default-from : (list : List ℕ) → length list ≡ 0 → stepsFrom list ≡ defaultSteps
+unfolding stepsFrom
+default-from [] e = refl
+default-from (step ∷ rest) e = absurd (omega arith)
+
+pub given-from : (list : List ℕ) → (length list ≡ 0 → ⊥) → stepsFrom list ≡ list
+unfolding stepsFrom
+given-from [] some = absurd (some refl)
+given-from (step ∷ rest) some = refl
+
+module _ (list : List ℕ) where
+  pub eight-allowed : length list ≡ stepCount → stepsFormed (stepFrom list 0) ≡ stepsAllowed list
+  unfolding stepsAllowed allHold
+  eight-allowed e =
+      let q : eqb (length list) stepCount ≡ true = omega tests in
+      rw (given-from list (λ z. omega arith), q)
+      (steps-same _ _ (λ k l. ap (λ (i : ℕ). getD list i 0) (zero-add k)) ∙ joined-all _ [])
+
+  pub others-refused : (length list ≡ 0 → ⊥) → (length list ≡ stepCount → ⊥) → false ≡ stepsAllowed list
+  unfolding stepsAllowed allHold
+  others-refused some other =
+      let q : eqb (length list) stepCount ≡ false = omega tests in
+      rw (given-from list some, q) refl
+
+  pub allowed-eight : stepsAllowed list ≡ true → (length list ≡ 0 → ⊥) → length list ≡ stepCount
+  unfolding stepsAllowed
+  allowed-eight e some = let h = each _ (rw (given-from list some) at e) in omega tests
+
+-- ---- the steps, written
+
+-- Once all words are copied, they are set one after the other.
+pub all-copied : (t ws : List ℕ) (at : ℕ) → at + length ws ≤ length t → paste t at ws (length ws) ≡ sets t at ws
+all-copied t ws at room = rw (take-all (length ws) ws (omega arith)) (sym (sets-eq ws t at room))

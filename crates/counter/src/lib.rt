@@ -1,20 +1,64 @@
-// The steps of the monotonic counter (document 01: the meter).
+// The steps of the monotonic counter (document 01: the meter): those of document 01 or a pool's own, kept in the table.
 ghost use mathlib.Core.Path.{_≡_};
-ghost use Rattle.protocol.specs.Memory.{Memory};
-ghost use Rattle.protocol.specs.Counter.{counterStep};
+ghost use mathlib.Core.Bool.{true};
+ghost use mathlib.Core.List.{List};
+ghost use Prim.Native.Nat.{ℕ, _≤_};
+ghost use lib.ListN.{length, getD};
+ghost use lib.Seq.{sets};
+ghost use Rattle.protocol.specs.Memory.{memory, stepCount, stepAt, rowStart};
+ghost use Rattle.protocol.specs.Counter.{stepsFrom, stepsAllowed, counterStep};
+use constants::STEP_COUNT;
+use constants::STEPS_AT;
 
-const COUNTER_STEPS: [u32; 8] = [64, 64, 128, 128, 256, 256, 512, 1024];
+const LAST_STEP: u32 = 7;
 
-const LAST_STEP_AT: u32 = 7;
+const DEFAULT_STEPS: [u32; STEP_COUNT] = [64, 64, 128, 128, 256, 256, 512, 1024];
 
-// The step of a boot; boots after the last of the array have its step.
-pub fn counter_step(boot: u32) -> u32
-    ensures { λ r. ⌜ ((m : Memory) → r ≡ counterStep m boot) ⌝ }
+// The step of a boot; boots after the last step's have that.
+pub fn counter_step(table: &[u32], boot: u32) -> u32
+    requires { ⌜ rowStart ≤ length (now table) ⌝ }
+    ensures { λ r. ⌜ ((l b : List ℕ) → r ≡ counterStep (memory (now (table .entry)) l b) boot) ⌝ }
 {
-    let at = if boot < LAST_STEP_AT {
-        boot
-    } else {
-        LAST_STEP_AT
-    };
-    COUNTER_STEPS[at as usize]
+    let step = if boot < LAST_STEP { boot } else { LAST_STEP };
+    table[STEPS_AT + (step as usize)]
+}
+
+// Whether a ledger may be opened with this list: of no steps, or of eight that have their form.
+pub fn steps_allowed(list: &[u32]) -> bool
+    ensures { λ r. ⌜ r ≡ stepsAllowed (now (list .entry)) ⌝ }
+{
+    if list.len() == 0 {
+        return true;
+    }
+    if list.len() == STEP_COUNT {
+        return layout::form::steps_formed(list, 0);
+    }
+    false
+}
+
+// Writes eight steps into the table.
+fn write_steps(table: &mut [u32], steps: &[u32])
+    requires { ⌜ (rowStart ≤ length (now table)) × (length (now steps) ≡ stepCount) ⌝ }
+    ensures { λ _. ⌜ now (table .exit) ≡ sets (now (table .entry)) (stepAt 0) (now (steps .entry)) ⌝ }
+{
+    let mut k: usize = 0;
+    while k < STEP_COUNT {
+        table[STEPS_AT + k] = steps[k];
+        k += 1;
+    }
+}
+
+// Writes the steps that a ledger is opened with, and gives the first.
+pub fn open_steps(table: &mut [u32], list: &[u32]) -> u32
+    requires { ⌜ (rowStart ≤ length (now table)) × (stepsAllowed (now list) ≡ true) ⌝ }
+    ensures { λ r. ⌜ (now (table .exit) ≡ sets (now (table .entry)) (stepAt 0) (stepsFrom (now (list .entry))))
+        × (r ≡ getD (stepsFrom (now (list .entry))) 0 0) ⌝ }
+{
+    if list.len() == 0 {
+        let steps = DEFAULT_STEPS;
+        write_steps(table, &steps);
+        return steps[0];
+    }
+    write_steps(table, list);
+    list[0]
 }

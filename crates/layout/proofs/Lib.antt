@@ -2,5 +2,6 @@
 pub mod Joined
 pub mod Below
 pub mod Order
+pub mod Rising
 pub mod Whole
 pub mod Within

@@ -7,6 +7,7 @@ ghost use lib.ListN.{length};
 ghost use Rattle.protocol.specs.Memory.{
   memory,
   maxFaultBound,
+  stepCount,
   rowStart,
   replicaWords,
   rowAt,
@@ -15,9 +16,9 @@ ghost use Rattle.protocol.specs.Memory.{
   certificateAt,
   blockAt,
 };
-ghost use Rattle.protocol.specs.Form.{allBelow, isFaultBound, lengthsFit, countsFit, wellFormed};
+ghost use Rattle.protocol.specs.Form.{allBelow, isFaultBound, lengthsFit, countsFit, stepsFormed, wellFormed};
 ghost use Rattle.protocol.proofs.Formed.{Sizes};
-ghost use Rattle.layout.specs.inner.Parts.{blockOk, replicaOk, certificateOk, fourOk, wordsOk};
+ghost use Rattle.layout.specs.inner.Parts.{stepFrom, blockOk, replicaOk, certificateOk, fourOk, wordsOk};
 
 // f is 1 to 30.
 pub fn is_fault_bound(f: u32) -> bool
@@ -46,6 +47,23 @@ fn counts_fit(table: &[u32], log: &[u32], blocks: &[u32]) -> bool
     (certificate_at(table[CERTIFICATE_COUNT_AT]) <= log.len())
         & (block_at(table[BLOCK_COUNT_AT]) <= blocks.len())
         & (1 <= table[BLOCK_COUNT_AT])
+}
+
+// Eight steps, from an index on. None is smaller than the one before, so it is enough that the first is at least 1 and the last at most 4,096.
+pub fn steps_formed(words: &[u32], start: usize) -> bool
+    requires { ⌜ start + stepCount ≤ length (now words) ⌝ }
+    ensures { λ r. ⌜ r ≡ stepsFormed (stepFrom (now (words .entry)) start) ⌝ }
+{
+    let mut formed = true;
+    let mut least: u32 = 1;
+    let mut k: usize = 0;
+    while k < STEP_COUNT {
+        let step = words[start + k];
+        formed = formed & (least <= step);
+        least = step;
+        k += 1;
+    }
+    formed & (least <= MAX_STEP)
 }
 
 // Each parent is below its block, but for block 0's.
@@ -165,7 +183,8 @@ fn words_formed(table: &[u32], log: &[u32], blocks: &[u32]) -> bool
 {
     let replicas = row_count(table);
     let added = table[BLOCK_COUNT_AT];
-    parents_formed(blocks, added)
+    steps_formed(table, STEPS_AT)
+        & parents_formed(blocks, added)
         & replicas_formed(table, replicas, added)
         & certificates_formed(log, table[CERTIFICATE_COUNT_AT], replicas, added)
 }

@@ -24,7 +24,7 @@ pub fn invoke(
         ≡ step (memory (now (table .entry)) (now (log .entry)) (now (blocks .entry))) call (now (list .entry)) ⌝ }
 {
     match call {
-        Call::Open(f) => opening::open_ledger(table, log, blocks, f),
+        Call::Open(f) => opening::open_ledger(table, log, blocks, f, list),
         Call::Block(parent) => opening::block(table, log, blocks, parent),
         Call::Prepare(replica, block, justification) => checker::prepare(
             table,

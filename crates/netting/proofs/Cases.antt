@@ -3,8 +3,9 @@ use mathlib.Core.Path.{refl}
 use mathlib.Core.List.{List, map}
 use Rattle.protocol.specs.Memory.{update, appendBlock}
 use Rattle.protocol.specs.Ancestry.{ancestorWithin}
-use Rattle.protocol.specs.Form.{allHold, allBelow, blockFormed, replicaFormed, certificateFormed, lengthsFit, countsFit, wellFormed}
-use Rattle.protocol.specs.Counter.{counterStep}
+use Rattle.protocol.specs.Form.{allHold, allBelow, blockFormed, replicaFormed, certificateFormed, lengthsFit, countsFit, stepsFormed}
+use Rattle.protocol.specs.Form.{wellFormed}
+use Rattle.protocol.specs.Counter.{stepsFrom, stepsAllowed}
 use Rattle.protocol.specs.Outcome.{firstRefusal, answered, follow}
 use Rattle.protocol.specs.Calls.{freshReplicas, opening, block}
 use Rattle.protocol.specs.Runs.{ruleOf, step, run}
@@ -16,8 +17,8 @@ use Rattle.netting.specs.Cases.{Case, AsExpected, balances, limits, refu
 -- Everything that a netting is made of opens with this.
 unfoldable answers : List Case → List Netted
 unfolding update appendBlock ancestorWithin allHold allBelow blockFormed replicaFormed certificateFormed lengthsFit countsFit
-    wellFormed counterStep firstRefusal answered follow freshReplicas opening block ruleOf step run movementAllowed isMovementList sumBelow
-    palletsOf nettingNeeds nettingAnswer netting
+    stepsFormed wellFormed stepsFrom stepsAllowed firstRefusal answered follow freshReplicas opening block ruleOf step run movementAllowed
+    isMovementList sumBelow palletsOf nettingNeeds nettingAnswer netting
 answers cases = map (λ (c : Case). netting (c .start) (c .movements) (c .chosen) (c .firm) .answer) cases
 
 balances-hold : AsExpected balances

@@ -1,10 +1,13 @@
 // The two calls that no replica makes: opening a ledger, and adding a block.
 ghost use mathlib.Core.Path.{_≡_};
-ghost use Prim.Native.Nat.{_+_, _≤_};
-ghost use lib.ListN.{length};
-ghost use Rattle.protocol.specs.Memory.{rowAt, replicaWords, assign};
+ghost use mathlib.Core.Bool.{true};
+ghost use mathlib.Core.List.{List};
+ghost use Prim.Native.Nat.{ℕ, _+_, _≤_, _<_};
+ghost use lib.ListN.{length, getD};
+ghost use Rattle.protocol.specs.Memory.{memory, rowStart, rowAt, replicaWords, blockAt, assign};
+ghost use Rattle.protocol.specs.Counter.{stepsFrom, stepsAllowed};
 ghost use Rattle.protocol.specs.Outcome.{outcome, outcomeBy};
-ghost use Rattle.protocol.specs.Calls.{freshReplica, opening as openingRule, block as blockRule};
+ghost use Rattle.protocol.specs.Calls.{freshReplica, freshHeader, opening as openingRule, block as blockRule};
 ghost use Rattle.opening.specs.inner.Fresh.{freshRows};
 use checks::accepted;
 use checks::refused;
@@ -27,6 +30,7 @@ use protocol::NO_ROOM;
 use protocol::OUT_OF_RANGE;
 use protocol::UNKNOWN_NUMBER;
 use protocol::WRONG_FORM;
+use protocol::WRONG_STEPS;
 
 // A replica as opening leaves it.
 fn fresh_row(table: &mut [u32], replica: u32, limit: u32)
@@ -60,24 +64,44 @@ fn fresh_rows(table: &mut [u32], replicas: u32, limit: u32)
     }
 }
 
-// A ledger for f, whatever the memory held.
-pub fn open_ledger(table: &mut [u32], log: &mut [u32], blocks: &mut [u32], f: u32) -> Answer
-    ensures { λ r. ⌜ outcome r (now (table .exit)) (now (log .exit)) (now (blocks .exit))
-        ≡ outcomeBy (λ m. openingRule m f) (now (table .entry)) (now (log .entry)) (now (blocks .entry)) ⌝ }
+// The words that opening writes, but for the replicas' rows; gives the first step.
+fn fresh_header(table: &mut [u32], blocks: &mut [u32], f: u32, list: &[u32]) -> u32
+    requires { ⌜ (rowStart ≤ length (now table)) × (blockAt 0 < length (now blocks)) × (stepsAllowed (now list) ≡ true) ⌝ }
+    ensures { λ r. ⌜ r ≡ getD (stepsFrom (now (list .entry))) 0 0 ⌝ }
+    ensures { λ _. ⌜ ((l : List ℕ) → memory (now (table .exit)) l (now (blocks .exit))
+        ≡ freshHeader (memory (now (table .entry)) l (now (blocks .entry))) f (stepsFrom (now (list .entry)))) ⌝ }
 {
-    if layout::form::is_fault_bound(f) {
-        if layout::form::lengths_fit(table, log, blocks, f) {
-            table[FAULT_BOUND_AT] = f;
-            table[CERTIFICATE_COUNT_AT] = 0;
-            table[BLOCK_COUNT_AT] = 1;
-            blocks[0] = 0;
-            let replicas = layout::replica_count(f);
-            fresh_rows(table, replicas, counter::counter_step(0));
-            return accepted(replicas, 0);
-        }
+    table[FAULT_BOUND_AT] = f;
+    table[CERTIFICATE_COUNT_AT] = 0;
+    table[BLOCK_COUNT_AT] = 1;
+    blocks[0] = 0;
+    counter::open_steps(table, list)
+}
+
+// A ledger for f, with the steps of the list or document 01's, whatever the memory held.
+pub fn open_ledger(
+    table: &mut [u32],
+    log: &mut [u32],
+    blocks: &mut [u32],
+    f: u32,
+    list: &[u32],
+) -> Answer
+    ensures { λ r. ⌜ outcome r (now (table .exit)) (now (log .exit)) (now (blocks .exit))
+        ≡ outcomeBy (λ m. openingRule m f (now (list .entry))) (now (table .entry)) (now (log .entry)) (now (blocks .entry)) ⌝ }
+{
+    if !layout::form::is_fault_bound(f) {
+        return refused(OUT_OF_RANGE);
+    }
+    if !counter::steps_allowed(list) {
+        return refused(WRONG_STEPS);
+    }
+    if !layout::form::lengths_fit(table, log, blocks, f) {
         return refused(WRONG_FORM);
     }
-    refused(OUT_OF_RANGE)
+    let limit = fresh_header(table, blocks, f, list);
+    let replicas = layout::replica_count(f);
+    fresh_rows(table, replicas, limit);
+    accepted(replicas, 0)
 }
 
 // A block on an added one.

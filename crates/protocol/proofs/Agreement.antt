@@ -8,7 +8,6 @@ use Rattle.protocol.specs.declared.Call.{Call}
 use Rattle.protocol.specs.declared.Call.the-variants.{Open, Block, Prepare, Store, View, Accumulate, Decide, Reboot}
 use Rattle.protocol.specs.declared.Call.the-variants.{Reserve, Request, Reply, Recover}
 use Rattle.protocol.specs.Memory.{Memory, Replica}
-use Rattle.protocol.specs.Counter.{counterStep}
 use Rattle.protocol.specs.Outcome.{firstRefusal, answered, follow}
 use Rattle.protocol.specs.Calls.{opening, block, decide}
 use Rattle.protocol.specs.Runs.{Invocation, ruleOf, step, run}
@@ -104,7 +103,7 @@ extends-on a b =
       parent = λ x l. b .parent x (omega arith) ∙ a .parent x l;
     }
 
-kept : {e : Event} {past : List Event} (m : Memory) (calls : List Invocation) → List·Memᴰ e past
+pub kept : {e : Event} {past : List Event} (m : Memory) (calls : List Invocation) → List·Memᴰ e past
     → List·Memᴰ e (history past m calls)
 unfolding history
 kept m [] w = w
@@ -124,13 +123,13 @@ runs f past since m (q ∷ qs) h once =
 
 -- What an accepted opening leaves is a start.
 start : (m : Memory) (f : ℕ) (list : List ℕ) → Accepted (step m (Open f) list) → Reached f [] (step m (Open f) list .memory)
-unfolding step ruleOf opening givenParent highest counterStep
+unfolding step ruleOf opening givenParent highest
 start m f list accepted =
     let h = needs-hold m (Open f) list (no-refusal m (ruleOf m (Open f) list) accepted) in
-    let o = opened m f (h .1 .0) in
+    let o = opened m f list (h .1 .0) (h .1 .1 .0) in
     rw (accepted-after m (ruleOf m (Open f) list) accepted)
     (record {
-      safe = opened-safe m f _ (h .0) (h .1 .0) o;
+      safe = opened-safe m f list _ (h .0) (h .1 .0) (h .1 .1 .0) o;
       faults = o .header .faults;
       told =
           record {

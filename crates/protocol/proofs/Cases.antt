@@ -2,15 +2,15 @@
 use Prim.Native.Nat.{ℕ}
 use mathlib.Core.Path.{_≡_, refl}
 use mathlib.Core.Bool.{Bool, true, false, _&&_}
-use mathlib.Core.List.{List, [], _∷_}
+use mathlib.Core.List.{List, [], _∷_, map}
 use lib.Dec.{eqb}
 use Rattle.protocol.specs.declared.Answer.{Answer}
 use Rattle.protocol.specs.Memory.{update, appendCertificate, appendBlock}
 use Rattle.protocol.specs.Form.{allHold, allBelow, blockFormed, replicaFormed, certificateFormed, lengthsFit, countsFit}
-use Rattle.protocol.specs.Form.{wellFormed}
+use Rattle.protocol.specs.Form.{stepsFormed, wellFormed}
 use Rattle.protocol.specs.Certificates.{firstBelow, hasWords, numberFor, isFiled, canFile, file}
 use Rattle.protocol.specs.Leader.{leads}
-use Rattle.protocol.specs.Counter.{counterStep}
+use Rattle.protocol.specs.Counter.{stepsFrom, stepsAllowed, counterStep}
 use Rattle.protocol.specs.Quorum.{every, contains, distinct, greatestFrom, isQuorum}
 use Rattle.protocol.specs.Outcome.{firstRefusal, answered, follow}
 use Rattle.protocol.specs.Calls.{issuing, freshReplicas, opening, block, prepare, store, view, accumulate, decide, reboot}
@@ -22,6 +22,10 @@ use Rattle.protocol.specs.LeaderCases.{turnOfFive, lastViews}
 use Rattle.protocol.specs.RepeatCases.{repeatCases, viewsRepeated, accsAndBlocksRepeated, requestsAndRepliesRepeated, nothingStored}
 use Rattle.protocol.specs.RepeatCases.{proposalRepeated, proposalOnCommitsRepeated, commitRepeated, foundInAFullLogRaises}
 use Rattle.protocol.specs.RepeatCases.{foundReplyRaises, equalInAllWords}
+use Rattle.protocol.specs.StepCases.{stepCases, ownSteps, stepsOfOne, largestSteps, rebootsPastTheLast, ownStepsToTheEnd}
+use Rattle.protocol.specs.StepCases.{replyNearTheLimit, recoverNearTheLimit, scriptWithOwnSteps, brokenSteps}
+use Rattle.protocol.specs.StepCases.{stepsBetweenFaultsAndLengths, refusedOpeningLeavesSteps, openedAgainWithoutSteps}
+use Rattle.protocol.specs.TableCases.{tableCases, stepsAfterTheHeader, noStepIsZero, equalStepsDoNotFall, brokenTables}
 use Rattle.protocol.specs.Cases.{cases, CasesHold, workedScript, recoveryAfterIt, repliesOfAnEarlierBoot, noFaults}
 use Rattle.protocol.specs.Cases.{faultsAboveTheMost, faultsBeforeLengths, oneFault, thirtyFaults, freshView63, freshView64}
 use Rattle.protocol.specs.Cases.{oneCommitTwice, commitsJustify, blockZeroProposed, secondProposalInAView, fullLog, counterEnds}
@@ -58,8 +62,8 @@ same-answers (a ∷ given) (b ∷ wanted) e =
 
 -- A row's calls get the answers expected. Everything that the rules are made of opens with it.
 unfoldable holds : Case → Bool
-unfolding update appendCertificate appendBlock allHold allBelow blockFormed replicaFormed certificateFormed lengthsFit countsFit wellFormed
-    firstBelow hasWords numberFor isFiled canFile file leads counterStep every contains distinct isQuorum
+unfolding update appendCertificate appendBlock allHold allBelow blockFormed replicaFormed certificateFormed lengthsFit countsFit stepsFormed
+    wellFormed firstBelow hasWords numberFor isFiled canFile file leads stepsFrom stepsAllowed counterStep every contains distinct isQuorum
     greatestFrom firstRefusal answered follow issuing freshReplicas opening block prepare store view accumulate decide
     reboot reserve request reply recover ruleOf step run answers isAnswer areAnswers
 holds c = areAnswers (answers (c .start) (c .calls)) (c .expected)
@@ -67,6 +71,12 @@ holds c = areAnswers (answers (c .start) (c .calls)) (c .expected)
 row : (c : Case) → holds c ≡ true → answers (c .start) (c .calls) ≡ c .expected
 unfolding holds
 row c e = same-answers _ _ e
+
+rows : (cs : List Case) → allHold (map holds cs) ≡ true
+    → map (λ (c : Case). answers (c .start) (c .calls)) cs ≡ map (λ (c : Case). c .expected) cs
+unfolding allHold
+rows [] e = refl
+rows (c ∷ cs) e = let both = and-true (holds c) (allHold (map holds cs)) e in rw (row c (both .0), rows cs (both .1)) refl
 
 -- ---- the rows
 
@@ -198,8 +208,72 @@ equal-in-all-words : holds equalInAllWords ≡ true
 unfolding holds equalInAllWords
 equal-in-all-words = refl
 
+own-steps : holds ownSteps ≡ true
+unfolding holds ownSteps
+own-steps = refl
+
+steps-of-one : holds stepsOfOne ≡ true
+unfolding holds stepsOfOne
+steps-of-one = refl
+
+largest-steps : holds largestSteps ≡ true
+unfolding holds largestSteps
+largest-steps = refl
+
+reboots-past-the-last : holds rebootsPastTheLast ≡ true
+unfolding holds rebootsPastTheLast
+reboots-past-the-last = refl
+
+own-steps-to-the-end : holds ownStepsToTheEnd ≡ true
+unfolding holds ownStepsToTheEnd
+own-steps-to-the-end = refl
+
+reply-near-the-limit : holds replyNearTheLimit ≡ true
+unfolding holds replyNearTheLimit
+reply-near-the-limit = refl
+
+recover-near-the-limit : holds recoverNearTheLimit ≡ true
+unfolding holds recoverNearTheLimit
+recover-near-the-limit = refl
+
+script-with-own-steps : holds scriptWithOwnSteps ≡ true
+unfolding holds scriptWithOwnSteps
+script-with-own-steps = refl
+
+broken-steps : holds brokenSteps ≡ true
+unfolding holds brokenSteps
+broken-steps = refl
+
+steps-between-faults-and-lengths : holds stepsBetweenFaultsAndLengths ≡ true
+unfolding holds stepsBetweenFaultsAndLengths
+steps-between-faults-and-lengths = refl
+
+refused-opening-leaves-steps : holds refusedOpeningLeavesSteps ≡ true
+unfolding holds refusedOpeningLeavesSteps
+refused-opening-leaves-steps = refl
+
+opened-again-without-steps : holds openedAgainWithoutSteps ≡ true
+unfolding holds openedAgainWithoutSteps
+opened-again-without-steps = refl
+
+steps-after-the-header : holds stepsAfterTheHeader ≡ true
+unfolding holds stepsAfterTheHeader
+steps-after-the-header = refl
+
+no-step-is-zero : holds noStepIsZero ≡ true
+unfolding holds noStepIsZero
+no-step-is-zero = refl
+
+equal-steps-do-not-fall : holds equalStepsDoNotFall ≡ true
+unfolding holds equalStepsDoNotFall
+equal-steps-do-not-fall = refl
+
+broken-tables : allHold (map holds brokenTables) ≡ true
+unfolding holds brokenTables
+broken-tables = refl
+
 pub cases-hold : CasesHold
-unfolding CasesHold cases leaderCases repeatCases
+unfolding CasesHold cases leaderCases repeatCases stepCases tableCases
 cases-hold =
     rw (
       row workedScript worked-script,
@@ -234,4 +308,20 @@ cases-hold =
       row foundInAFullLogRaises found-in-a-full-log-raises,
       row foundReplyRaises found-reply-raises,
       row equalInAllWords equal-in-all-words,
+      row ownSteps own-steps,
+      row stepsOfOne steps-of-one,
+      row largestSteps largest-steps,
+      row rebootsPastTheLast reboots-past-the-last,
+      row ownStepsToTheEnd own-steps-to-the-end,
+      row replyNearTheLimit reply-near-the-limit,
+      row recoverNearTheLimit recover-near-the-limit,
+      row scriptWithOwnSteps script-with-own-steps,
+      row brokenSteps broken-steps,
+      row stepsBetweenFaultsAndLengths steps-between-faults-and-lengths,
+      row refusedOpeningLeavesSteps refused-opening-leaves-steps,
+      row openedAgainWithoutSteps opened-again-without-steps,
+      row stepsAfterTheHeader steps-after-the-header,
+      row noStepIsZero no-step-is-zero,
+      row equalStepsDoNotFall equal-steps-do-not-fall,
+      rows brokenTables broken-tables,
     ) refl

@@ -1,20 +1,24 @@
--- The form, both ways: what it tells, and what shows it; that parents fall, and the numbers that it tells.
-use Prim.Native.Nat.{ℕ, _≤_, _<_, _%_}
-use mathlib.Core.Path.{_≡_}
+-- The form, both ways: what it tells, and what shows it; how large steps are, that parents fall, and the numbers that it tells.
+use Prim.Native.Nat.{ℕ, suc, _≤_, _<_, _%_}
+use mathlib.Core.Path.{_≡_, refl}
 use mathlib.Core.Bool.{true, false}
+use mathlib.Core.List.{[], _∷_}
+use native.Mathlib.Omega.{arith}
 use lib.ListN.{length}
-use lib.Dec.{eqb}
-use Rattle.protocol.specs.Memory.{Memory, maxFaultBound, replicaCount, faultBound, certificateCount, blockCount, tableLength}
-use Rattle.protocol.specs.Memory.{replica, certificateWords, certificateAt, certificate, blockAt, parent}
+use lib.Dec.{leb, eqb}
+use Rattle.protocol.specs.Memory.{Memory, maxFaultBound, replicaCount, faultBound, certificateCount, blockCount, stepCount}
+use Rattle.protocol.specs.Memory.{lastStep, keptStep, tableLength, replica, certificateWords, certificateAt, certificate, blockAt}
+use Rattle.protocol.specs.Memory.{parent}
 use Rattle.protocol.specs.Ancestry.{Falls}
-use Rattle.protocol.specs.Form.{isFaultBound, lengthsFit, countsFit, blockFormed, replicaFormed, certificateFormed}
-use Rattle.protocol.specs.Form.{wellFormed}
-use Rattle.protocol.proofs.Booleans.{tests, each, all-hold, at-below, all-below}
+use Rattle.protocol.specs.Form.{allHold, isFaultBound, lengthsFit, countsFit, maxStep, stepsFormed, blockFormed, replicaFormed}
+use Rattle.protocol.specs.Form.{certificateFormed, wellFormed}
+use Rattle.protocol.proofs.Booleans.{tests, each, all-hold, at-below, all-below, same-below}
 
 pub record Formed (m : Memory) : Type 0 where
   pub faults : isFaultBound (faultBound m) ≡ true
   pub lengths : lengthsFit m (faultBound m) ≡ true
   pub counts : countsFit m ≡ true
+  pub steps : stepsFormed (keptStep m) ≡ true
   pub parents : (b : ℕ) → b < blockCount m → blockFormed b (parent m b) ≡ true
   pub rows : (i : ℕ) → i < replicaCount (faultBound m) → replicaFormed (blockCount m) (replica m i) ≡ true
   pub log : (c : ℕ) → c < certificateCount m
@@ -28,9 +32,10 @@ formed m e =
       faults = h .0;
       lengths = h .1 .0;
       counts = h .1 .1 .0;
-      parents = at-below _ _ (h .1 .1 .1 .0);
-      rows = at-below _ _ (h .1 .1 .1 .1 .0);
-      log = at-below _ _ (h .1 .1 .1 .1 .1 .0);
+      steps = h .1 .1 .1 .0;
+      parents = at-below _ _ (h .1 .1 .1 .1 .0);
+      rows = at-below _ _ (h .1 .1 .1 .1 .1 .0);
+      log = at-below _ _ (h .1 .1 .1 .1 .1 .1 .0);
     }
 
 pub form : (m : Memory) → Formed m → wellFormed m ≡ true
@@ -40,9 +45,33 @@ form m h =
       h .faults,
       (
         h .lengths,
-        (h .counts, (all-below _ _ (h .parents), (all-below _ _ (h .rows), (all-below _ _ (h .log), tt)))),
+        (
+          h .counts,
+          (h .steps, (all-below _ _ (h .parents), (all-below _ _ (h .rows), (all-below _ _ (h .log), tt)))),
+        ),
       ),
     )
+
+-- A step of their form moves the counter, and by at most 4,096.
+pub record StepBounds (step : ℕ) : Type 0 where
+  pub low : 1 ≤ step
+  pub high : step ≤ maxStep
+
+pub step-bounds : (step : ℕ → ℕ) → stepsFormed step ≡ true → (k : ℕ) → k < stepCount → StepBounds (step k)
+unfolding stepsFormed
+step-bounds step e k l = let h = each _ (at-below _ _ (each _ e .0) k l) in omega tests
+
+-- Steps that are the same have the same form.
+pub steps-same : (s t : ℕ → ℕ) → ((k : ℕ) → k < stepCount → s k ≡ t k) → stepsFormed s ≡ stepsFormed t
+unfolding stepsFormed
+steps-same s t h =
+    let ranges =
+    same-below stepCount (λ k. allHold (leb 1 (s k) ∷ leb (s k) maxStep ∷ [])) (λ k. allHold (leb 1 (t k) ∷ leb (t k) maxStep ∷ []))
+    (λ k l. rw (h k l) refl) in
+    let order =
+    same-below lastStep (λ k. leb (s k) (s (suc k))) (λ k. leb (t k) (t (suc k)))
+    (λ k l. rw (h k (omega arith), h (suc k) (omega arith)) refl) in
+    rw (ranges, order) refl
 
 -- Well-formed parents fall.
 pub falls : (m : Memory) → Formed m → Falls (parent m) (blockCount m)

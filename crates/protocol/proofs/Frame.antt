@@ -14,9 +14,10 @@ use Rattle.protocol.specs.Memory.{Memory, Certificate, Assignment, _beco
 use Rattle.protocol.specs.Memory.{certificateWords, certificateAt, certificate, words, replica, update, appendCertificate}
 use Rattle.protocol.specs.Memory.{appendBlock}
 use Rattle.protocol.specs.Certificates.{file}
+use Rattle.protocol.specs.Counter.{stepsFrom}
 use Rattle.protocol.specs.Quorum.{certificatesOf, firstOf}
 use Rattle.protocol.specs.Outcome.{Need}
-use Rattle.protocol.specs.Calls.{issuing, freshReplicas, freshHeader, opening, block, prepare, store, view}
+use Rattle.protocol.specs.Calls.{issuing, freshHeader, opening, block, prepare, store, view}
 use Rattle.protocol.specs.Calls.{accumulate, decide, reboot, reserve, request, reply, recover}
 use Rattle.protocol.specs.Runs.{ruleOf, step}
 use Rattle.protocol.specs.Theorems.{Address, tableWord, logWord, blockWord, wordAt, below, certificateAddresses, blockAddresses}
@@ -85,23 +86,25 @@ block-frame m b (tableWord j) h = block-table m b j (λ e. h .0 (ap tableWord e)
 block-frame m b (logWord j) h = refl
 block-frame m b (blockWord j) h = getD-set-other (m .blocks) _ j b 0 (λ e. h .1 .0 (ap blockWord e))
 
-opening-lengths : (m : Memory) (f : ℕ) → SameLengths (freshReplicas (freshHeader m f) (replicaCount f)) m
-opening-lengths m f =
-    let l = fresh-lengths (freshHeader m f) (replicaCount f) in
-    let s = header-lengths m f in
+opening-lengths : (m : Memory) (f : ℕ) (list : List ℕ) → SameLengths (opening m f list .after) m
+unfolding opening
+opening-lengths m f list =
+    let l = fresh-lengths (freshHeader m f (stepsFrom list)) _ (replicaCount f) in
+    let s = header-lengths m f (stepsFrom list) in
     record { table = l .table ∙ s .table; log = l .log ∙ s .log; blocks = l .blocks ∙ s .blocks }
 
-opening-frame : (m : Memory) (f : ℕ) (a : Address) → Apart a (named m (Open f))
-    → wordAt (freshReplicas (freshHeader m f) (replicaCount f)) a ≡ wordAt m a
-unfolding wordAt named
-opening-frame m f (tableWord j) h =
+opening-frame : (m : Memory) (f : ℕ) (list : List ℕ) (a : Address) → Apart a (named m (Open f))
+    → wordAt (opening m f list .after) a ≡ wordAt m a
+unfolding opening wordAt named
+opening-frame m f list (tableWord j) h =
     let far = past-run tableWord (length (m .table)) 0 j (simp zero-add (h .1)) (omega arith) in
-    let s = opening-lengths m f in
-    List·getD-eq-default (freshReplicas (freshHeader m f) (replicaCount f) .table) 0 {n = j} (omega arith)
+    let s = opening-lengths m f list in
+    List·getD-eq-default (opening m f list .after .table) 0 {n = j} (omega arith)
     ∙ sym (List·getD-eq-default (m .table) 0 {n = j} (omega arith))
-opening-frame m f (logWord j) h = ap (λ (l : List ℕ). getD l j 0) (fresh-log (freshHeader m f) (replicaCount f))
-opening-frame m f (blockWord j) h =
-    ap (λ (l : List ℕ). getD l j 0) (fresh-blocks (freshHeader m f) (replicaCount f))
+opening-frame m f list (logWord j) h =
+    ap (λ (l : List ℕ). getD l j 0) (fresh-log (freshHeader m f (stepsFrom list)) _ (replicaCount f))
+opening-frame m f list (blockWord j) h =
+    ap (λ (l : List ℕ). getD l j 0) (fresh-blocks (freshHeader m f (stepsFrom list)) _ (replicaCount f))
     ∙ getD-set-other (m .blocks) _ j 0 0 (λ e. h .0 (ap blockWord e))
 
 -- ---- the calls
@@ -109,7 +112,7 @@ opening-frame m f (blockWord j) h =
 frame : (m : Memory) (call : Call) (list : List ℕ) (a : Address) → Apart a (named m call)
     → wordAt (ruleOf m call list .after) a ≡ wordAt m a
 unfolding ruleOf named opening block prepare store view accumulate decide reboot reserve request reply recover
-frame m (Open f) list a h = opening-frame m f a h
+frame m (Open f) list a h = opening-frame m f list a h
 frame m (Block b) list a h = block-frame m b a h
 frame m (Prepare i b justification) list a h = issuing-frame m _ i _ _ a (h .0, tt) (h .1)
 frame m (Store i number) list a h = issuing-frame m _ i _ _ a (h .0, (h .1 .0, (h .1 .1 .0, (h .1 .1 .1 .0, tt)))) (h .1 .1 .1 .1)
@@ -142,7 +145,7 @@ issuing-lengths m needs i cs c =
 
 lengths-after : (m : Memory) (call : Call) (list : List ℕ) → SameLengths (ruleOf m call list .after) m
 unfolding ruleOf opening block prepare store view accumulate decide reboot reserve request reply recover
-lengths-after m (Open f) list = opening-lengths m f
+lengths-after m (Open f) list = opening-lengths m f list
 lengths-after m (Block b) list = block-lengths m b
 lengths-after m (Prepare i b justification) list = issuing-lengths m _ i _ _
 lengths-after m (Store i number) list = issuing-lengths m _ i _ _

@@ -7,7 +7,7 @@ use native.Mathlib.Omega.{arith}
 use lib.ListN.{length}
 use lib.Dec.{eqb}
 use Rattle.protocol.specs.Memory.{Memory, Replica, Certificate, Assignment, replicaCount, faultBoundAt, certificateCountAt}
-use Rattle.protocol.specs.Memory.{blockCountAt, faultBound, certificateCount, blockCount, replica, certificateWords}
+use Rattle.protocol.specs.Memory.{blockCountAt, faultBound, certificateCount, blockCount, stepAt, keptStep, replica, certificateWords}
 use Rattle.protocol.specs.Memory.{certificateAt, certificate, words, blockAt, update, appendCertificate, appendBlock}
 use Rattle.protocol.specs.Form.{lengthsFit, countsFit, blockFormed, replicaFormed, certificateFormed}
 use Rattle.protocol.specs.Certificates.{canFile, file, logHasRoom}
@@ -18,7 +18,7 @@ use Rattle.protocol.specs.Theorems.{SameLengths}
 use Rattle.protocol.proofs.Booleans.{tests, by-test, each, all-hold}
 use Rattle.protocol.proofs.Needs.{Holds, holds-both}
 use Rattle.protocol.proofs.Words.{withinRow}
-use Rattle.protocol.proofs.Formed.{Formed, sizes}
+use Rattle.protocol.proofs.Formed.{Formed, steps-same, sizes}
 use Rattle.protocol.proofs.Filing.{file-cases, must-have-room, file-table, file-replica}
 use Rattle.protocol.proofs.Changes.{changed, certificateFrom, update-lengths, update-header, update-other, update-own}
 use Rattle.protocol.proofs.Changes.{append-lengths, append-table, append-count, append-replica, append-old, append-new}
@@ -69,6 +69,7 @@ update-keeps m i cs h own suits =
       faults = rw f (h .faults);
       lengths = rw f (same ∙ h .lengths);
       counts = counts-fit (update m i cs) (omega arith) (omega arith) (omega arith);
+      steps = steps-same _ (keptStep m) (λ k l. update-header m i cs within (stepAt k) (omega arith)) ∙ h .steps;
       parents = λ x l. h .parents x (omega arith);
       rows =
           λ j l.
@@ -97,6 +98,7 @@ append-keeps m ws whole h room good =
       faults = rw f (h .faults);
       lengths = rw f (lengths-same (appendCertificate m ws) m (faultBound m) s ∙ h .lengths);
       counts = counts-fit (appendCertificate m ws) (omega arith) (omega arith) (omega arith);
+      steps = steps-same _ (keptStep m) (λ k l. append-table m ws whole (stepAt k) (omega arith)) ∙ h .steps;
       parents = λ x l. h .parents x (omega arith);
       rows = λ j l. rw b (ap (replicaFormed (blockCount m)) (append-replica m ws whole j) ∙ h .rows j (omega arith));
       log =
@@ -130,6 +132,7 @@ block-keeps m p h known room =
       faults = rw f (h .faults);
       lengths = rw f (lengths-same (appendBlock m p) m (faultBound m) s ∙ h .lengths);
       counts = counts-fit (appendBlock m p) (omega arith) (omega arith) (omega arith);
+      steps = steps-same _ (keptStep m) (λ k l. block-table m p (stepAt k) (omega arith)) ∙ h .steps;
       parents =
           λ x l.
           by-test (eqb x (blockCount m))

@@ -29,9 +29,9 @@ use Rattle.protocol.proofs.Opened.{opened, opened-formed}
 abbrev InRange : Memory → Certificate → Type 0
 InRange m c = certificateFormed (replicaCount (faultBound m)) (blockCount m) c ≡ true
 
-pub opening-leaves : (m : Memory) (f : ℕ) → Holds (opening m f .needs) → Formed (opening m f .after)
+pub opening-leaves : (m : Memory) (f : ℕ) (list : List ℕ) → Holds (opening m f list .needs) → Formed (opening m f list .after)
 unfolding opening
-opening-leaves m f h = opened-formed m f _ (h .0) (h .1 .0) (opened m f (h .1 .0))
+opening-leaves m f list h = opened-formed m f list _ (h .0) (h .1 .0) (h .1 .1 .0) (opened m f list (h .1 .0) (h .1 .1 .0))
 
 pub block-leaves : (m : Memory) (p : ℕ) → Holds (block m p .needs) → Formed (block m p .after)
 unfolding block
@@ -155,7 +155,7 @@ recover-leaves m i list h =
 
 leaves : (m : Memory) (call : Call) (list : List ℕ) → Holds (ruleOf m call list .needs) → Formed (ruleOf m call list .after)
 unfolding ruleOf
-leaves m (Open f) list h = opening-leaves m f h
+leaves m (Open f) list h = opening-leaves m f list h
 leaves m (Block p) list h = block-leaves m p h
 leaves m (Prepare i b justification) list h = prepare-leaves m i b justification list h
 leaves m (Store i number) list h = store-leaves m i number h

@@ -29,5 +29,6 @@ pub mod Reached
 pub mod Agreement
 pub mod Repeats
 pub mod MadeAgain
+pub mod Steps
 pub mod Leaders
 pub mod Cases

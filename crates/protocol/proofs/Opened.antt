@@ -1,21 +1,23 @@
--- What opening leaves: a header, fresh replicas, one block; so the form, whatever the memory held.
+-- What opening leaves: a header, the steps, fresh replicas, one block; so the form, whatever the memory held.
 use Prim.Native.Nat.{ℕ, zero, suc, _≤_, _<_}
 use mathlib.Core.Path.{_≡_, refl, ap, _∙_}
 use mathlib.Core.Bool.{true}
 use mathlib.Core.List.{List}
 use native.Mathlib.Omega.{arith}
 use lib.ListN.{length, getD, set, length-set}
-use lib.Seq.{getD-set-same, getD-set-other}
+use lib.Seq.{sets, getD-set-same, getD-set-other, length-sets}
 use lib.Dec.{eqb}
 use Rattle.protocol.specs.Memory.{Memory, Replica, replicaCount, faultBoundAt, certificateCountAt, blockCountAt, faultBound}
-use Rattle.protocol.specs.Memory.{certificateCount, blockCount, rowStart, rowAt, replica, parent, live, lowered, update}
+use Rattle.protocol.specs.Memory.{certificateCount, blockCount, stepCount, stepAt, keptStep, rowStart, rowAt, replica, parent}
+use Rattle.protocol.specs.Memory.{live, lowered, update}
 use Rattle.protocol.specs.Form.{isFaultBound, lengthsFit, blockFormed, replicaFormed}
-use Rattle.protocol.specs.Counter.{counterStep}
-use Rattle.protocol.specs.Calls.{freshReplica, freshReplicas, freshHeader}
+use Rattle.protocol.specs.Counter.{stepsFrom, stepsAllowed}
+use Rattle.protocol.specs.Calls.{freshReplica, freshReplicas, freshHeader, opening}
 use Rattle.protocol.specs.Theorems.{SameLengths}
 use Rattle.protocol.proofs.Booleans.{tests, by-test, each, all-hold}
+use Rattle.protocol.proofs.Words.{sets-elsewhere, sets-at}
 use Rattle.protocol.proofs.Changes.{update-lengths, update-header, update-other, update-own}
-use Rattle.protocol.proofs.Formed.{Formed}
+use Rattle.protocol.proofs.Formed.{Formed, step-bounds, steps-same}
 use Rattle.protocol.proofs.Keeps.{lengths-same, counts-fit}
 
 -- A replica as opening leaves it.
@@ -33,44 +35,44 @@ fresh limit =
       decidedBlock = 0;
     }
 
-pub fresh-lengths : (m : Memory) (k : ℕ) → SameLengths (freshReplicas m k) m
-unfolding freshReplicas update
-fresh-lengths m zero = record { table = refl; log = refl; blocks = refl }
-fresh-lengths m (suc k) =
-    let s = fresh-lengths m k in
-    let u = update-lengths (freshReplicas m k) k (freshReplica (counterStep m 0)) in
-    record { table = u .table ∙ s .table; log = s .log; blocks = s .blocks }
+module _ (m : Memory) (limit : ℕ) where
+  pub fresh-lengths : (k : ℕ) → SameLengths (freshReplicas m limit k) m
+  unfolding freshReplicas update
+  fresh-lengths zero = record { table = refl; log = refl; blocks = refl }
+  fresh-lengths (suc k) =
+      let s = fresh-lengths k in
+      let u = update-lengths (freshReplicas m limit k) k (freshReplica limit) in
+      record { table = u .table ∙ s .table; log = s .log; blocks = s .blocks }
 
-pub fresh-log : (m : Memory) (k : ℕ) → freshReplicas m k .log ≡ m .log
-unfolding freshReplicas update
-fresh-log m zero = refl
-fresh-log m (suc k) = fresh-log m k
+  pub fresh-log : (k : ℕ) → freshReplicas m limit k .log ≡ m .log
+  unfolding freshReplicas update
+  fresh-log zero = refl
+  fresh-log (suc k) = fresh-log k
 
-pub fresh-blocks : (m : Memory) (k : ℕ) → freshReplicas m k .blocks ≡ m .blocks
-unfolding freshReplicas update
-fresh-blocks m zero = refl
-fresh-blocks m (suc k) = fresh-blocks m k
+  pub fresh-blocks : (k : ℕ) → freshReplicas m limit k .blocks ≡ m .blocks
+  unfolding freshReplicas update
+  fresh-blocks zero = refl
+  fresh-blocks (suc k) = fresh-blocks k
 
-pub fresh-header : (m : Memory) (k j : ℕ) → j < rowStart → getD (freshReplicas m k .table) j 0 ≡ getD (m .table) j 0
-unfolding freshReplicas
-fresh-header m zero j h = refl
-fresh-header m (suc k) j h = update-header (freshReplicas m k) k (freshReplica (counterStep m 0)) refl j h ∙ fresh-header m k j h
+  pub fresh-header : (k j : ℕ) → j < rowStart → getD (freshReplicas m limit k .table) j 0 ≡ getD (m .table) j 0
+  unfolding freshReplicas
+  fresh-header zero j h = refl
+  fresh-header (suc k) j h = update-header (freshReplicas m limit k) k (freshReplica limit) refl j h ∙ fresh-header k j h
 
-pub fresh-row : (m : Memory) (k i : ℕ) → i < k → rowAt k ≤ length (m .table)
-    → replica (freshReplicas m k) i ≡ fresh (counterStep m 0)
-unfolding freshReplicas
-fresh-row m zero i h room = absurd (omega arith)
-fresh-row m (suc k) i h room =
-    let s = fresh-lengths m k in
-    by-test (eqb i k)
-    (λ e. let q : i ≡ k = omega tests in rw q (update-own (freshReplicas m k) k (freshReplica (counterStep m 0)) refl (omega arith)))
-    (λ e. update-other (freshReplicas m k) k (freshReplica (counterStep m 0)) refl i (omega tests) ∙ fresh-row m k i (omega tests)
-    (omega arith))
+  pub fresh-row : (k i : ℕ) → i < k → rowAt k ≤ length (m .table) → replica (freshReplicas m limit k) i ≡ fresh limit
+  unfolding freshReplicas
+  fresh-row zero i h room = absurd (omega arith)
+  fresh-row (suc k) i h room =
+      let s = fresh-lengths k in
+      by-test (eqb i k)
+      (λ e. let q : i ≡ k = omega tests in rw q (update-own (freshReplicas m limit k) k (freshReplica limit) refl (omega arith)))
+      (λ e. update-other (freshReplicas m limit k) k (freshReplica limit) refl i (omega tests) ∙ fresh-row k i (omega tests) (omega arith))
 
--- ---- the header
+-- ---- the header and the steps
 
-pub header-lengths : (m : Memory) (f : ℕ) → SameLengths (freshHeader m f) m
-header-lengths m f = record { table = simp length-set; log = refl; blocks = simp length-set }
+pub header-lengths : (m : Memory) (f : ℕ) (steps : List ℕ) → SameLengths (freshHeader m f steps) m
+header-lengths m f steps =
+    record { table = length-sets _ (stepAt 0) steps ∙ simp length-set; log = refl; blocks = simp length-set }
 
 pub record Header (m : Memory) (f : ℕ) : Type 0 where
   pub faults : faultBound m ≡ f
@@ -92,28 +94,41 @@ header-words t f certificates blocks h =
       getD-set-same counted blockCountAt blocks 0 (simp length-set (omega arith)),
     )
 
-pub header : (m : Memory) (f : ℕ) → lengthsFit m f ≡ true → Header (freshHeader m f) f
-unfolding lengthsFit
-header m f fit =
-    let h = each _ fit in
-    let w = header-words (m .table) f _ _ (omega tests) in
-    record { faults = w .0; certificates = w .1; blocks = w .2 }
+-- The steps come after them.
+before-steps : (t steps : List ℕ) (k : ℕ) → k < stepAt 0 → getD (sets t (stepAt 0) steps) k 0 ≡ getD t k 0
+before-steps t steps k h = sets-elsewhere steps t (stepAt 0) k (λ le. absurd (omega arith))
 
--- What opening leaves, named: everything that the form and the later argument about lists of calls need to know of it.
-pub record Opened (m : Memory) (f : ℕ) (o : Memory) : Type 0 where
+pub header : (m : Memory) (f : ℕ) (steps : List ℕ) → lengthsFit m f ≡ true → Header (freshHeader m f steps) f
+unfolding lengthsFit
+header m f steps fit =
+    let h = each _ fit in
+    let w = header-words (m .table) f 0 1 (omega tests) in
+    record {
+      faults = before-steps _ steps faultBoundAt (omega arith) ∙ w .0;
+      certificates = before-steps _ steps certificateCountAt (omega arith) ∙ w .1;
+      blocks = before-steps _ steps blockCountAt (omega arith) ∙ w .2;
+    }
+
+-- What opening leaves with these steps, named: everything that the form and the later argument about lists of calls need to know of it.
+pub record Opened (m : Memory) (f : ℕ) (given : List ℕ) (o : Memory) : Type 0 where
   pub lengths : SameLengths o m
   pub header : Header o f
+  pub steps : (k : ℕ) → k < stepCount → keptStep o k ≡ getD given k 0
   pub root : parent o 0 ≡ 0
-  pub rows : (i : ℕ) → i < replicaCount f → replica o i ≡ fresh (counterStep m 0)
+  pub rows : (i : ℕ) → i < replicaCount f → replica o i ≡ fresh (getD given 0 0)
 
-pub opened : (m : Memory) (f : ℕ) → lengthsFit m f ≡ true → Opened m f (freshReplicas (freshHeader m f) (replicaCount f))
-unfolding lengthsFit counterStep
-opened m f fit =
+pub opened : (m : Memory) (f : ℕ) (list : List ℕ) → stepsAllowed list ≡ true → lengthsFit m f ≡ true
+    → Opened m f (stepsFrom list) (opening m f list .after)
+unfolding opening lengthsFit stepsAllowed
+opened m f list allowed fit =
+    let eight = each _ allowed in
     let h = each _ fit in
-    let s = header-lengths m f in
-    let l = fresh-lengths (freshHeader m f) (replicaCount f) in
-    let head = header m f fit in
-    let same = fresh-header (freshHeader m f) (replicaCount f) in
+    let steps = stepsFrom list in
+    let limit = getD steps 0 0 in
+    let s = header-lengths m f steps in
+    let l = fresh-lengths (freshHeader m f steps) limit (replicaCount f) in
+    let head = header m f steps fit in
+    let same = fresh-header (freshHeader m f steps) limit (replicaCount f) in
     record {
       lengths = record { table = l .table ∙ s .table; log = l .log ∙ s .log; blocks = l .blocks ∙ s .blocks };
       header =
@@ -122,20 +137,25 @@ opened m f fit =
             certificates = same certificateCountAt (omega arith) ∙ head .certificates;
             blocks = same blockCountAt (omega arith) ∙ head .blocks;
           };
-      root = rw (fresh-blocks (freshHeader m f) (replicaCount f)) (getD-set-same (m .blocks) 0 0 0 (omega tests));
-      rows = λ i own. fresh-row (freshHeader m f) (replicaCount f) i own (omega tests);
+      steps = λ k l. same (stepAt k) (omega arith) ∙ sets-at steps _ (stepAt 0) k (omega tests) (simp length-set (omega tests));
+      root = rw (fresh-blocks (freshHeader m f steps) limit (replicaCount f)) (getD-set-same (m .blocks) 0 0 0 (omega tests));
+      rows = λ i own. fresh-row (freshHeader m f steps) limit (replicaCount f) i own (omega tests);
     }
 
-pub opened-formed : (m : Memory) (f : ℕ) (o : Memory) → isFaultBound f ≡ true → lengthsFit m f ≡ true → Opened m f o → Formed o
-unfolding lengthsFit blockFormed replicaFormed counterStep
-opened-formed m f o bound fit h =
+pub opened-formed : (m : Memory) (f : ℕ) (list : List ℕ) (o : Memory) → isFaultBound f ≡ true → stepsAllowed list ≡ true
+    → lengthsFit m f ≡ true → Opened m f (stepsFrom list) o → Formed o
+unfolding lengthsFit stepsAllowed blockFormed replicaFormed
+opened-formed m f list o bound allowed fit h =
     let a = each _ fit in
+    let formed = each _ allowed .1 .0 in
+    let first = step-bounds _ formed 0 (omega arith) in
     let head = h .header in
     let s = h .lengths in
     record {
       faults = rw (head .faults) bound;
       lengths = rw (head .faults) (lengths-same o m f s ∙ fit);
       counts = counts-fit o (omega tests) (omega tests) (omega tests);
+      steps = steps-same _ _ (h .steps) ∙ formed;
       parents = λ x l. let q : x ≡ 0 = omega arith in rw q (let r = h .root in omega tests);
       rows = λ i l. ap (replicaFormed (blockCount o)) (h .rows i (omega arith)) ∙ all-hold _ (omega tests);
       log = λ x l. absurd (omega arith);

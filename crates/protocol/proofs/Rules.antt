@@ -14,7 +14,7 @@ use Rattle.protocol.specs.Outcome.{wrongForm, firstRefusal, answered, fo
 use Rattle.protocol.specs.Calls.{issuing, opening, block, prepare, store, view, accumulate, decide, reboot, reserve}
 use Rattle.protocol.specs.Calls.{request, reply, recover}
 use Rattle.protocol.specs.Runs.{ruleOf, step}
-use Rattle.protocol.specs.Theorems.{Accepted, isOpening, RefusedChangesNothing, LowestWins, OpeningTestsFaultsFirst}
+use Rattle.protocol.specs.Theorems.{Accepted, isOpening, RefusedChangesNothing, LowestWins, OpeningOrder}
 use Rattle.protocol.proofs.Needs.{Holds, positive, risingFrom, all-needs, fails, no-refusal, refused, lowest}
 
 numbers-positive : (m : Memory) (call : Call) (list : List ℕ) → positive (ruleOf m call list .needs) ≡ true
@@ -82,6 +82,12 @@ pub lowest-wins : LowestWins
 unfolding LowestWins step
 lowest-wins m call list e number w = lowest m (ruleOf m call list) (numbers-rise m call list e) w
 
-pub opening-tests-faults-first : OpeningTestsFaultsFirst
-unfolding OpeningTestsFaultsFirst step ruleOf opening follow firstRefusal answered
-opening-tests-faults-first m f list e = rw e refl
+pub opening-order : OpeningOrder
+unfolding OpeningOrder step ruleOf opening follow firstRefusal answered
+opening-order m f list =
+    record {
+      faults = λ no. rw no refl;
+      steps = λ bound no. rw (bound, no) refl;
+      lengths = λ bound allowed no. rw (bound, allowed, no) refl;
+      accepted = λ bound allowed fit. rw (bound, allowed, fit) refl;
+    }

@@ -10,7 +10,7 @@ use Rattle.protocol.specs.Memory.{Memory, Replica, faultBoundAt, certifi
 use Rattle.protocol.specs.Memory.{replica, certificate, parent, appendBlock}
 use Rattle.protocol.specs.Form.{isFaultBound, lengthsFit, certificateFormed}
 use Rattle.protocol.specs.Certificates.{PROP, COMMIT}
-use Rattle.protocol.specs.Counter.{counterStep}
+use Rattle.protocol.specs.Counter.{stepsFrom, stepsAllowed}
 use Rattle.protocol.specs.Quorum.{contains}
 use Rattle.protocol.proofs.Booleans.{tests, by-test, each}
 use Rattle.protocol.proofs.Changes.{block-table, block-count, block-replica, block-old}
@@ -23,13 +23,13 @@ use Rattle.protocol.proofs.Moves.{Moves, certificate-after, replica-aft
 
 -- ---- opening
 
-pub opened-safe : (m : Memory) (f : ℕ) (o : Memory) → isFaultBound f ≡ true → lengthsFit m f ≡ true → Opened m f o → Safe o
-unfolding counterStep
-opened-safe m f o bound fit h =
+pub opened-safe : (m : Memory) (f : ℕ) (list : List ℕ) (o : Memory) → isFaultBound f ≡ true → stepsAllowed list ≡ true
+    → lengthsFit m f ≡ true → Opened m f (stepsFrom list) o → Safe o
+opened-safe m f list o bound allowed fit h =
     let none = h .header .certificates in
     let same = h .header .faults in
     record {
-      formed = opened-formed m f o bound fit h;
+      formed = opened-formed m f list o bound allowed fit h;
       log = λ c l. absurd (omega arith);
       rows =
           λ i l.

@@ -12,7 +12,7 @@ use Rattle.protocol.specs.declared.Call.the-variants.{Reserve, Request, 
 use Rattle.protocol.specs.Memory.{Memory, memory, Certificate, Assignment, replicaCount, certificate, replica, words, update}
 use Rattle.protocol.specs.declared.Justification.{Justification}
 use Rattle.protocol.specs.declared.Justification.the-variants.{Acc, Commits}
-use Rattle.protocol.specs.Counter.{counterStep}
+use Rattle.protocol.specs.Counter.{stepsFrom, counterStep}
 use Rattle.protocol.specs.Form.{wellFormed, lengthsFit}
 use Rattle.protocol.specs.Certificates.{found, appended, file}
 use Rattle.protocol.specs.Quorum.{certificatesOf, firstOf}
@@ -232,11 +232,11 @@ module _ (m : Memory) (l b : List ℕ) (a : Alike m (twin m l b)) where
             (record { first = refl; second = refl; after = updated-same i _ (record { row = refl }) });
       }
 
-  fresh-alike : (f k : ℕ) → lengthsFit m f ≡ true
-      → Alike (freshReplicas (freshHeader m f) k) (freshReplicas (freshHeader (twin m l b) f) k)
-  unfolding freshReplicas counterStep
-  fresh-alike f zero fit =
-      let h = header m f fit in
+  fresh-alike : (f : ℕ) (steps : List ℕ) (limit k : ℕ) → lengthsFit m f ≡ true
+      → Alike (freshReplicas (freshHeader m f steps) limit k) (freshReplicas (freshHeader (twin m l b) f steps) limit k)
+  unfolding freshReplicas
+  fresh-alike f steps limit zero fit =
+      let h = header m f steps fit in
       record {
         table = refl;
         logLength = a .logLength;
@@ -244,19 +244,19 @@ module _ (m : Memory) (l b : List ℕ) (a : Alike m (twin m l b)) where
         log = λ k j. absurd (omega arith);
         blocks = λ k j. set-alike (m .blocks) b 0 0 k (a .blocksLength) (λ q. absurd (omega arith));
       }
-  fresh-alike f (suc k) fit = update-alike _ _ k (freshReplica (counterStep m 0)) refl (fresh-alike f k fit)
+  fresh-alike f steps limit (suc k) fit = update-alike _ _ k (freshReplica limit) refl (fresh-alike f steps limit k fit)
 
-  opening-same : (f : ℕ) → SameRule (opening m f) (opening (twin m l b) f)
+  opening-same : (f : ℕ) (list : List ℕ) → SameRule (opening m f list) (opening (twin m l b) f list)
   unfolding opening
-  opening-same f =
+  opening-same f list =
       record {
-        needs = next refl (λ _. next (lengths-same m (twin m l b) f (lengths-alike m l b a)) (λ _. agree-end));
-        results = λ h. record { first = refl; second = refl; after = fresh-alike f (replicaCount f) (h .1 .0) };
+        needs = next refl (λ _. next refl (λ _. next (lengths-same m (twin m l b) f (lengths-alike m l b a)) (λ _. agree-end)));
+        results = λ h. record { first = refl; second = refl; after = fresh-alike f (stepsFrom list) _ (replicaCount f) (h .1 .1 .0) };
       }
 
   rule-same : (call : Call) (list : List ℕ) → SameRule (ruleOf m call list) (ruleOf (twin m l b) call list)
   unfolding ruleOf
-  rule-same (Open f) list = opening-same f
+  rule-same (Open f) list = opening-same f list
   rule-same (Block p) list = block-same p
   rule-same (Prepare i x j) list = record { needs = prepare-needs i x j list; results = prepare-results i x j list }
   rule-same (Store i number) list = record { needs = store-needs i number; results = store-results i number }

@@ -1,21 +1,20 @@
--- A call's number is at most 9 and its values are at most 1,000,000.
+-- A call's number is at most 9, or an opening's 12, and its values are at most 1,000,000.
 use Prim.Native.Nat.{ℕ, zero, suc, _≤_}
 use mathlib.Core.Path.{_≡_, refl}
 use mathlib.Core.Bool.{Bool, true, false, _&&_}
 use mathlib.Core.List.{List, [], _∷_}
 use native.Mathlib.Omega.{arith}
-use lib.Dec.{leb}
 use Rattle.protocol.specs.declared.Call.{Call}
 use Rattle.protocol.specs.declared.Call.the-variants.{Open, Block, Prepare, Store, View, Accumulate, Decide, Reboot}
 use Rattle.protocol.specs.declared.Call.the-variants.{Reserve, Request, Reply, Recover}
 use Rattle.protocol.specs.Memory.{Memory, Certificate, ceiling, certificateCount, blockCount}
 use Rattle.protocol.specs.Form.{lengthsFit, countsFit, replicaFormed, certificateFormed, wellFormed}
 use Rattle.protocol.specs.Certificates.{numberFor, isFiled, foundOrAppended}
-use Rattle.protocol.specs.Outcome.{Need, _else_, Rule, noRoom, firstRefusal, answered, follow}
+use Rattle.protocol.specs.Outcome.{Need, _else_, Rule, firstRefusal, answered, follow}
 use Rattle.protocol.specs.Calls.{issuing, opening, block, prepare, store, view, accumulate, decide, reboot}
 use Rattle.protocol.specs.Calls.{reserve, request, reply, recover}
 use Rattle.protocol.specs.Runs.{ruleOf, step}
-use Rattle.protocol.specs.Theorems.{Fits, ValuesFit}
+use Rattle.protocol.specs.Theorems.{mayReturn, Fits, ValuesFit}
 use Rattle.protocol.proofs.Booleans.{tests, by-test, by-cond, and-true, each}
 use Rattle.protocol.proofs.Needs.{Holds}
 use Rattle.protocol.proofs.Rules.{needs-hold}
@@ -26,16 +25,16 @@ use Rattle.protocol.proofs.LeavesForm.{reboot-retires, in-range}
 
 -- ---- numbers
 
--- No number of a list of needs is above 9.
-abbrev upToNoRoom : List Need → Bool
-upToNoRoom [] = true
-upToNoRoom ((t else n) ∷ rest) = leb n noRoom && upToNoRoom rest
+-- The call may return each number of a list of needs.
+abbrev mayReturnAll : Call → List Need → Bool
+mayReturnAll call [] = true
+mayReturnAll call ((t else n) ∷ rest) = mayReturn call n && mayReturnAll call rest
 
-refusal-fits : (ns : List Need) → upToNoRoom ns ≡ true → firstRefusal ns ≤ noRoom
+refusal-fits : (call : Call) (ns : List Need) → mayReturnAll call ns ≡ true → mayReturn call (firstRefusal ns) ≡ true
 unfolding firstRefusal
-refusal-fits [] e = omega arith
-refusal-fits ((true else n) ∷ rest) e = refusal-fits rest (and-true (leb n noRoom) (upToNoRoom rest) e .1)
-refusal-fits ((false else n) ∷ rest) e = let h = and-true (leb n noRoom) (upToNoRoom rest) e in omega tests
+refusal-fits call [] e = refl
+refusal-fits call ((true else n) ∷ rest) e = refusal-fits call rest (and-true (mayReturn call n) (mayReturnAll call rest) e .1)
+refusal-fits call ((false else n) ∷ rest) e = and-true (mayReturn call n) (mayReturnAll call rest) e .0
 
 -- ---- values
 
@@ -60,10 +59,10 @@ issued-small m ws e =
 -- ---- the calls
 
 -- What a rule may refuse with, and its values where it does not refuse.
-abbrev RuleFits : Rule → Type 0
-RuleFits rule = (upToNoRoom (rule .needs) ≡ true) × (Holds (rule .needs) → Small (rule .first) (rule .second))
+abbrev RuleFits : Call → Rule → Type 0
+RuleFits call rule = (mayReturnAll call (rule .needs) ≡ true) × (Holds (rule .needs) → Small (rule .first) (rule .second))
 
-rule-fits : (m : Memory) (call : Call) (list : List ℕ) → RuleFits (ruleOf m call list)
+rule-fits : (m : Memory) (call : Call) (list : List ℕ) → RuleFits call (ruleOf m call list)
 unfolding ruleOf issuing opening block prepare store view accumulate decide reboot reserve request reply recover replicaFormed
     certificateFormed
 rule-fits m (Open f) list = (refl, λ h. let range = each _ (h .0) in omega tests)
@@ -91,17 +90,17 @@ rule-fits m (Request i) list = (refl, λ h. issued-small m _ (h .0))
 rule-fits m (Reply i number) list = (refl, λ h. issued-small m _ (h .0))
 rule-fits m (Recover i) list = (refl, λ h. let r = each _ (formed m (h .0) .rows i (omega tests)) in omega tests)
 
-answer-fits : (m : Memory) (rule : Rule) → firstRefusal (rule .needs) ≤ noRoom
-    → (firstRefusal (rule .needs) ≡ 0 → Small (rule .first) (rule .second)) → Fits (follow m rule .answer)
+answer-fits : (m : Memory) (call : Call) (rule : Rule) → mayReturn call (firstRefusal (rule .needs)) ≡ true
+    → (firstRefusal (rule .needs) ≡ 0 → Small (rule .first) (rule .second)) → Fits call (follow m rule .answer)
 unfolding follow answered
-answer-fits m rule number values = go (firstRefusal (rule .needs)) number values
+answer-fits m call rule number values = go (firstRefusal (rule .needs)) number values
   where
-    go : (n : ℕ) → n ≤ noRoom → (n ≡ 0 → Small (rule .first) (rule .second)) → Fits (answered n m rule .answer)
-    go zero le values = let both = values refl in omega arith
-    go (suc n) le values = omega arith
+    go : (n : ℕ) → mayReturn call n ≡ true → (n ≡ 0 → Small (rule .first) (rule .second)) → Fits call (answered n m rule .answer)
+    go zero may values = let both = values refl in record { number = may; first = both .0; second = both .1 }
+    go (suc n) may values = record { number = may; first = omega arith; second = omega arith }
 
 pub values-fit : ValuesFit
 unfolding ValuesFit step
 values-fit m call list =
     let good = rule-fits m call list in
-    answer-fits m (ruleOf m call list) (refusal-fits _ (good .0)) (λ e. good .1 (needs-hold m call list e))
+    answer-fits m call (ruleOf m call list) (refusal-fits call _ (good .0)) (λ e. good .1 (needs-hold m call list e))

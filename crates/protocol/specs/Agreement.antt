@@ -27,7 +27,8 @@ pub record Agreed (events : List Event) : Type 0 where
   pub panelsRise : PanelsRise events
 
 -- "The list starts from the memory that an accepted Open leaves, for each f, all fitting lengths and any earlier contents. Each call in
--- it is one of the other eleven or a refused Open, in any order, with any numbers and lists." Nothing else is assumed.
+-- it is one of the other eleven or a refused Open, in any order, with any numbers and lists." Nothing else is assumed. The list beside the
+-- opening is any that it accepts: what holds of executions holds "with any allowed steps" (document 02, #104).
 -- Call this an execution of a ledger.
 pub record Execution (m : Memory) (f : ℕ) (list : List ℕ) (calls : List Invocation) : Type 0 where
   pub opened : Accepted (step m (Open f) list)
@@ -40,6 +41,7 @@ eventsOf m f list calls = history [] (step m (Open f) list .memory) calls
 abbrev pub endOf : Memory → ℕ → List ℕ → List Invocation → Memory
 endOf m f list calls = run (step m (Open f) list .memory) calls
 
+-- Document 02, #104: "A pool with any allowed steps is still safe from conflicting decisions."
 unfoldable pub Agreement : Type 0
 Agreement =
     (m : Memory) (f : ℕ) (list : List ℕ) (calls : List Invocation) → Execution m f list calls → Agreed (eventsOf m f list calls)

@@ -1,27 +1,29 @@
 -- The rules of the twelve calls (document 01, "Calls"), each with its sentence. The needs of each stand in rising order, as in the
--- table of refusals; opening alone tests f (2) before lengths (1). The first needs of most are those of FirstNeeds.antt. What a call asks
--- of the replica and the certificates that it reads is a list of its own above the rule (as storeNeeds), which the code's tests cite too.
+-- table of refusals; opening alone tests f (2), then its steps (12), before lengths (1). The first needs of most are those of
+-- FirstNeeds.antt. What a call asks of the replica and the certificates that it reads is a list of its own above the rule (as storeNeeds),
+-- which the code's tests cite too.
 use Prim.Native.Nat.{ℕ, zero, suc, _+_, max}
 use mathlib.Core.Bool.{Bool, true, cond, not, _||_}
 use mathlib.Core.List.{List, [], _∷_, _++_}
-use lib.ListN.{length, set}
+use lib.ListN.{length, getD, set}
+use lib.Seq.{sets}
 use lib.Dec.{ltb, leb, eqb}
 use Rattle.protocol.specs.declared.Justification.{Justification}
 use Rattle.protocol.specs.declared.Justification.the-variants.{Acc, Commits}
 use Rattle.protocol.specs.Memory.{Memory, Replica, Certificate, Assignment, _becomes_, replicaCount, ceiling}
-use Rattle.protocol.specs.Memory.{faultBoundAt, certificateCountAt, blockCountAt, faultBound, blockCount, statusAt}
-use Rattle.protocol.specs.Memory.{bootAt, minViewAt, viewLimitAt, flagAt, storedViewAt, storedBlockAt, decidedViewAt}
+use Rattle.protocol.specs.Memory.{faultBoundAt, certificateCountAt, blockCountAt, faultBound, blockCount, stepAt}
+use Rattle.protocol.specs.Memory.{statusAt, bootAt, minViewAt, viewLimitAt, flagAt, storedViewAt, storedBlockAt, decidedViewAt}
 use Rattle.protocol.specs.Memory.{decidedBlockAt, live, recovering, retired, lowered, raised, replica, certificate, words}
 use Rattle.protocol.specs.Memory.{blockAt, parent, update, appendBlock}
 use Rattle.protocol.specs.Form.{allHold, isFaultBound, lengthsFit, wellFormed}
 use Rattle.protocol.specs.Certificates.{PROP, ACC, REQ, isKind, propOf, commitOf, newViewOf, accOf, reqOf, replyOf}
 use Rattle.protocol.specs.Certificates.{numberFor, foundOrAppended, canFile, file}
 use Rattle.protocol.specs.Leader.{leads}
-use Rattle.protocol.specs.Counter.{counterStep}
+use Rattle.protocol.specs.Counter.{stepsFrom, stepsAllowed, counterStep}
 use Rattle.protocol.specs.Quorum.{isQuorumSize, allIssued, certificatesOf, firstOf, isCommitQuorum}
 use Rattle.protocol.specs.Quorum.{isNewViewQuorum, isReplyQuorum, greatest}
 use Rattle.protocol.specs.Outcome.{Need, _else_, Rule, wrongForm, outOfRange, unknownNumber, wrongStatus}
-use Rattle.protocol.specs.Outcome.{wrongCertificate, wrongBlock, wrongView, counterLimit, noRoom}
+use Rattle.protocol.specs.Outcome.{wrongCertificate, wrongBlock, wrongView, counterLimit, noRoom, wrongSteps}
 use Rattle.protocol.specs.FirstNeeds.{isBlock, replicaNeeds, numberNeeds, listNeeds}
 
 abbrev pub hasStatus : ℕ → Replica → Bool
@@ -39,7 +41,7 @@ issuing m needs i changes c =
       after = update (file m (words c)) i changes;
     }
 
--- "Open(f): boxes live, boot 0, low 1, bound 64, all else 0;" the bound is the step of boot 0
+-- "Open(f): boxes live, boot 0, low 1, bound 64, all else 0;" and for that 64, document 02, #104: "The first bound is the first step."
 abbrev pub freshReplica : ℕ → List Assignment
 freshReplica limit =
     statusAt becomes live
@@ -53,27 +55,29 @@ freshReplica limit =
     ∷ decidedBlockAt becomes 0
     ∷ []
 
-unfoldable pub freshReplicas : Memory → ℕ → Memory
-freshReplicas m zero = m
-freshReplicas m (suc i) = update (freshReplicas m i) i (freshReplica (counterStep m 0))
+unfoldable pub freshReplicas : Memory → ℕ → ℕ → Memory
+freshReplicas m limit zero = m
+freshReplicas m limit (suc i) = update (freshReplicas m limit i) i (freshReplica limit)
 
--- "one block, number 0, whose parent word becomes 0; no certificates. [..] The book and the other block words aren't touched."
-abbrev pub freshHeader : Memory → ℕ → Memory
-freshHeader m f =
+-- "one block, number 0, whose parent word becomes 0; no certificates. [..] The book and the other block words aren't touched." The steps
+-- are written after the header.
+abbrev pub freshHeader : Memory → ℕ → List ℕ → Memory
+freshHeader m f steps =
     record {
-      table = set (set (set (m .table) faultBoundAt f) certificateCountAt 0) blockCountAt 1;
+      table = sets (set (set (set (m .table) faultBoundAt f) certificateCountAt 0) blockCountAt 1) (stepAt 0) steps;
       log = m .log;
       blocks = set (m .blocks) (blockAt 0) 0;
     }
 
--- "Values n, 0."
-unfoldable pub opening : Memory → ℕ → Rule
-opening m f =
+-- "Values n, 0." Document 02, #104: "12 for steps that break these rules or aren't eight, after opening's 2 and before its 1."
+unfoldable pub opening : Memory → ℕ → List ℕ → Rule
+opening m f list =
+    let steps = stepsFrom list in
     record {
-      needs = isFaultBound f else outOfRange ∷ lengthsFit m f else wrongForm ∷ [];
+      needs = isFaultBound f else outOfRange ∷ stepsAllowed list else wrongSteps ∷ lengthsFit m f else wrongForm ∷ [];
       first = replicaCount f;
       second = 0;
-      after = freshReplicas (freshHeader m f) (replicaCount f);
+      after = freshReplicas (freshHeader m f steps) (getD steps 0 0) (replicaCount f);
     }
 
 -- "Block(parent): values new number, 0."

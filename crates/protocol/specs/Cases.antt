@@ -1,5 +1,5 @@
--- The table of cases: those that document 01 marks P ("Edges"), some beside them, those on whose turn it is, and those of issuing calls made
--- again.
+-- The table of cases: those that document 01 marks P ("Edges"), some beside them, those on whose turn it is, those of issuing calls made
+-- again, and those on a pool's own steps.
 use mathlib.Core.List.{List, [], _∷_, _++_, map}
 use mathlib.Core.Path.{_≡_}
 use Rattle.protocol.specs.declared.Call.the-variants.{Open, Block, Prepare, Store, View, Decide, Reboot, Reserve, Request}
@@ -13,6 +13,8 @@ use Rattle.protocol.specs.Rows.{Case, zeros, blank, plain, _on_, accepte
 use Rattle.protocol.specs.Rows.{accumulated, committed}
 use Rattle.protocol.specs.LeaderCases.{leaderCases}
 use Rattle.protocol.specs.RepeatCases.{repeatCases}
+use Rattle.protocol.specs.StepCases.{stepCases}
+use Rattle.protocol.specs.TableCases.{tableCases}
 
 -- "P: the script above."
 unfoldable pub workedScript : Case
@@ -163,7 +165,7 @@ cases =
     ∷ secondProposalInAView
     ∷ fullLog
     ∷ counterEnds
-    ∷ leaderCases ++ repeatCases
+    ∷ leaderCases ++ (repeatCases ++ (stepCases ++ tableCases))
 
 -- Every row's calls get the answers expected.
 unfoldable pub CasesHold : Type 0

@@ -5,8 +5,9 @@ use mathlib.Core.List.{List, [], _∷_}
 use lib.ListN.{length}
 use lib.Dec.{ltb, leb, eqb}
 use Rattle.protocol.specs.Memory.{Memory, Replica, Certificate, maxFaultBound, replicaCount, ceiling, faultBound}
-use Rattle.protocol.specs.Memory.{certificateCount, blockCount, tableLength, retired, raised, replica, certificateWords}
-use Rattle.protocol.specs.Memory.{certificateAt, certificate, maxCertificates, maxBlocks, blockAt, parent}
+use Rattle.protocol.specs.Memory.{certificateCount, blockCount, stepCount, lastStep, keptStep, tableLength, retired, raised}
+use Rattle.protocol.specs.Memory.{replica, certificateWords, certificateAt, certificate, maxCertificates, maxBlocks, blockAt}
+use Rattle.protocol.specs.Memory.{parent}
 
 -- All tests of a list hold.
 unfoldable pub allHold : List Bool → Bool
@@ -40,6 +41,17 @@ countsFit m =
     (leb (certificateAt (certificateCount m)) (length (m .log))
     ∷ leb (blockAt (blockCount m)) (length (m .blocks))
     ∷ leb 1 (blockCount m)
+    ∷ [])
+
+-- Document 02, #104, of the steps by their number: "Each is 1 to 4,096 and none is smaller than the one before."
+abbrev pub maxStep : ℕ
+maxStep = 4096
+
+unfoldable pub stepsFormed : (ℕ → ℕ) → Bool
+stepsFormed step =
+    allHold
+    (allBelow stepCount (λ k. allHold (leb 1 (step k) ∷ leb (step k) maxStep ∷ []))
+    ∷ allBelow lastStep (λ k. leb (step k) (step (suc k)))
     ∷ [])
 
 -- "block 0's parent is 0 and every other added block's parent is below it"
@@ -80,13 +92,14 @@ certificateFormed replicas added c =
     ∷ [])
 
 -- "Form", whole. "Words past the counts are neither read nor changed, except where a new item goes. Every call but opening tests the form
--- of the whole memory": it is the first need of each rule but opening's.
+-- of the whole memory": it is the first need of each rule but opening's. Of the steps, document 02, #104: "the form test covers them".
 unfoldable pub wellFormed : Memory → Bool
 wellFormed m =
     allHold
     (isFaultBound (faultBound m)
     ∷ lengthsFit m (faultBound m)
     ∷ countsFit m
+    ∷ stepsFormed (keptStep m)
     ∷ allBelow (blockCount m) (λ b. blockFormed b (parent m b))
     ∷ allBelow (replicaCount (faultBound m)) (λ i. replicaFormed (blockCount m) (replica m i))
     ∷ allBelow (certificateCount m) (λ c. certificateFormed (replicaCount (faultBound m)) (blockCount m) (certificate m c))

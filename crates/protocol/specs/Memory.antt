@@ -47,9 +47,25 @@ certificateCount m = getD (m .table) certificateCountAt 0
 abbrev pub blockCount : Memory → ℕ
 blockCount m = getD (m .table) blockCountAt 0
 
--- The replicas' words come after the three of the header, nine a replica.
+-- Document 02, #104: "The steps are kept after the header in the table": the counter's eight, by their number from 0.
+abbrev pub stepsAt : ℕ
+stepsAt = 3
+
+abbrev pub stepCount : ℕ
+stepCount = 8
+
+abbrev pub lastStep : ℕ
+lastStep = 7
+
+abbrev pub stepAt : ℕ → ℕ
+stepAt k = stepsAt + k
+
+abbrev pub keptStep : Memory → ℕ → ℕ
+keptStep m k = getD (m .table) (stepAt k) 0
+
+-- The replicas' words come after the steps, nine a replica.
 abbrev pub rowStart : ℕ
-rowStart = 3
+rowStart = stepAt stepCount
 
 abbrev pub replicaWords : ℕ
 replicaWords = 9
@@ -131,7 +147,7 @@ replica m i =
       decidedBlock = replicaWord m i decidedBlockAt;
     }
 
--- "Its length is 3+9n."
+-- "Its length is 3+9n.", and 8 more with the steps of document 02, #104.
 abbrev pub tableLength : ℕ → ℕ
 tableLength f = rowAt (replicaCount f)
 

@@ -58,6 +58,10 @@ unreadable = 10
 abbrev pub wrongMovement : ℕ
 wrongMovement = 11
 
+-- Document 02, #104: "12 for steps that break these rules or aren't eight": an opening's alone.
+abbrev pub wrongSteps : ℕ
+wrongSteps = 12
+
 -- A test that a call makes, and what it returns where the test fails.
 pub data Need : Type 0 where
   _else_ : Bool → ℕ → Need

@@ -12,7 +12,7 @@ use Rattle.protocol.specs.Calls.{reply, recover}
 
 -- The rule of a call, with the list beside it.
 unfoldable pub ruleOf : Memory → Call → List ℕ → Rule
-ruleOf m (Open f) list = opening m f
+ruleOf m (Open f) list = opening m f list
 ruleOf m (Block p) list = block m p
 ruleOf m (Prepare i b justification) list = prepare m i b justification list
 ruleOf m (Store i number) list = store m i number

@@ -3,9 +3,10 @@
 -- statement, proved in proofs/ under the same name in lower case with hyphens.
 use Prim.Native.Nat.{ℕ, zero, suc, _+_, _%_, _≤_, _<_}
 use mathlib.Core.Path.{_≡_}
-use mathlib.Core.Bool.{Bool, true, false}
+use mathlib.Core.Bool.{Bool, true, false, _&&_, _||_}
 use mathlib.Core.List.{List, [], _∷_, _++_, map, List·Memᴰ}
 use lib.ListN.{length, getD}
+use lib.Dec.{leb, eqb}
 use Rattle.protocol.specs.declared.Answer.{Answer}
 use Rattle.protocol.specs.declared.Call.{Call}
 use Rattle.protocol.specs.declared.Call.the-variants.{Open, Block, Prepare, Store, View, Accumulate, Decide, Reboot}
@@ -15,9 +16,10 @@ use Rattle.protocol.specs.Memory.{Memory, certificateCountAt, blockCount
 use Rattle.protocol.specs.Memory.{replicaCount, rowAt, statusAt, bootAt, minViewAt, viewLimitAt, flagAt, storedViewAt}
 use Rattle.protocol.specs.Memory.{storedBlockAt, decidedViewAt, decidedBlockAt, live, replica, certificateWords}
 use Rattle.protocol.specs.Memory.{certificateAt, certificate, blockAt, ceiling}
-use Rattle.protocol.specs.Form.{isFaultBound, wellFormed}
+use Rattle.protocol.specs.Form.{isFaultBound, lengthsFit, wellFormed}
+use Rattle.protocol.specs.Counter.{stepsAllowed}
 use Rattle.protocol.specs.Quorum.{isIssued}
-use Rattle.protocol.specs.Outcome.{Outcome, _else_, Rule, outOfRange, wrongCertificate, noRoom}
+use Rattle.protocol.specs.Outcome.{Outcome, _else_, Rule, wrongForm, outOfRange, wrongCertificate, noRoom, wrongSteps}
 use Rattle.protocol.specs.FirstNeeds.{isReplica, isBlock}
 use Rattle.protocol.specs.Calls.{hasStatus}
 use Rattle.protocol.specs.Runs.{ruleOf, step}
@@ -145,19 +147,30 @@ LowestWins =
     (m : Memory) (call : Call) (list : List ℕ) → isOpening call ≡ false → (number : ℕ)
     → List·Memᴰ (false else number) (ruleOf m call list .needs) → Lowest (step m call list) number
 
-unfoldable pub OpeningTestsFaultsFirst : Type 0
-OpeningTestsFaultsFirst =
-    (m : Memory) (f : ℕ) (list : List ℕ) → isFaultBound f ≡ false → step m (Open f) list .answer .number ≡ outOfRange
+-- Opening: f, then the steps beside it, then the lengths. Document 02, #104: "12 for steps that break these rules or aren't eight, after
+-- opening's 2 and before its 1."
+pub record OpeningTests (m : Memory) (f : ℕ) (list : List ℕ) : Type 0 where
+  pub faults : isFaultBound f ≡ false → step m (Open f) list .answer .number ≡ outOfRange
+  pub steps : isFaultBound f ≡ true → stepsAllowed list ≡ false → step m (Open f) list .answer .number ≡ wrongSteps
+  pub lengths : isFaultBound f ≡ true → stepsAllowed list ≡ true → lengthsFit m f ≡ false
+      → step m (Open f) list .answer .number ≡ wrongForm
+  pub accepted : isFaultBound f ≡ true → stepsAllowed list ≡ true → lengthsFit m f ≡ true → Accepted (step m (Open f) list)
 
--- ---- A call's number is at most 9, since 10 is the program's alone, and its values are at most 1,000,000.
+unfoldable pub OpeningOrder : Type 0
+OpeningOrder = (m : Memory) (f : ℕ) (list : List ℕ) → OpeningTests m f list
 
-pub record Fits (a : Answer) : Type 0 where
-  pub number : a .number ≤ noRoom
+-- ---- A call's number is at most 9, or an opening's 12, since 10 is the program's alone and 11 a netting's; its values are at most 1,000,000.
+
+abbrev pub mayReturn : Call → ℕ → Bool
+mayReturn call number = leb number noRoom || (isOpening call && eqb number wrongSteps)
+
+pub record Fits (call : Call) (a : Answer) : Type 0 where
+  pub number : mayReturn call (a .number) ≡ true
   pub first : a .first ≤ ceiling
   pub second : a .second ≤ ceiling
 
 unfoldable pub ValuesFit : Type 0
-ValuesFit = (m : Memory) (call : Call) (list : List ℕ) → Fits (step m call list .answer)
+ValuesFit = (m : Memory) (call : Call) (list : List ℕ) → Fits call (step m call list .answer)
 
 -- ---- Document 02, #103: "The leader of view v is (v−1) mod n. View 0 has no leader, so a PROP of view 0 returns 5 at store."
 

@@ -7,7 +7,7 @@ pub struct Answer {
     pub second: u32,
 }
 
-// The numbers of the table under "Calls" in document 01, and 11 of document 02. The refusals have the names of specs/Outcome.antt, in upper
+// The numbers of the table under "Calls" in document 01, and 11 and 12 of document 02. The refusals have the names of specs/Outcome.antt, in upper
 // case.
 pub const ACCEPTED: u32 = 0;
 
@@ -35,6 +35,9 @@ pub const UNREADABLE: u32 = 10;
 // "a movement outside these rules" (document 02, #101): for a netting.
 pub const WRONG_MOVEMENT: u32 = 11;
 
+// "steps that break these rules or aren't eight" (document 02, #104): for an opening.
+pub const WRONG_STEPS: u32 = 12;
+
 // What lets a leader propose (document 01: the ground of a proposal): the number of an ACC, or the view and the block of a
 // commit quorum, whose numbers are the list beside the call.
 pub enum Justification {
@@ -42,8 +45,8 @@ pub enum Justification {
     Commits(u32, u32),
 }
 
-// The twelve calls of document 01. A replica comes first, where the call has one. The list of certificate numbers that some calls
-// have stands beside the call: the commits of a Prepare, and the list of Accumulate, Decide and Recover. Any other call, and a Prepare
+// The twelve calls of document 01. A replica comes first, where the call has one. The list that some calls have stands beside the call: a
+// pool's own steps at an Open, certificate numbers at a Prepare on commits, Accumulate, Decide and Recover. Any other call, and a Prepare
 // on an ACC, passes over what stands there.
 pub enum Call {
     // f

@@ -48,7 +48,7 @@ pub fn reboot(table: &mut [u32], log: &mut [u32], blocks: &mut [u32], replica: u
         return refused(found.refusal());
     };
     let boot = r.boot + 1;
-    let limit = r.view_limit + counter::counter_step(boot);
+    let limit = r.view_limit + counter::counter_step(table, boot);
     if retires(r, boot, limit) {
         set_replica_word(table, replica, STATUS_AT, RETIRED);
         return accepted(r.boot, r.min_view);
@@ -84,7 +84,7 @@ pub fn reserve(table: &mut [u32], log: &mut [u32], blocks: &mut [u32], replica: 
     let FoundReplica::Found(r) = found else {
         return refused(found.refusal());
     };
-    let limit = r.view_limit + counter::counter_step(r.boot);
+    let limit = r.view_limit + counter::counter_step(table, r.boot);
     let tested = test_reserve(r, limit);
     let Tested::Passed = tested else {
         return refused(tested.refusal());

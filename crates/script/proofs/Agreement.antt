@@ -25,7 +25,7 @@ use Rattle.protocol.proofs.Frame.{lengths-stay}
 use Rattle.protocol.proofs.Agreement.{agreement}
 use Rattle.codes.specs.declared.Coded.{Coded}
 use Rattle.codes.specs.declared.Coded.the-variants.{Of, Refused}
-use Rattle.codes.specs.Codes.{isPlain, noCall, when, codeTable, codedCall}
+use Rattle.codes.specs.Codes.{isShort, noCall, when, codeTable, codedCall}
 use Rattle.script.specs.Session.{Session, lentLength, lent, codeIn, replicaIn, numberIn, listIn, openCode, Answered, unchanged}
 use Rattle.script.specs.Session.{answerLine}
 use Rattle.script.specs.Agreement.{numbersIn, eventTable, acceptedLine, lineEvent, lineHistory, sessionAfter}
@@ -72,7 +72,7 @@ line-tells a s given e =
 opening-made : (m : Memory) (code replica number : ℕ) (list : List ℕ) {call : Call} → code ≡ openCode
     → codedCall m code replica number list ≡ Of call → call ≡ Open replica
 unfolding codeTable when
-opening-made m code replica number list z e = go (isPlain number list) (rw z at e)
+opening-made m code replica number list z e = go (isShort number list) (rw z at e)
   where
     go : (t : Bool) {call : Call} → when t (Open replica) ≡ Of call → call ≡ Open replica
     go true e = cc
@@ -199,7 +199,7 @@ starts s f g call list same is-open accepted =
     let m = lent f (s .memory) in
     let a = rw (same, is-open) at accepted in
     let h = needs-hold m (Open f) list (no-refusal m (ruleOf m (Open f) list) a) in
-    let fit = each _ (h .1 .0) in
+    let fit = each _ (h .1 .1 .0) in
     let long : length (m .table) ≡ tableLength f = omega tests in
     rw (same, is-open) (record { opened = a; carried = carried s f (Open f) list (lends f (h .0) long .0) (rw a refl) })
 

@@ -1,15 +1,17 @@
 -- What specs/Theorems.antt states.
-use Prim.Native.Nat.{ℕ}
+use Prim.Native.Nat.{ℕ, _≤_}
 use mathlib.Core.Path.{_≡_, refl, ap, _∙_}
 use mathlib.Core.Bool.{true, false}
 use mathlib.Core.List.{List}
+use lib.Dec.{leb, eqb}
 use borrow.Author.Tests.{ne-eqb}
 use Rattle.protocol.specs.declared.Answer.{Answer}
+use Rattle.protocol.specs.declared.Call.{Call}
 use Rattle.protocol.specs.Memory.{Memory}
 use Rattle.protocol.specs.Form.{allHold, wellFormed}
-use Rattle.protocol.specs.Outcome.{Outcome, wrongForm}
-use Rattle.protocol.specs.Theorems.{RefusedChangesNothing, Fits, ValuesFit}
-use Rattle.protocol.proofs.Booleans.{tests}
+use Rattle.protocol.specs.Outcome.{Outcome, wrongForm, noRoom, wrongSteps}
+use Rattle.protocol.specs.Theorems.{RefusedChangesNothing, isOpening, mayReturn, Fits, ValuesFit}
+use Rattle.protocol.proofs.Booleans.{tests, by-test, and-true}
 use Rattle.protocol.proofs.Rules.{refused-changes-nothing}
 use Rattle.protocol.proofs.Values.{values-fit}
 use Rattle.ledger.proofs.Calling.{called-formless}
@@ -20,13 +22,19 @@ use Rattle.script.specs.Text.{Printable}
 use Rattle.script.specs.Theorems.{AnswersPrintable, RefusedLeavesSession, OtherCall, BeforeOpening}
 use Rattle.script.proofs.Ways.{put-back, by-line}
 
-fits-printable : (a : Answer) → Fits a → Printable a
-fits-printable a fits = omega tests
+-- Whatever number the call may return, it has two digits at most.
+two-digits : (call : Call) (number : ℕ) → mayReturn call number ≡ true → number ≤ wrongSteps
+two-digits call number may =
+    by-test (leb number noRoom) (λ e. omega tests)
+    (λ e. let only = and-true (isOpening call) (eqb number wrongSteps) (rw e at may) in omega tests)
+
+fits-printable : (call : Call) (a : Answer) → Fits call a → Printable a
+fits-printable call a fits = let small = two-digits call (a .number) (fits .number) in omega tests
 
 pub answers-printable : AnswersPrintable
 unfolding AnswersPrintable ValuesFit
 answers-printable s line =
-    by-line (λ (x : Answered). Printable (x .answer)) s line (omega tests) (λ call e. fits-printable _ (values-fit _ call _))
+    by-line (λ (x : Answered). Printable (x .answer)) s line (omega tests) (λ call e. fits-printable call _ (values-fit _ call _))
 
 pub refused-leaves-session : RefusedLeavesSession
 unfolding RefusedLeavesSession RefusedChangesNothing

@@ -10,12 +10,12 @@ use Rattle.script.specs.Lines.{fieldCount, numbers, hasNumbers}
 use Rattle.script.specs.Session.{Session, codeIn, replicaIn, numberIn, listIn, openCode, unchanged, answerLine}
 use Rattle.script.specs.Text.{Printable}
 
--- Every answer can be printed: a call's number is at most 9, an unreadable line's is 10, and values are at most 1,000,000.
+-- Every answer can be printed: a call's number is at most 9, or an opening's 12, an unreadable line's is 10, and values are at most 1,000,000.
 unfoldable pub AnswersPrintable : Type 0
 AnswersPrintable = (s : Session) (line : List ℕ) → Printable (answerLine s line .answer)
 
--- "1, 0, 0 [..] all words as before", and so on to "10, 0, 0 | script line unreadable": a line that is not accepted has two zeros for
--- values, and leaves the words and the f in use.
+-- "1, 0, 0 [..] all words as before", and so on to "10, 0, 0 | script line unreadable", and 12: a line that is not accepted has two zeros
+-- for values, and leaves the words and the f in use.
 unfoldable pub RefusedLeavesSession : Type 0
 RefusedLeavesSession =
     (s : Session) (line : List ℕ) → (answerLine s line .answer .number ≡ 0 → ⊥)

@@ -1,4 +1,4 @@
--- The worked script, by computation.
+-- The worked scripts, by computation.
 use Prim.Native.Nat.{ℕ}
 use mathlib.Core.Path.{_≡_, refl}
 use mathlib.Core.Bool.{Bool, true, false}
@@ -9,13 +9,14 @@ use Rattle.protocol.specs.History.{Event, reopened, added, decided, other}
 use Rattle.protocol.proofs.Booleans.{and-true}
 use Rattle.protocol.specs.Memory.{update, appendCertificate, appendBlock}
 use Rattle.protocol.specs.Form.{allHold, allBelow, blockFormed, replicaFormed, certificateFormed, lengthsFit, countsFit}
-use Rattle.protocol.specs.Form.{wellFormed}
+use Rattle.protocol.specs.Form.{stepsFormed, wellFormed}
 use Rattle.protocol.specs.Certificates.{firstBelow, hasWords, numberFor, isFiled, canFile, file}
 use Rattle.protocol.specs.Leader.{leads}
-use Rattle.protocol.specs.Counter.{counterStep}
+use Rattle.protocol.specs.Counter.{stepsFrom, stepsAllowed, counterStep}
 use Rattle.protocol.specs.Quorum.{every, contains, distinct, greatestFrom, isQuorum}
 use Rattle.protocol.specs.Outcome.{firstRefusal, answered, follow}
 use Rattle.protocol.specs.Calls.{issuing, freshReplicas, opening, block, prepare, store, view, accumulate, decide, reboot}
+use Rattle.protocol.specs.Calls.{reserve}
 use Rattle.protocol.specs.Runs.{ruleOf, step}
 use Rattle.codes.specs.Codes.{claimedWord, when, codeTable}
 use Rattle.field.specs.Digits.{leastFrom, digitCount, digits}
@@ -28,17 +29,25 @@ use Rattle.script.specs.Agreement.{eventTable, lineEvent}
 use Rattle.stream.specs.Output.{linesFrom, answersTo, output}
 use Rattle.stream.specs.Agreement.{toldHistory}
 use Rattle.stream.specs.Cases.{lineOf, textOf, workedInput, workedOutput, WorkedScript, WorkedScriptTells}
-use Rattle.stream.specs.Cases.{WorkedScriptOpens}
+use Rattle.stream.specs.Cases.{WorkedScriptOpens, stepsInput, stepsOutput, StepsScript}
 
-pub worked-script : WorkedScript
+-- What a script prints. Everything that the program is made of opens with it.
+unfoldable printed : List (List ℕ) → List ℕ
 unfolding update appendCertificate appendBlock allHold allBelow blockFormed replicaFormed certificateFormed lengthsFit
-    countsFit wellFormed firstBelow hasWords numberFor isFiled canFile file leads counterStep every contains
-    distinct isQuorum greatestFrom firstRefusal answered follow issuing freshReplicas
-    opening block prepare store view accumulate decide reboot ruleOf step claimedWord when codeTable leastFrom
+    countsFit stepsFormed wellFormed firstBelow hasWords numberFor isFiled canFile file leads stepsFrom stepsAllowed counterStep
+    every contains distinct isQuorum greatestFrom firstRefusal answered follow issuing freshReplicas
+    opening block prepare store view accumulate decide reboot reserve ruleOf step claimedWord when codeTable leastFrom
     digitCount digits fieldOf continued unpadded aligned readField calledBy called numbers hasNumbers lentLength
     lending answerNumbers answerLine answerText linesFrom answersTo output lineOf textOf
-    workedInput workedOutput WorkedScript
+printed input = output (textOf input)
+
+pub worked-script : WorkedScript
+unfolding printed workedInput workedOutput WorkedScript
 worked-script = refl
+
+pub steps-script : StepsScript
+unfolding printed stepsInput stepsOutput StepsScript
+steps-script = refl
 
 pub worked-script-tells : WorkedScriptTells
 unfolding leastFrom digitCount digits fieldOf continued unpadded aligned readField numbers linesFrom lineOf textOf workedInput

@@ -1,8 +1,9 @@
--- Document 01's worked script, as document 02 changes it, in the form in which the program reads and writes it: fields of eight columns, line
--- feeds, line numbers.
+-- Document 01's worked script, as document 02 changes it, and one of openings with steps, in the form in which the program reads and writes
+-- them: fields of eight columns, line feeds, line numbers.
 use Prim.Native.Nat.{ℕ}
 use mathlib.Core.Path.{_≡_}
 use mathlib.Core.List.{List, [], _∷_, _++_}
+use lib.ListN.{replicate}
 use Rattle.protocol.specs.History.{added, decided, other}
 use Rattle.field.specs.Field.{fieldOf}
 use Rattle.script.specs.Text.{lineFeed}
@@ -64,3 +65,41 @@ WorkedScriptTells =
 -- Its first line is the opening, and none of the ten is another: so `ProgramAgrees` speaks of this decision.
 unfoldable pub WorkedScriptOpens : Type 0
 WorkedScriptOpens = OpenedAt (textOf workedInput) 0 10
+
+-- ---- A pool's own steps (document 02, #104): "In a script they are the list of code 0, which may have 0 to 31 fields."
+
+-- Before anything is open a bad list gives 12 and opens nothing. Then a pool's own steps; a bad list for another f, and a number field that
+-- is not 0, leave f, table and steps in use: the reserve goes by them. 31 fields are a list, 32 make no line. f is tested before the list. An
+-- empty list brings document 01's steps back.
+unfoldable pub stepsInput : List (List ℕ)
+stepsInput =
+    (0 ∷ 1 ∷ 0 ∷ 5 ∷ [])
+    ∷ (5 ∷ 0 ∷ 1 ∷ [])
+    ∷ (0 ∷ 1 ∷ 0 ∷ 2 ∷ 3 ∷ 5 ∷ 7 ∷ 11 ∷ 13 ∷ 17 ∷ 19 ∷ [])
+    ∷ (0 ∷ 2 ∷ 0 ∷ 2 ∷ 3 ∷ 5 ∷ 7 ∷ 11 ∷ 13 ∷ 17 ∷ [])
+    ∷ (0 ∷ 1 ∷ 7 ∷ 2 ∷ 3 ∷ 5 ∷ 7 ∷ 11 ∷ 13 ∷ 17 ∷ 19 ∷ [])
+    ∷ (9 ∷ 0 ∷ 0 ∷ [])
+    ∷ (0 ∷ 1 ∷ 0 ∷ replicate 31 5)
+    ∷ (0 ∷ 1 ∷ 0 ∷ replicate 32 5)
+    ∷ (0 ∷ 31 ∷ 0 ∷ 5 ∷ [])
+    ∷ (0 ∷ 1 ∷ 0 ∷ [])
+    ∷ (9 ∷ 0 ∷ 0 ∷ [])
+    ∷ []
+
+unfoldable pub stepsOutput : List (List ℕ)
+stepsOutput =
+    (1 ∷ 12 ∷ 0 ∷ 0 ∷ [])
+    ∷ (2 ∷ 1 ∷ 0 ∷ 0 ∷ [])
+    ∷ (3 ∷ 0 ∷ 3 ∷ 0 ∷ [])
+    ∷ (4 ∷ 12 ∷ 0 ∷ 0 ∷ [])
+    ∷ (5 ∷ 10 ∷ 0 ∷ 0 ∷ [])
+    ∷ (6 ∷ 0 ∷ 4 ∷ 0 ∷ [])
+    ∷ (7 ∷ 12 ∷ 0 ∷ 0 ∷ [])
+    ∷ (8 ∷ 10 ∷ 0 ∷ 0 ∷ [])
+    ∷ (9 ∷ 2 ∷ 0 ∷ 0 ∷ [])
+    ∷ (10 ∷ 0 ∷ 3 ∷ 0 ∷ [])
+    ∷ (11 ∷ 0 ∷ 128 ∷ 0 ∷ [])
+    ∷ []
+
+unfoldable pub StepsScript : Type 0
+StepsScript = output (textOf stepsInput) ≡ textOf stepsOutput

@@ -13,11 +13,11 @@ shared-slice-read-t18 c = omega (arith, c .before .if1 .taken)
 
 returns : tie.Need-returns
 unfolding codeTable
-returns c = rw (c .before .before .match .keys1) (rw (c .before .is-plain .ensures) at (c .coded-when .ensures))
+returns c = rw (c .before .before .match .keys1) (rw (c .before .is-short .ensures) at (c .coded-when .ensures))
 
 returns-2 : tie.Need-returns-2
 unfolding codeTable
-returns-2 c = rw (c .before .before .match .keys2) (rw (c .before .is-plain2 .ensures) at (c .coded-when2 .ensures))
+returns-2 c = rw (c .before .before .match .keys2) (rw (c .before .is-plain .ensures) at (c .coded-when2 .ensures))
 
 returns-3 : tie.Need-returns-3
 unfolding codeTable when
@@ -34,43 +34,43 @@ returns-5 c =
     let at-match = at-claimed-word .before in
     let second = c .before .before .claimed-word2 .ensures in
     rw (at-match .match .keys4)
-    (rw (c .before .is-short .ensures, at-claimed-word .claimed-word .ensures, second) at (c .coded-when3 .ensures))
+    (rw (c .before .is-short2 .ensures, at-claimed-word .claimed-word .ensures, second) at (c .coded-when3 .ensures))
 
 returns-6 : tie.Need-returns-6
 unfolding codeTable
-returns-6 c = rw (c .before .before .match .keys5) (rw (c .before .is-plain3 .ensures) at (c .coded-when4 .ensures))
+returns-6 c = rw (c .before .before .match .keys5) (rw (c .before .is-plain2 .ensures) at (c .coded-when4 .ensures))
 
 returns-7 : tie.Need-returns-7
 unfolding codeTable
-returns-7 c = rw (c .before .before .match .keys6) (rw (c .before .is-plain4 .ensures) at (c .coded-when5 .ensures))
+returns-7 c = rw (c .before .before .match .keys6) (rw (c .before .is-plain3 .ensures) at (c .coded-when5 .ensures))
 
 returns-8 : tie.Need-returns-8
 unfolding codeTable
-returns-8 c = rw (c .before .before .match .keys7) (rw (c .before .is-short2 .ensures) at (c .coded-when6 .ensures))
+returns-8 c = rw (c .before .before .match .keys7) (rw (c .before .is-short3 .ensures) at (c .coded-when6 .ensures))
 
 returns-9 : tie.Need-returns-9
 unfolding codeTable
-returns-9 c = rw (c .before .before .match .keys8) (rw (c .before .is-short3 .ensures) at (c .coded-when7 .ensures))
+returns-9 c = rw (c .before .before .match .keys8) (rw (c .before .is-short4 .ensures) at (c .coded-when7 .ensures))
 
 returns-10 : tie.Need-returns-10
 unfolding codeTable
-returns-10 c = rw (c .before .before .match .keys9) (rw (c .before .is-plain5 .ensures) at (c .coded-when8 .ensures))
+returns-10 c = rw (c .before .before .match .keys9) (rw (c .before .is-plain4 .ensures) at (c .coded-when8 .ensures))
 
 returns-11 : tie.Need-returns-11
 unfolding codeTable
-returns-11 c = rw (c .before .before .match .keys10) (rw (c .before .is-plain6 .ensures) at (c .coded-when9 .ensures))
+returns-11 c = rw (c .before .before .match .keys10) (rw (c .before .is-plain5 .ensures) at (c .coded-when9 .ensures))
 
 returns-12 : tie.Need-returns-12
 unfolding codeTable
-returns-12 c = rw (c .before .before .match .keys11) (rw (c .before .is-plain7 .ensures) at (c .coded-when10 .ensures))
+returns-12 c = rw (c .before .before .match .keys11) (rw (c .before .is-plain6 .ensures) at (c .coded-when10 .ensures))
 
 returns-13 : tie.Need-returns-13
 unfolding codeTable
-returns-13 c = rw (c .before .before .match .keys12) (rw (c .before .is-plain8 .ensures) at (c .coded-when11 .ensures))
+returns-13 c = rw (c .before .before .match .keys12) (rw (c .before .is-plain7 .ensures) at (c .coded-when11 .ensures))
 
 returns-14 : tie.Need-returns-14
 unfolding codeTable
-returns-14 c = rw (c .before .before .match .keys13) (rw (c .before .is-short4 .ensures) at (c .coded-when12 .ensures))
+returns-14 c = rw (c .before .before .match .keys13) (rw (c .before .is-short5 .ensures) at (c .coded-when12 .ensures))
 
 returns-15 : tie.Need-returns-15
 returns-15 c = unknown-code _ _ _ _ _ (c .match .rest)

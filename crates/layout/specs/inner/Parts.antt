@@ -1,10 +1,26 @@
 -- The parts of the form that go over words, each over the one slice that it reads.
-use Prim.Native.Nat.{ℕ, _+_}
-use mathlib.Core.Bool.{Bool}
+use Prim.Native.Nat.{ℕ, zero, suc, _+_}
+use mathlib.Core.Bool.{Bool, true, _&&_}
 use mathlib.Core.List.{List, [], _∷_}
-use Rattle.protocol.specs.Memory.{Memory, memory, replicaCount, faultBound, certificateCount, blockCount, replica, certificate}
-use Rattle.protocol.specs.Memory.{parent}
-use Rattle.protocol.specs.Form.{allHold, allBelow, blockFormed, replicaFormed, certificateFormed}
+use lib.ListN.{getD}
+use lib.Dec.{leb}
+use Rattle.protocol.specs.Memory.{Memory, memory, replicaCount, faultBound, certificateCount, blockCount, stepsAt, replica}
+use Rattle.protocol.specs.Memory.{certificate, parent}
+use Rattle.protocol.specs.Form.{allHold, allBelow, stepsFormed, blockFormed, replicaFormed, certificateFormed}
+
+-- Steps by their number, from an index on.
+abbrev pub stepFrom : List ℕ → ℕ → ℕ → ℕ
+stepFrom words start k = getD words (start + k) 0
+
+-- The least that a step may be: 1, or the one before.
+abbrev pub leastStep : (ℕ → ℕ) → ℕ → ℕ
+leastStep step zero = 1
+leastStep step (suc k) = step k
+
+-- The steps below a count rise from 1.
+unfoldable pub stepsRise : (ℕ → ℕ) → ℕ → Bool
+stepsRise step zero = true
+stepsRise step (suc k) = stepsRise step k && leb (leastStep step k) (step k)
 
 -- The test of one block: its number, its parent.
 abbrev pub blockOk : List ℕ → ℕ → Bool
@@ -26,7 +42,8 @@ fourOk test k = allHold (test k ∷ test (k + 1) ∷ test (k + 2) ∷ test (k + 
 abbrev pub wordsOk : Memory → Bool
 wordsOk m =
     allHold
-    (allBelow (blockCount m) (blockOk (m .blocks))
+    (stepsFormed (stepFrom (m .table) stepsAt)
+    ∷ allBelow (blockCount m) (blockOk (m .blocks))
     ∷ allBelow (replicaCount (faultBound m)) (replicaOk (m .table) (blockCount m))
     ∷ allBelow (certificateCount m) (certificateOk (m .log) (replicaCount (faultBound m)) (blockCount m))
     ∷ [])

@@ -22,8 +22,10 @@ found : (c : tie.After-found) → let limit = of (λ m i. limitAfter m (replica 
 unfolding reserveRule
 found c = found-replica _ _ _ (start _) (c .before .before .find-replica .ensures) (c .found .given .1)
 
-step : (c : tie.After-counter-step) → of (λ m i. c .counter-step .result ≡ counterStep m (replica m i .boot)) (c .before .before)
-step c = rw (found (c .before .before) .read) at (c .counter-step .ensures (of (λ m i. m) (c .before .before)))
+step : (c : tie.After-counter-step) → of (λ m i. c .counter-step .result ≡ counterStep m (replica m i .boot)) (c .before .before .before)
+step c =
+    let f = c .before .before .before in
+    rw (found f .read) at (c .counter-step .ensures (of (λ m i. m .log) f) (of (λ m i. m .blocks) f))
 
 returns : tie.Need-returns
 unfolding reserveRule
@@ -34,7 +36,7 @@ returns c =
 returns-2 : tie.Need-returns-2
 returns-2 c =
     let t = c .before .before .before .before in
-    let f = t .before .before .before .before in
+    let f = t .before .before .before .before .before in
     let own = rw (found f .read, step (t .before .before)) at (t .test-reserve .ensures) in
     failed _ refl own (of (λ m i. m) f) _ (found f .at)
     (c .before .before .enum-told3 .given .1) (c .before .refusal2 .ensures) (c .refused2 .ensures)
@@ -43,7 +45,7 @@ returns-3 : tie.Need-returns-3
 unfolding reserveRule update
 returns-3 c =
     let t = c .before .before .before .before .before in
-    let r = found (t .before .before .before .before .before .before) in
+    let r = found (t .before .before .before .before .before .before .before) in
     let s = step (t .before .before .before .before) in
     let own = passed _ refl (rw (r .read, s) at (t .before .before .test-reserve .ensures)) _ (r .at) (t .enum-told2 .given .1) in
     accepts _ own (rw (r .read, s) at (c .accepted .ensures)) (rw (c .before .before .before .set-replica-word .ensures, r .read, s))
@@ -51,9 +53,10 @@ returns-3 c =
 pub reserve-spec : {M : Type 1} → statement M
 reserve-spec = tie.close
     (tie.spec (λ c κs. search needs) (λ c. search needs) (λ c. search needs) (λ c κs. search needs) (λ c κs. search needs)
-    (λ c. search needs) (λ c. search needs) (λ c. search needs) returns (λ c κs. search needs)
-    (λ c. let r = found (c .before .before .before) in rw (r .read) (record { fits = limit-fits _ _ _ (r .ready) (step (c .before)) }))
+    (λ c. search needs) (λ c. search needs) (λ c. search needs) returns
+    (λ c κs. omega (arith, row-within _ _ (found (c .before .before) .ready)))
+    (λ c. let r = found (c .before .before .before .before) in rw (r .read) (record { fits = limit-fits _ _ _ (r .ready) (step (c .before)) }))
     (λ c κs. search needs) (λ c. search needs) (λ c. search needs) (λ c κs. search needs) (λ c κs. search needs) (λ c. search needs)
     (λ c. search needs) (λ c. search needs) returns-2
-    (λ c κs. omega (arith, row-within _ _ (found (c .before .before .before .before .before .before .before) .ready)))
+    (λ c κs. omega (arith, row-within _ _ (found (c .before .before .before .before .before .before .before .before) .ready)))
     (λ c κs. search needs) (λ c. search needs) (λ c. search needs) (λ c. search needs) returns-3)

@@ -10,14 +10,16 @@ use Rattle.layout.proofs.form.words_formed.Tie as tie
 
 returns : tie.Need-returns
 returns c =
-    let b = c .before .before .before in
-    let t = b .before .before .before .before .before .before .args .table .now in
-    let n : b .before .before .row-count .result ≡ replicaCount (getD t faultBoundAt 0) = omega arith in
-    rw (c .certificates-formed .ensures, c .before .before .replicas-formed .ensures, b .parents-formed .ensures, n)
-    (joined-all _ (_ ∷ _ ∷ []))
+    let replicas = c .before .before in
+    let parents = replicas .before in
+    let steps = parents .before in
+    let t = steps .before .before .before .before .before .before .args .table .now in
+    let n : steps .before .before .row-count .result ≡ replicaCount (getD t faultBoundAt 0) = omega arith in
+    rw (c .certificates-formed .ensures, replicas .replicas-formed .ensures, parents .parents-formed .ensures, steps .steps-formed .ensures, n)
+    (joined-all _ (_ ∷ _ ∷ _ ∷ []))
 
 pub words-formed-spec : {M : Type 1} → statement M
 words-formed-spec =
     tie.close
-    (tie.spec (λ c κs. search needs) (λ c. search needs) (λ c κs. search needs) (λ c κs. search needs)
+    (tie.spec (λ c κs. search needs) (λ c. search needs) (λ c κs. search needs) (λ c κs. search needs) (λ c κs. search needs)
     (λ c. search needs) (λ c κs. search needs) returns)

@@ -1,0 +1,102 @@
+-- Rows of the table of cases on where steps stand and what form they have (document 02, #104).
+use Prim.Native.Nat.{ℕ}
+use mathlib.Core.List.{List, [], _∷_, _++_}
+use lib.ListN.{replicate, set}
+use Rattle.protocol.specs.declared.Call.the-variants.{Open, Block, Prepare, Store, View, Accumulate, Decide, Reboot}
+use Rattle.protocol.specs.declared.Call.the-variants.{Reserve, Request, Reply, Recover}
+use Rattle.protocol.specs.declared.Justification.the-variants.{Acc, Commits}
+use Rattle.protocol.specs.Memory.{Memory, memory, stepAt}
+use Rattle.protocol.specs.Outcome.{wrongForm}
+use Rattle.protocol.specs.Rows.{Case, blank, plain, accepted, refused, opened}
+
+-- Word by word: three of the header, eight steps, nine words a replica.
+abbrev pub wordByWord : List ℕ
+wordByWord =
+    1 ∷ 0 ∷ 1
+    ∷ 2 ∷ 3 ∷ 5 ∷ 7 ∷ 11 ∷ 13 ∷ 17 ∷ 19
+    ∷ 0 ∷ 0 ∷ 1 ∷ 2 ∷ 0 ∷ 0 ∷ 0 ∷ 0 ∷ 0
+    ∷ 0 ∷ 0 ∷ 1 ∷ 2 ∷ 0 ∷ 0 ∷ 0 ∷ 0 ∷ 0
+    ∷ 0 ∷ 0 ∷ 1 ∷ 2 ∷ 0 ∷ 0 ∷ 0 ∷ 0 ∷ 0
+    ∷ []
+
+-- "The steps are kept after the header in the table"
+unfoldable pub stepsAfterTheHeader : Case
+stepsAfterTheHeader =
+    record {
+      start = memory wordByWord (blank 1 .log) (blank 1 .blocks);
+      calls = plain (Reserve 0) ∷ plain (Reserve 2) ∷ plain (Reboot 2) ∷ [];
+      expected = accepted 4 0 ∷ accepted 4 0 ∷ accepted 1 4 ∷ [];
+    }
+
+-- A fresh ledger with one of its steps set by hand.
+abbrev pub steppedBy : ℕ → ℕ → Memory
+steppedBy k value = memory (set (opened .table) (stepAt k) value) (opened .log) (opened .blocks)
+
+-- "the form test covers them": no call but opening takes a step of 0.
+unfoldable pub noStepIsZero : Case
+noStepIsZero =
+    record {
+      start = steppedBy 0 0;
+      calls =
+          plain (Block 0)
+          ∷ plain (Prepare 0 0 (Acc 0))
+          ∷ plain (Prepare 0 0 (Commits 0 0))
+          ∷ plain (Store 0 0)
+          ∷ plain (View 0 1)
+          ∷ plain (Accumulate 0)
+          ∷ plain (Decide 0)
+          ∷ plain (Reboot 0)
+          ∷ plain (Reserve 0)
+          ∷ plain (Request 0)
+          ∷ plain (Reply 0 0)
+          ∷ plain (Recover 0)
+          ∷ plain (Open 1)
+          ∷ plain (Reserve 0)
+          ∷ [];
+      expected = replicate 12 (refused wrongForm) ++ (accepted 3 0 ∷ accepted 128 0 ∷ []);
+    }
+
+-- A last step that is the one before it is none that is smaller.
+unfoldable pub equalStepsDoNotFall : Case
+equalStepsDoNotFall =
+    record {
+      start = steppedBy 7 512;
+      calls = plain (View 0 1) ∷ plain (Reserve 0) ∷ [];
+      expected = accepted 0 0 ∷ accepted 128 0 ∷ [];
+    }
+
+-- One of 4,097, and a fall at each pair of neighbours.
+abbrev pub isBroken : ℕ → ℕ → Case
+isBroken k value =
+    record {
+      start = steppedBy k value;
+      calls = plain (View 0 1) ∷ plain (Reserve 0) ∷ [];
+      expected = replicate 2 (refused wrongForm);
+    }
+
+-- A table of so many zeros is not opened.
+abbrev pub isNoTable : ℕ → Case
+isNoTable words =
+    record {
+      start = memory (replicate words 0) (blank 1 .log) (blank 1 .blocks);
+      calls = plain (Open 1) ∷ [];
+      expected = refused wrongForm ∷ [];
+    }
+
+unfoldable pub brokenTables : List Case
+brokenTables =
+    isBroken 7 4097
+    ∷ isBroken 1 63
+    ∷ isBroken 2 63
+    ∷ isBroken 3 127
+    ∷ isBroken 4 127
+    ∷ isBroken 5 255
+    ∷ isBroken 6 255
+    ∷ isBroken 7 511
+    ∷ isNoTable 30
+    ∷ isNoTable 37
+    ∷ isNoTable 39
+    ∷ []
+
+unfoldable pub tableCases : List Case
+tableCases = stepsAfterTheHeader ∷ noStepIsZero ∷ equalStepsDoNotFall ∷ brokenTables

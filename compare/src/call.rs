@@ -1,9 +1,10 @@
 //! Call codes, as in a script line and in the C interface: code, replica, number, list.
 
 use crate::accumulator::accumulate;
-use crate::checker::{block, decide, open, prepare, store, view, Justification};
+use crate::checker::{block, decide, prepare, store, view, Justification};
 use crate::memory::{Memory, MAX_F};
 use crate::mistake::{Mistake, Rules};
+use crate::opening::open;
 use crate::recovery::{reboot, recover, reply, request, reserve};
 use crate::refusal::{Answer, ACCEPTED, UNREADABLE, WRONG_STATUS};
 
@@ -24,7 +25,7 @@ pub const LAST_CODE: u32 = RECOVER;
 /// The calls that issue a certificate.
 pub const ISSUING: &[u32] = &[PREPARE_ACC, PREPARE_COMMITS, STORE, VIEW, ACCUMULATE, REQUEST, REPLY_TO];
 
-/// Most numbers of a list in a script line: f+1 for the greatest f.
+/// Most numbers of a list: f+1 for the greatest f.
 pub const MAX_LIST: usize = MAX_F as usize + 1;
 
 /// Number returned and both values.
@@ -58,8 +59,10 @@ impl From<Answer> for Outcome {
 /// Whether the numbers make a call: a code that there is, unused numbers 0, a list only where the call has one.
 pub fn is_call<R: Rules>(rules: R, code: u32, replica: u32, number: u32, list: &[u32]) -> bool {
     let list_fits = match code {
+        OPEN if rules.has(Mistake::OpenListUnreadable) => list.is_empty(),
+        OPEN if rules.has(Mistake::OpenLongListRead) => true,
         PREPARE_ACC => list.len() == 1,
-        PREPARE_COMMITS | ACCUMULATE | DECIDE | RECOVER => list.len() <= MAX_LIST,
+        OPEN | PREPARE_COMMITS | ACCUMULATE | DECIDE | RECOVER => list.len() <= MAX_LIST,
         _ => list.is_empty(),
     };
     let unused = match code {
@@ -79,7 +82,7 @@ pub fn call<R: Rules>(rules: R, m: &mut Memory, code: u32, replica: u32, number:
         return Outcome::from(Err(WRONG_STATUS));
     }
     let answer = match code {
-        OPEN => open(rules, m, replica),
+        OPEN => open(rules, m, replica, list),
         BLOCK => block(rules, m, number),
         PREPARE_ACC => prepare(rules, m, replica, number, Justification::Acc(list[0])),
         PREPARE_COMMITS => prepare(rules, m, replica, number, Justification::Commits(list)),

@@ -1,7 +1,7 @@
-//! Open, block, prepare, store, view and decide.
+//! Block, prepare, store, view and decide.
 
 use crate::certificate::{Certificate, ACC, COMMIT, FOUND, NEWVIEW, PROP};
-use crate::form::{blocks_length_fits, log_length_fits, well_formed};
+use crate::form::well_formed;
 use crate::memory::*;
 use crate::mistake::{Mistake, Rules};
 use crate::refusal::*;
@@ -11,24 +11,6 @@ use crate::refusal::*;
 pub enum Justification<'a> {
     Acc(u32),
     Commits(&'a [u32]),
-}
-
-pub fn open<R: Rules>(rules: R, m: &mut Memory, f: u32) -> Answer {
-    need((1..=MAX_F).contains(&f), OUT_OF_RANGE)?;
-    let lengths =
-        m.table.len() as u64 == table_length(f) && log_length_fits(m.log.len()) && blocks_length_fits(m.blocks.len());
-    need(lengths, WRONG_FORM)?;
-    m.table[header::F] = f;
-    m.table[header::ISSUED] = 0;
-    m.table[header::ADDED] = 1;
-    m.blocks[0] = 0;
-    if rules.has(Mistake::OpenClearsLog) {
-        m.log.fill(0);
-    }
-    for replica in 0..m.replicas() {
-        m.set_replica(replica, Replica::FRESH);
-    }
-    Ok((m.replicas(), 0))
 }
 
 pub fn block<R: Rules>(rules: R, m: &mut Memory, parent: u32) -> Answer {

@@ -4,8 +4,9 @@ use crate::call::*;
 use crate::certificate::Certificate;
 use crate::field::field_text;
 use crate::leader::leader;
-use crate::memory::{header, replica_count, table_length, Memory, Replica, CERTIFICATE_WORDS};
+use crate::memory::{header, replica_count, table_length, Memory, Replica, CERTIFICATE_WORDS, MAX_F};
 use crate::mistake::Rules;
+use crate::steps::Steps;
 
 /// A script line's numbers.
 #[derive(Clone, PartialEq, Eq, Debug)]
@@ -42,23 +43,35 @@ pub struct Driver<R: Rules> {
 }
 
 impl<R: Rules> Driver<R> {
-    /// An opened ledger.
+    /// A ledger opened without steps of its own.
     pub fn open(rules: R, f: u32, certificate_slots: usize, block_slots: usize) -> Driver<R> {
+        Driver::open_with_steps(rules, f, &[], certificate_slots, block_slots)
+    }
+
+    /// A ledger opened with this list.
+    pub fn open_with_steps(rules: R, f: u32, steps: &[u32], certificate_slots: usize, block_slots: usize) -> Driver<R> {
         let mut driver = Driver {
             rules,
-            table: Vec::new(),
+            table: vec![0; table_length(f) as usize],
             log: vec![0; CERTIFICATE_WORDS * certificate_slots],
             blocks: vec![0; block_slots],
             trace: Vec::new(),
         };
-        driver.reopen(f);
+        driver.reopen(f, steps);
         driver
     }
 
-    /// Opens again, with a table of the length for f.
-    pub fn reopen(&mut self, f: u32) {
-        self.table.resize(table_length(f) as usize, 0);
-        self.call(OPEN, f, 0, &[]);
+    /// Opens again, with a table of the length for f; where that is refused, the table in use stays.
+    pub fn reopen(&mut self, f: u32, steps: &[u32]) -> Outcome {
+        let in_use = self.table.clone();
+        if (1..=MAX_F).contains(&f) {
+            self.table.resize(table_length(f) as usize, 0);
+        }
+        let outcome = self.call(OPEN, f, 0, steps);
+        if !outcome.is_accepted() {
+            self.table = in_use;
+        }
+        outcome
     }
 
     pub fn memory(&mut self) -> Memory<'_> {
@@ -96,6 +109,10 @@ impl<R: Rules> Driver<R> {
 
     pub fn added(&self) -> u32 {
         self.table[header::ADDED]
+    }
+
+    pub fn steps(&mut self) -> Steps {
+        self.memory().steps()
     }
 
     pub fn replica(&mut self, replica: u32) -> Replica {

@@ -4,11 +4,17 @@ use crate::call::*;
 use crate::certificate::*;
 use crate::driver::Driver;
 use crate::field::MAX_NUMBER;
-use crate::memory::{CEILING, FIRST_LIMIT, RECOVERING};
+use crate::generate::steps::broken_fields;
+use crate::memory::{CEILING, MAX_F, RECOVERING};
 use crate::mistake::Rules;
 use crate::random::Random;
+use crate::refusal::COUNTER_LIMIT;
+use crate::steps::{Steps, MAX_STEP};
 
-/// Numbers around a fresh replica's limit, the next one, the ceiling and the last that a field holds.
+const FIRST_LIMIT: u32 = Steps::DEFAULT.first();
+
+/// Numbers around a fresh replica's limit by document 01's steps, the next one, the greatest that steps allow, the
+/// ceiling and the last that a field holds.
 const EDGES: &[u32] = &[
     0,
     1,
@@ -17,6 +23,8 @@ const EDGES: &[u32] = &[
     FIRST_LIMIT + 1,
     2 * FIRST_LIMIT - 1,
     2 * FIRST_LIMIT,
+    MAX_STEP - 1,
+    MAX_STEP,
     CEILING,
     CEILING + 1,
     MAX_NUMBER,
@@ -71,13 +79,17 @@ impl<R: Rules> Explorer<R> {
         let replica = self.any_replica();
         let r = self.driver.replica(replica);
         let w = match self.random.below(8) {
-            0 => r.view_limit - 1,
+            0 => r.view_limit.saturating_sub(1),
             1 => r.view_limit,
             2 => r.min_view.saturating_sub(1),
             3 => r.min_view,
             _ => r.min_view + self.random.below(3),
         };
-        self.driver.call(VIEW, replica, w, &[]);
+        let outcome = self.driver.call(VIEW, replica, w, &[]);
+        // Refused at its limit, it may reserve.
+        if outcome.answer == COUNTER_LIMIT && self.random.once_in(4) {
+            self.driver.call(RESERVE, replica, 0, &[]);
+        }
     }
 
     /// One of the numbers, late ones sooner; none if there are none.
@@ -211,10 +223,18 @@ impl<R: Rules> Explorer<R> {
         self.driver.call(RECOVER, replica, 0, &list);
     }
 
+    /// With steps that break the rule, and this ledger's f or any.
+    fn refused_opening(&mut self) -> Outcome {
+        let any = self.random.below(MAX_F + 2);
+        let f = self.random.pick(&[self.driver.f(), any]);
+        let list = broken_fields(&mut self.random);
+        self.driver.call(OPEN, f, 0, &list)
+    }
+
     /// Numbers at random: mostly refused, and never the same way twice.
     fn any_call(&mut self) {
         let (f, n) = (self.driver.f(), self.driver.n());
-        let code = self.random.within(BLOCK, LAST_CODE);
+        let code = self.random.within(OPEN, LAST_CODE);
         let replica = self.random.below(n + 1);
         let number = match self.random.below(4) {
             0 => self.random.below(self.driver.issued() + 2),
@@ -226,6 +246,7 @@ impl<R: Rules> Explorer<R> {
         let issued = self.driver.issued() + 1;
         let list: Vec<u32> = (0..length).map(|_| self.random.below(issued)).collect();
         match code {
+            OPEN => self.refused_opening(),
             BLOCK => self.driver.call(code, 0, number, &[]),
             PREPARE_ACC => self.driver.call(code, replica, number, &list[..list.len().min(1)]),
             PREPARE_COMMITS => self.driver.call(code, replica, number, &list),

@@ -1,8 +1,9 @@
-//! The form that every call but opening tests (document 01, "Form").
+//! The form that every call but opening tests (document 01, "Form"; document 02, #104: the steps too).
 
 use crate::certificate::{certificate_word, FIRST_KIND, LAST_KIND};
 use crate::memory::*;
 use crate::mistake::{Mistake, Rules};
+use crate::steps::{Steps, FORM};
 
 /// A log of this many words: whole slots, and not too many.
 pub fn log_length_fits(words: usize) -> bool {
@@ -13,10 +14,11 @@ pub fn blocks_length_fits(words: usize) -> bool {
     (1..=MAX_BLOCKS).contains(&words)
 }
 
-/// Lengths, f, counts, blocks, replicas and certificates are all as document 01 says.
+/// Lengths, f, counts, steps, blocks, replicas and certificates are all as the documents say.
 pub fn well_formed<R: Rules>(rules: R, m: &Memory) -> bool {
     lengths_fit(rules, m)
         && counts_fit(rules, m)
+        && steps_fit(rules, m)
         && parents_fall(rules, m)
         && replicas_fit(rules, m)
         && certificates_fit(rules, m)
@@ -25,7 +27,7 @@ pub fn well_formed<R: Rules>(rules: R, m: &Memory) -> bool {
 fn lengths_fit<R: Rules>(rules: R, m: &Memory) -> bool {
     let words = m.table.len() as u64;
     let slots = m.log.len() / CERTIFICATE_WORDS;
-    m.table.len() >= HEADER
+    m.table.len() >= HEADER_WORDS
         && (rules.has(Mistake::FormF) || (1..=MAX_F).contains(&m.f()))
         && (words == table_length(m.f()) || rules.has(Mistake::FormTableLonger) && words > table_length(m.f()))
         && (rules.has(Mistake::FormLogSeven) || m.log.len().is_multiple_of(CERTIFICATE_WORDS))
@@ -41,6 +43,12 @@ fn counts_fit<R: Rules>(rules: R, m: &Memory) -> bool {
         && m.added() >= 1
 }
 
+fn steps_fit<R: Rules>(rules: R, m: &Memory) -> bool {
+    let steps = m.steps();
+    (steps.fit(rules, &FORM) || rules.has(Mistake::FormSteps))
+        && (steps == Steps::DEFAULT || !rules.has(Mistake::FormOwnSteps))
+}
+
 fn parents_fall<R: Rules>(rules: R, m: &Memory) -> bool {
     let added = m.blocks.iter().take(m.added() as usize);
     (rules.has(Mistake::FormRoot) || m.blocks[0] == 0)
@@ -53,7 +61,7 @@ fn parents_fall<R: Rules>(rules: R, m: &Memory) -> bool {
 
 fn replicas_fit<R: Rules>(rules: R, m: &Memory) -> bool {
     let tested = m.replicas() as usize - usize::from(rules.has(Mistake::FormLastReplica));
-    m.table[HEADER..]
+    m.table[REPLICAS_START..]
         .chunks_exact(REPLICA_WORDS)
         .take(tested)
         .all(|words| replica_fits(rules, m.added(), Replica::from_words(words)))

@@ -1,5 +1,5 @@
 //! An independent second implementation of the yard ledger's checker and of the netting of movements, written from
-//! document 01 and document 02's #101 to #103 alone.
+//! document 01 and document 02's #101 to #104 alone.
 //!
 //! Simple before clever: each call looks for its refusal in the order of document 01's table, changes nothing if it
 //! finds one, and otherwise applies the change. Every call is total on any memory.
@@ -22,6 +22,7 @@ pub mod leader;
 pub mod memory;
 pub mod mistake;
 pub mod netting;
+pub mod opening;
 pub mod options;
 pub mod panel;
 pub mod quorum;
@@ -30,3 +31,4 @@ pub mod recovery;
 pub mod refusal;
 pub mod script;
 pub mod script_file;
+pub mod steps;

@@ -1,4 +1,5 @@
-//! The three lent slices and a replica's words (document 01, "Memory"); a movement's words (document 02, #101).
+//! The three lent slices and a replica's words (document 01, "Memory"), the table with the counter's steps (document 02,
+//! #104); a movement's words (#101).
 
 /// Views, boots and the counter never pass this.
 pub const CEILING: u32 = 1_000_000;
@@ -7,7 +8,8 @@ pub const MAX_REPLICAS: u32 = replica_count(MAX_F);
 /// Most slots of the certificate log.
 pub const MAX_CERTIFICATES: usize = 4096;
 pub const MAX_BLOCKS: usize = 4096;
-pub const HEADER: usize = 3;
+pub const HEADER_WORDS: usize = 3;
+pub const STEP_WORDS: usize = 8;
 pub const REPLICA_WORDS: usize = 9;
 pub const CERTIFICATE_WORDS: usize = 7;
 pub const MOVEMENT_WORDS: usize = 4;
@@ -15,6 +17,10 @@ pub const MOVEMENT_WORDS: usize = 4;
 pub const MAX_MOVEMENTS: usize = 2048;
 /// Most pallets of one movement.
 pub const MAX_PALLETS: u32 = 10_000;
+
+/// The table: its header, "the steps are kept after the header", then each replica's words.
+pub const STEPS_START: usize = HEADER_WORDS;
+pub const REPLICAS_START: usize = STEPS_START + STEP_WORDS;
 
 /// Where the table has its header's words.
 pub mod header {
@@ -50,22 +56,19 @@ pub const RECOVERING: u32 = 1;
 /// Document 01: spent.
 pub const RETIRED: u32 = 2;
 
-/// Steps of the counter (document 01: meter) by boot; later boots use the last.
-pub const COUNTER_STEPS: [u32; 8] = [64, 64, 128, 128, 256, 256, 512, 1024];
-/// A fresh replica's limit.
-pub const FIRST_LIMIT: u32 = COUNTER_STEPS[0];
-/// The boot from which on the step stays.
-pub const LAST_STEP_BOOT: u32 = COUNTER_STEPS.len() as u32 - 1;
-pub const LAST_STEP: u32 = COUNTER_STEPS[LAST_STEP_BOOT as usize];
-
 /// n = 2f + 1 replicas.
 pub const fn replica_count(f: u32) -> u32 {
     2 * f + 1
 }
 
-/// Words of a table for any `f`: the header's and n = 2f + 1 replicas'.
+/// Words of a table for any `f`: the header's, the steps and n = 2f + 1 replicas'.
 pub fn table_length(f: u32) -> u64 {
-    HEADER as u64 + REPLICA_WORDS as u64 * (2 * u64::from(f) + 1)
+    REPLICAS_START as u64 + REPLICA_WORDS as u64 * (2 * u64::from(f) + 1)
+}
+
+/// Where the table has a replica's words.
+pub fn replica_start(replica: u32) -> usize {
+    REPLICAS_START + REPLICA_WORDS * replica as usize
 }
 
 /// Table, certificate log (document 01: book) and blocks.
@@ -94,17 +97,19 @@ pub struct Replica {
 
 impl Replica {
     /// As an opening leaves it.
-    pub const FRESH: Replica = Replica {
-        status: LIVE,
-        boot: 0,
-        min_view: 1,
-        view_limit: FIRST_LIMIT,
-        flag: 0,
-        stored_view: 0,
-        stored_block: 0,
-        decided_view: 0,
-        decided_block: 0,
-    };
+    pub fn fresh(view_limit: u32) -> Replica {
+        Replica {
+            status: LIVE,
+            boot: 0,
+            min_view: 1,
+            view_limit,
+            flag: 0,
+            stored_view: 0,
+            stored_block: 0,
+            decided_view: 0,
+            decided_block: 0,
+        }
+    }
 
     pub fn from_words(w: &[u32]) -> Replica {
         Replica {
@@ -165,12 +170,12 @@ impl Memory<'_> {
     }
 
     pub fn replica(&self, replica: u32) -> Replica {
-        let start = HEADER + REPLICA_WORDS * replica as usize;
+        let start = replica_start(replica);
         Replica::from_words(&self.table[start..start + REPLICA_WORDS])
     }
 
     pub fn set_replica(&mut self, replica: u32, to: Replica) {
-        let start = HEADER + REPLICA_WORDS * replica as usize;
+        let start = replica_start(replica);
         self.table[start..start + REPLICA_WORDS].copy_from_slice(&to.words());
     }
 

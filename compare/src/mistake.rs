@@ -75,6 +75,36 @@ mistakes! {
     RecoverTieLast "recover-tie-last" "recover takes the last of equal of-views" "equal of-views name one block";
     RecoverNoRaise "recover-no-raise" "recover leaves min_view where g+1 is above it" "stored view not below min_view is wrong form: nothing is accepted any more";
     RecoverNoLimit "recover-no-limit" "recover does not look at the limit" "min_view above the limit is wrong form: nothing is accepted any more";
+    // Steps in use.
+    RebootConstantSteps "reboot-constant-steps" "reboot goes by document 01's steps, not by the table's" "safety needs no certain step";
+    ReserveConstantSteps "reserve-constant-steps" "reserve goes by document 01's steps, not by the table's" "safety needs no certain step";
+    ReserveNextStep "reserve-next-step" "reserve goes by the next boot's step" "safety needs no certain step";
+    StepsRunOn "steps-run-on" "a boot past the last step takes the word after the steps" "safety needs no certain step";
+    StepsGoRound "steps-go-round" "a boot past the last step starts again with the first" "safety needs no certain step";
+    FirstLimitConstant "first-limit-constant" "the first limit is document 01's, whatever the first step" "safety needs no certain step";
+    FirstLimitSecond "first-limit-second" "the first limit is the second step" "safety needs no certain step";
+    // Opening with steps.
+    OpenTakesSeven "open-takes-seven" "seven steps are taken, the last of them twice" "safety needs no certain step";
+    OpenTakesNine "open-takes-nine" "of nine steps the first eight are taken" "safety needs no certain step";
+    OpenTakesMore "open-takes-more" "of any list longer than eight the first eight are taken" "safety needs no certain step";
+    OpenEmptyRefused "open-empty-refused" "opening without steps is refused" "refuses more";
+    OpenStepZero "open-step-zero" "opening takes a step of 0" "a step of 0 is wrong form: nothing is accepted any more";
+    OpenStepPastMost "open-step-past-most" "opening takes a step of 4,097" "a step of 4,097 is wrong form: nothing is accepted any more";
+    OpenLeastStepRefused "open-least-step-refused" "opening refuses a step of 1" "refuses more";
+    OpenMostStepRefused "open-most-step-refused" "opening refuses a step of 4,096" "refuses more";
+    OpenEqualStepsRefused "open-equal-steps-refused" "opening refuses two equal steps" "refuses more";
+    OpenStepsAnyOrder "open-steps-any-order" "opening takes steps that fall" "steps that fall are wrong form: nothing is accepted any more";
+    OpenStepsFirstPair "open-steps-first-pair" "opening tests the order of the first two steps alone" "steps that fall are wrong form: nothing is accepted any more";
+    OpenStepsLastPair "open-steps-last-pair" "opening does not test the order of the last two steps" "steps that fall are wrong form: nothing is accepted any more";
+    OpenStepsFirst "open-steps-first" "the steps are tested before f: 12 before 2" "refused in any case";
+    OpenLengthsFirst "open-lengths-first" "the lengths are tested before the steps: 1 before 12" "refused in any case";
+    OpenEmptyKeepsSteps "open-empty-keeps-steps" "opening without steps leaves the table's, where they are sound" "safety needs no certain step";
+    OpenStepsNotKept "open-steps-not-kept" "a pool's own steps give the first limit, and document 01's are written" "safety needs no certain step";
+    OpenWritesUnsound "open-writes-unsound" "eight steps are written before they are tested" "unsound steps are wrong form: nothing is accepted any more";
+    OpenWritesEarly "open-writes-early" "sound steps are written before the lengths are tested" "safety needs no certain step";
+    OpenListUnreadable "open-list-unreadable" "opening has no list: with one it is unreadable" "refuses more";
+    OpenLongListRead "open-long-list-read" "a list of 32 or more is read: 12, not 10" "refused in any case";
+    OpenRefusedLends "open-refused-lends" "after a refused opening its f is the one in use" "a matter of the script program";
     // Checker.
     PrepareIgnoresFlag "prepare-ignores-flag" "prepare does not look at its flag" "";
     PrepareAnyParent "prepare-any-parent" "prepare does not look at the block's parent" "";
@@ -144,7 +174,7 @@ mistakes! {
     FoundNeverFull "found-never-full" "a certificate found in a full log is told as added" "only a value shows it: agreement goes by blocks and views";
     FoundByLaterCount "found-by-later-count" "found or added goes by the count after filing: the last certificate, found, is told as added" "only a value shows it: agreement goes by blocks and views";
     FoundByWords "found-by-words" "found or added goes by the log's words: a certificate added where its words stood already is told as found" "only a value shows it: agreement goes by blocks and views";
-    // Form: each line drops one test. Two tests have no line, since others imply them: at least one block (a replica's
+    // Form: each line drops one test, but for those that refuse more. Two tests have no line, since others imply them: at least one block (a replica's
     // stored block is added), and 1 <= min_view (the stored view is below it).
     FormTableLonger "form-table-longer" "a longer table has sound form" "no list of calls reaches it";
     FormLogSeven "form-log-seven" "a log of any length has sound form" "no list of calls reaches it";
@@ -166,6 +196,16 @@ mistakes! {
     FormDecidedView "form-decided-view" "the decided view is not tested" "no list of calls reaches it";
     FormDecidedBlock "form-decided-block" "the decided block is not tested" "no list of calls reaches it";
     FormLastReplica "form-last-replica" "the last replica is not tested" "no list of calls reaches it";
+    FormSteps "form-steps" "the steps are not tested" "no list of calls reaches it";
+    FormOwnSteps "form-own-steps" "any steps but document 01's are wrong form" "refuses more";
+    FormStepZero "form-step-zero" "a step of 0 has sound form" "no list of calls reaches it";
+    FormStepPastMost "form-step-past-most" "a step of 4,097 has sound form" "no list of calls reaches it";
+    FormLeastStepRefused "form-least-step-refused" "a step of 1 is wrong form" "refuses more";
+    FormMostStepRefused "form-most-step-refused" "a step of 4,096 is wrong form" "refuses more";
+    FormEqualStepsRefused "form-equal-steps-refused" "two equal steps are wrong form" "refuses more";
+    FormStepsAnyOrder "form-steps-any-order" "steps that fall have sound form" "no list of calls reaches it";
+    FormStepsFirstPair "form-steps-first-pair" "the order of the first two steps alone is tested" "no list of calls reaches it";
+    FormStepsLastPair "form-steps-last-pair" "the order of the last two steps is not tested" "no list of calls reaches it";
     FormKind "form-kind" "a certificate's kind is not tested" "no list of calls reaches it";
     FormKindZero "form-kind-zero" "kind 0 has sound form" "no list of calls reaches it";
     FormSigner "form-signer" "a certificate's signer is not tested" "no list of calls reaches it";

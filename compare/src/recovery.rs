@@ -6,18 +6,13 @@ use crate::memory::*;
 use crate::mistake::{Mistake, Rules};
 use crate::refusal::*;
 
-fn counter_step<R: Rules>(rules: R, boot: u32) -> u32 {
-    let last = LAST_STEP_BOOT - u32::from(rules.has(Mistake::StepsCappedEarly));
-    COUNTER_STEPS[boot.min(last) as usize]
-}
-
 pub fn reboot<R: Rules>(rules: R, m: &mut Memory, replica: u32) -> Answer {
     need(well_formed(rules, m), WRONG_FORM)?;
     need(m.is_replica(replica), OUT_OF_RANGE)?;
     let mut r = m.replica(replica);
     let boot = r.boot.saturating_add(1);
     let stepped = if rules.has(Mistake::RebootOldStep) { r.boot } else { boot };
-    let view_limit = r.view_limit.saturating_add(counter_step(rules, stepped));
+    let view_limit = r.view_limit.saturating_add(m.step(rules, stepped, Mistake::RebootConstantSteps));
     let strict = u32::from(rules.has(Mistake::RebootRetiresAtLimit));
     if r.status == RETIRED || boot > CEILING || view_limit > CEILING - strict {
         r.status = RETIRED;
@@ -56,7 +51,8 @@ pub fn reserve<R: Rules>(rules: R, m: &mut Memory, replica: u32) -> Answer {
     need(m.is_replica(replica), OUT_OF_RANGE)?;
     let mut r = m.replica(replica);
     need(r.status != RETIRED || rules.has(Mistake::ReserveRetired), WRONG_STATUS)?;
-    let view_limit = r.view_limit.saturating_add(counter_step(rules, r.boot));
+    let stepped = r.boot.saturating_add(u32::from(rules.has(Mistake::ReserveNextStep)));
+    let view_limit = r.view_limit.saturating_add(m.step(rules, stepped, Mistake::ReserveConstantSteps));
     need(view_limit <= CEILING - u32::from(rules.has(Mistake::ReserveStrict)), COUNTER_LIMIT)?;
     r.view_limit = view_limit;
     m.set_replica(replica, r);

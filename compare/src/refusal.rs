@@ -22,6 +22,8 @@ pub const NO_ROOM: u32 = 9;
 pub const UNREADABLE: u32 = 10;
 /// Netting: a movement outside the rules.
 pub const WRONG_MOVEMENT: u32 = 11;
+/// Opening: steps that break their rule or are not eight.
+pub const WRONG_STEPS: u32 = 12;
 
 /// What a call gives: two values, or the number of the refusal.
 pub type Answer = Result<(u32, u32), u32>;

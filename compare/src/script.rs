@@ -107,7 +107,7 @@ impl<R: Rules> Program<R> {
         let opening = code == OPEN && (1..=MAX_F).contains(&replica);
         let f = if opening { replica } else { self.f };
         let outcome = call(self.rules, &mut self.lent(f), code, replica, number, list);
-        if opening && outcome.is_accepted() {
+        if opening && (outcome.is_accepted() || self.rules.has(Mistake::OpenRefusedLends)) {
             self.f = f;
         }
         outcome

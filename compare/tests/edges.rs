@@ -3,7 +3,7 @@
 //! documents have them: derived from the library's constants they would hold for any others.
 
 use judge::call::{call, Outcome};
-use judge::memory::{replica_word, table_length, Memory, CERTIFICATE_WORDS, HEADER, MAX_F, REPLICA_WORDS};
+use judge::memory::{replica_start, replica_word, table_length, Memory, CERTIFICATE_WORDS, MAX_F};
 use judge::mistake::Correct;
 
 /// Code, replica, number and list of a call; its answer and both values.
@@ -49,8 +49,8 @@ impl Yard {
     }
 
     /// A word of a replica, to be set by hand.
-    fn word(&mut self, replica: usize, word: usize) -> &mut u32 {
-        &mut self.table[HEADER + REPLICA_WORDS * replica + word]
+    fn word(&mut self, replica: u32, word: usize) -> &mut u32 {
+        &mut self.table[replica_start(replica) + word]
     }
 
     /// Document 01's script after its opening, each answer checked. Document 02: "In 01's script prepare and
@@ -114,7 +114,7 @@ fn opening_tests_f_before_lengths() {
 fn lengths() {
     let lent = [(0, 1, 0), (7 * 4096, 4096, 0), (7 * 4097, 1, 1), (6, 1, 1), (0, 0, 1), (0, 4097, 1)];
     for (log, blocks, answer) in lent {
-        let mut yard = Yard { table: vec![7; 3 + 9 * 3], log: vec![7; log], blocks: vec![7; blocks] };
+        let mut yard = Yard { table: vec![7; 11 + 9 * 3], log: vec![7; log], blocks: vec![7; blocks] };
         assert_eq!(yard.call(0, 1, 0, &[]).0, answer, "{log} words of log, {blocks} blocks");
     }
 }
@@ -249,7 +249,7 @@ fn a_store_finds_its_certificate_where_the_lowest_view_is_set_back_by_hand() {
     for (replica, commit) in [(0, 4), (2, 5)] {
         *yard.word(replica, replica_word::MIN_VIEW) = 1;
         *yard.word(replica, replica_word::STORED_VIEW) = 0;
-        yard.rows(&[(4, replica as u32, 3, &[], (0, commit, 1)), (4, replica as u32, 3, &[], (7, 0, 0))]);
+        yard.rows(&[(4, replica, 3, &[], (0, commit, 1)), (4, replica, 3, &[], (7, 0, 0))]);
         assert!(yard.table == table && yard.log == log);
     }
 }
@@ -271,14 +271,13 @@ fn a_repeated_block_is_another_block() {
 #[test]
 fn the_counter_ends_at_a_million() {
     let mut yard = Yard::new(1);
-    yard.table[HEADER + replica_word::VIEW_LIMIT] = 999_936;
+    *yard.word(0, replica_word::VIEW_LIMIT) = 999_936;
     assert_eq!(yard.call(9, 0, 0, &[]), (0, 1_000_000, 0));
     assert_eq!(yard.call(9, 0, 0, &[]), (8, 0, 0));
-    let before = yard.table.clone();
+    let mut before = yard.table.clone();
     assert_eq!(yard.call(8, 0, 0, &[]), (0, 0, 1));
-    assert_eq!(yard.table[HEADER + replica_word::STATUS], 2);
-    assert_eq!(yard.table[..HEADER], before[..HEADER]);
-    assert_eq!(yard.table[HEADER + 1..], before[HEADER + 1..]);
+    before[replica_start(0) + replica_word::STATUS] = 2;
+    assert_eq!(yard.table, before);
     assert_eq!(yard.call(9, 0, 0, &[]), (4, 0, 0));
 }
 

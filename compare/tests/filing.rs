@@ -29,7 +29,7 @@ fn make_again(driver: &mut Driver<Correct>, line: &Line, number: u32) {
 /// Makes the calls after the opening, one by one; how many found their certificate and how many added it.
 fn replay(lines: &[Line]) -> (u32, u32) {
     let (opening, calls) = lines.split_first().unwrap();
-    let mut driver = Driver::open(Correct, opening.replica, CERTIFICATE_SLOTS, BLOCK_SLOTS);
+    let mut driver = Driver::open_with_steps(Correct, opening.replica, &opening.list, CERTIFICATE_SLOTS, BLOCK_SLOTS);
     let (mut found, mut added) = (0, 0);
     for line in calls {
         let (issued, log) = (driver.table[header::ISSUED], driver.log.clone());
@@ -60,7 +60,7 @@ fn found_exactly_if_the_count_stays() {
     let mut scripts = vec![full_log(Random::new(1), 1), many_boots(Random::new(1), 1)];
     for seed in 1..=24 {
         let f = 1 + seed as u32 % 3;
-        scripts.extend([hostile(Random::new(seed), f), progress(Random::new(seed), f, 200, true)]);
+        scripts.extend([hostile(Random::new(seed), f), progress(Random::new(seed), f, &[], 200, true)]);
     }
     let counts: Vec<(u32, u32)> = scripts.iter().map(|lines| replay(lines)).collect();
     let found: u32 = counts.iter().map(|(found, _)| found).sum();

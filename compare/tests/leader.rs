@@ -48,7 +48,7 @@ fn put_commits(driver: &mut Driver<Correct>, view: u32, block: u32) -> Vec<u32> 
 
 /// Makes a box live by hand, with this lowest view and bound.
 fn stand(driver: &mut Driver<Correct>, replica: u32, low: u32, bound: u32) {
-    driver.table[3 + 9 * replica as usize..][..9].copy_from_slice(&[0, 0, low, bound, 0, 0, 0, 0, 0]);
+    driver.table[11 + 9 * replica as usize..][..9].copy_from_slice(&[0, 0, low, bound, 0, 0, 0, 0, 0]);
 }
 
 /// Each view from 1 on and its leader: boxes 0 to n-1 one after the other, then again.
@@ -139,7 +139,7 @@ fn view_0_has_no_leader() {
             for block in [0, 1, 2] {
                 refused(&mut driver, 5, 2, signer, block, &[acc]);
             }
-            driver.table[3 + 9 * signer as usize] = 1;
+            driver.table[11 + 9 * signer as usize] = 1;
             refused(&mut driver, 4, 4, signer, prop, &[]);
             refused(&mut driver, 4, 2, signer, 1, &[acc]);
         }
@@ -200,7 +200,7 @@ fn past_the_last_view_the_leader_meets_its_lowest_view() {
 fn in_lists_of_calls_leaders_alone_propose() {
     let mut proposals = [0; 3];
     for seed in 1..=16 {
-        let mut driver = ledger_in_progress(Random::new(seed), 1, 300, true);
+        let mut driver = ledger_in_progress(Random::new(seed), 1, &[], 300, true);
         for number in driver.issued_where(|c| c.kind == PROP) {
             let prop = driver.certificate(number);
             assert_eq!(turns(3).nth(prop.view as usize - 1), Some((prop.view, prop.signer)));

@@ -6,6 +6,7 @@ use judge::driver::Driver;
 use judge::explore::Explorer;
 use judge::generate::netting::netting;
 use judge::generate::progress::ledger_in_progress;
+use judge::generate::steps::own_or_none;
 use judge::mistake::{Correct, Mistake};
 use judge::netting::balance;
 use judge::random::Random;
@@ -153,7 +154,7 @@ fn the_lowest_refusal_wins() {
 #[test]
 fn any_memory_of_wrong_form() {
     let good = ledger(1, &[0]);
-    let lengths = [(0, 28, 8), (2, 28, 8), (29, 28, 8), (31, 28, 8), (30, 27, 8), (30, 28, 0), (30, 28, 1)];
+    let lengths = [(0, 28, 8), (2, 28, 8), (37, 28, 8), (39, 28, 8), (38, 27, 8), (38, 28, 0), (38, 28, 1)];
     for (table, log, blocks) in lengths {
         let mut driver = ledger(1, &[0]);
         driver.table.resize(table, 0);
@@ -161,7 +162,7 @@ fn any_memory_of_wrong_form() {
         driver.blocks.resize(blocks, 0);
         assert_eq!(net(&mut driver, &[[1, 0, 1, 5]], 1, 1), Err(1), "{table} {log} {blocks}");
     }
-    assert_eq!((good.table.len(), good.log.len(), good.blocks.len()), (30, 28, 8));
+    assert_eq!((good.table.len(), good.log.len(), good.blocks.len()), (38, 28, 8));
 }
 
 /// Damaged memories and lists, with each mistake: no netting goes past a slice or a number's end.
@@ -201,7 +202,7 @@ fn the_longer_line_counts_what_the_other_counts() {
     for seed in 1..=60 {
         let mut random = Random::new(seed);
         let f = random.pick(&[1, 1, 2, 3]);
-        let driver = ledger_in_progress(Random::new(seed), f, 150, true);
+        let driver = ledger_in_progress(Random::new(seed), f, &own_or_none(&mut random), 150, true);
         let mut hosts = Explorer { driver, random, noise: 8 };
         (0..150).for_each(|_| hosts.step());
         let mut driver = hosts.driver;

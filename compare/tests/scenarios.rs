@@ -1,9 +1,10 @@
 //! Every script of ../scenarios gives its expected output, and so do the reserves up to the ceiling. The stored second
 //! values are held against the stored first ones, without the library.
 
-use judge::memory::{CEILING, COUNTER_STEPS};
+use judge::memory::CEILING;
 use judge::mistake::Correct;
 use judge::script::run;
+use judge::steps::Steps;
 use std::collections::HashSet;
 use std::path::Path;
 
@@ -78,7 +79,7 @@ fn a_second_value_of_1_is_a_certificate_number_again() {
 fn reserves() {
     let mut input = "       0       1       0\n".to_string();
     let mut expected = "       1       0       3       0\n".to_string();
-    let step = COUNTER_STEPS[0];
+    let step = Steps::DEFAULT.first();
     for line in 2..=CEILING / step {
         input += "       9       0       0\n";
         expected += &format!("{line:8}{:8}{:8}{:8}\n", 0, step * line, 0);

@@ -40,7 +40,7 @@ fn repeated_progress(seed: u64, f: u32, lines: usize) -> Vec<u8> {
     let mut random = Random::new(seed);
     while all.len() < lines {
         let left = lines - all.len();
-        all.extend(progress(Random::new(random.bits()), f, left, false));
+        all.extend(progress(Random::new(random.bits()), f, &[], left, false));
     }
     script_text(&all)
 }

@@ -1,18 +1,19 @@
 //! What the generators reach: how often each call gets each answer, which f are opened, and the marks that the
 //! comparison is meant to hit, on script lines, memories and nettings.
 
-use super::marks::{seen_lines, Seen, MARKS};
+use super::marks::{self, seen_lines, Seen};
 use super::{memory_marks, netting_marks};
 use crate::call::{LAST_CODE, OPEN};
 use crate::generate::memory::sample;
 use crate::generate::scripts::{script, Script, SORTS};
 use crate::memory::MAX_F;
-use crate::refusal::{ACCEPTED, UNREADABLE};
+use crate::refusal::{ACCEPTED, WRONG_STEPS};
 
 /// Rows: call codes, and any other in the last. Columns: answers.
-type Counts = [[u64; UNREADABLE as usize + 1]; OTHER_CODE as usize + 1];
+type Counts = [[u64; LAST_ANSWER as usize + 1]; OTHER_CODE as usize + 1];
 
 const OTHER_CODE: u32 = LAST_CODE + 1;
+const LAST_ANSWER: u32 = WRONG_STEPS;
 
 /// Prints it all; what is not reached at all is an error.
 pub fn tell(seed: u64, scripts: u64, memories: u64, nettings: u64) -> Result<(), String> {
@@ -21,7 +22,7 @@ pub fn tell(seed: u64, scripts: u64, memories: u64, nettings: u64) -> Result<(),
         counts: Default::default(),
         sorts: vec![0; SORTS.len()],
         opened: vec![0; MAX_F as usize],
-        marks: vec![0; MARKS.len()],
+        marks: marks::names().into_iter().map(|mark| (mark, 0)).collect(),
     };
     (seed..seed + scripts).for_each(|seed| reached.add(&script(seed)));
     print("script lines", &reached.counts);
@@ -40,24 +41,26 @@ pub fn tell(seed: u64, scripts: u64, memories: u64, nettings: u64) -> Result<(),
 /// Prints the answers of the memories' calls; every mark by its name, with how many memories reach it.
 fn memories_reach(seed: u64, memories: u64) -> Vec<(String, u64)> {
     let mut counts: Counts = Default::default();
-    let mut marks: Vec<_> = memory_marks::MARKS.iter().map(|(mark, _)| (format!("memory: {mark}"), 0)).collect();
+    let mut marks: Vec<_> = memory_marks::names().into_iter().map(|mark| (mark, 0)).collect();
     for seed in seed..seed + memories {
         let seen = memory_marks::Seen::of(sample(seed));
         count(&mut counts, seen.code(), seen.outcome.answer);
-        for ((_, count), (_, holds)) in marks.iter_mut().zip(memory_marks::MARKS) {
-            *count += u64::from(holds(&seen));
-        }
+        add_hits(&mut marks, memory_marks::hits(&seen));
     }
     print("memories", &counts);
     marks
 }
 
+fn add_hits(marks: &mut [(String, u64)], hits: Vec<bool>) {
+    marks.iter_mut().zip(hits).for_each(|((_, count), hit)| *count += u64::from(hit));
+}
+
 fn count(counts: &mut Counts, code: u32, answer: u32) {
-    counts[code.min(OTHER_CODE) as usize][answer.min(UNREADABLE) as usize] += 1;
+    counts[code.min(OTHER_CODE) as usize][answer.min(LAST_ANSWER) as usize] += 1;
 }
 
 fn print(what: &str, counts: &Counts) {
-    println!("{what}: answers 0 to {UNREADABLE} by call code ({OTHER_CODE}: any other)");
+    println!("{what}: answers 0 to {LAST_ANSWER} by call code ({OTHER_CODE}: any other)");
     for (code, row) in counts.iter().enumerate() {
         let cells: String = row.iter().map(|count| format!("{count:9}")).collect();
         println!("{code:4}{cells}");
@@ -71,7 +74,7 @@ struct Reached {
     sorts: Vec<u64>,
     /// Accepted openings by f, from 1 on.
     opened: Vec<u64>,
-    marks: Vec<u64>,
+    marks: Vec<(String, u64)>,
 }
 
 impl Reached {
@@ -87,15 +90,13 @@ impl Reached {
         if seen.is(OPEN, ACCEPTED) {
             self.opened[seen.outcome.first as usize / 2 - 1] += 1;
         }
-        for (count, (_, holds)) in self.marks.iter_mut().zip(MARKS) {
-            *count += u64::from(holds(seen));
-        }
+        add_hits(&mut self.marks, marks::hits(seen));
     }
 
     fn named(&self) -> Vec<(String, u64)> {
         let sorts = SORTS.iter().map(|sort| sort.to_string()).zip(&self.sorts);
         let opened = (1..=MAX_F).map(|f| format!("openings with f = {f}")).zip(&self.opened);
-        let marks = MARKS.iter().map(|(mark, _)| mark.to_string()).zip(&self.marks);
-        sorts.chain(opened).chain(marks).map(|(name, count)| (name, *count)).collect()
+        let named = sorts.chain(opened).map(|(name, count)| (name, *count));
+        named.chain(self.marks.iter().cloned()).collect()
     }
 }

@@ -1,12 +1,14 @@
 //! What a script's line can show that the generators are meant to reach.
 
+use super::step_marks;
 use crate::call::*;
 use crate::certificate::{Certificate, ADDED, FOUND};
 use crate::field::{read_number, COLUMNS, NO_NUMBER};
-use crate::memory::{CEILING, LAST_STEP_BOOT};
+use crate::memory::{Memory, Replica, CEILING};
 use crate::mistake::Correct;
 use crate::refusal::*;
-use crate::script::{Program, CERTIFICATE_SLOTS, INPUT_CHUNK, MAX_LINE_BYTES};
+use crate::script::{Program, CERTIFICATE_SLOTS, INPUT_CHUNK, MAX_LINE_BYTES, MIN_FIELDS};
+use crate::steps::{Steps, LAST_STEP_BOOT};
 use std::collections::HashSet;
 
 /// A line and what it gives.
@@ -24,6 +26,14 @@ pub struct Seen<'a> {
     full: bool,
     /// Of an accepted prepare.
     proposal: Option<Proposal>,
+    /// The line's numbers, up to the first that cannot be read.
+    numbers: Vec<u32>,
+    /// Of the ledger in use, before the line.
+    pub steps: Option<Steps>,
+    /// After the line, where it names one of the ledger in use.
+    pub replica: Option<Replica>,
+    /// Since its last accepted opening, another f was refused with wrong steps.
+    pub other_refused: bool,
 }
 
 struct Proposal {
@@ -42,6 +52,7 @@ struct Ledger<'a> {
     issued: usize,
     /// View and turns of the last proposal.
     last: (u32, u32),
+    other_refused: bool,
 }
 
 impl<'a> Ledger<'a> {
@@ -53,6 +64,13 @@ impl<'a> Ledger<'a> {
             self.accepted.insert(text);
         }
         self.issued += usize::from(outcome.filed(code) == Some(ADDED));
+    }
+
+    fn note_refused_opening(&mut self, program: &mut Program<Correct>, numbers: &[u32], outcome: Outcome) {
+        if let [OPEN, f, ..] = *numbers {
+            let other = in_use(program).is_some_and(|memory| memory.f() != f);
+            self.other_refused |= other && outcome.answer == WRONG_STEPS;
+        }
     }
 
     fn proposal(&mut self, program: &mut Program<Correct>, prop: u32) -> Proposal {
@@ -67,6 +85,14 @@ impl<'a> Ledger<'a> {
 impl Seen<'_> {
     pub fn is(&self, code: u32, answer: u32) -> bool {
         self.code == code && self.outcome.answer == answer
+    }
+
+    pub fn number(&self) -> Option<u32> {
+        self.numbers.get(MIN_FIELDS - 1).copied()
+    }
+
+    pub fn list(&self) -> &[u32] {
+        self.numbers.get(MIN_FIELDS..).unwrap_or(&[])
     }
 
     fn is_long(&self) -> bool {
@@ -103,7 +129,7 @@ impl Seen<'_> {
 
 type Mark = (&'static str, fn(&Seen) -> bool);
 
-pub const MARKS: &[Mark] = &[
+const MARKS: &[Mark] = &[
     ("decisions", |seen| seen.is(DECIDE, ACCEPTED)),
     ("proposals on commits", |seen| seen.is(PREPARE_COMMITS, ACCEPTED)),
     ("proposals of view 1, by replica 0", |seen| seen.proposes(|made| made.view == 1 && made.replica == 0)),
@@ -161,6 +187,18 @@ pub const MARKS: &[Mark] = &[
     ("line feeds that begin a chunk", |seen| seen.fed && !seen.text.is_empty() && seen.end() % INPUT_CHUNK == 0),
 ];
 
+/// Every mark's name.
+pub fn names() -> Vec<String> {
+    let marks = MARKS.iter().map(|(mark, _)| mark.to_string());
+    marks.chain(step_marks::script_names()).collect()
+}
+
+/// In the order of the names.
+pub fn hits(seen: &Seen) -> Vec<bool> {
+    let marks = MARKS.iter().map(|(_, holds)| holds(seen));
+    marks.chain(step_marks::script_hits(seen)).collect()
+}
+
 /// Shows every line of a script.
 pub fn seen_lines(script: &[u8], mut show: impl FnMut(Seen)) {
     let mut program = Program::new(Correct);
@@ -169,15 +207,35 @@ pub fn seen_lines(script: &[u8], mut show: impl FnMut(Seen)) {
     for line in script.split_inclusive(|&byte| byte == b'\n') {
         let text = line.strip_suffix(b"\n").unwrap_or(line);
         let fed = text.len() < line.len();
+        let steps = in_use(&mut program).map(|memory| memory.steps());
         let outcome = answered(&mut program, line);
-        let code = text.get(..COLUMNS).map_or(NO_NUMBER, |field| read_number(Correct, field));
+        let numbers: Vec<u32> = numbers(text).collect();
+        let code = numbers.first().copied().unwrap_or(NO_NUMBER);
+        let replica = numbers.get(1).and_then(|&replica| named_replica(&mut program, replica));
         let (again, full) = (ledger.accepted.contains(text), ledger.issued == CERTIFICATE_SLOTS);
         let proposes = outcome.is_accepted() && [PREPARE_ACC, PREPARE_COMMITS].contains(&code);
         let proposal = proposes.then(|| ledger.proposal(&mut program, outcome.first));
-        show(Seen { start, text, fed, code, outcome, again, full, proposal });
+        let other_refused = ledger.other_refused;
+        ledger.note_refused_opening(&mut program, &numbers, outcome);
+        show(Seen { start, text, fed, code, outcome, again, full, proposal, numbers, steps, replica, other_refused });
         ledger.note(text, code, outcome);
         start += line.len();
     }
+}
+
+/// The numbers of a line's fields, up to the first that cannot be read.
+fn numbers(text: &[u8]) -> impl Iterator<Item = u32> + '_ {
+    text.chunks(COLUMNS).map(|field| read_number(Correct, field)).take_while(|&number| number != NO_NUMBER)
+}
+
+/// None before the first accepted opening.
+fn in_use(program: &mut Program<Correct>) -> Option<Memory<'_>> {
+    Some(program.memory()).filter(|memory| !memory.table.is_empty())
+}
+
+fn named_replica(program: &mut Program<Correct>, replica: u32) -> Option<Replica> {
+    let memory = in_use(program)?;
+    memory.is_replica(replica).then(|| memory.replica(replica))
 }
 
 /// What the program gives for one more line; only the last may lack its line feed.

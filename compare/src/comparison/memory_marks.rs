@@ -1,6 +1,7 @@
 //! What a call on a memory can show that the generators are meant to reach: certificates found and added, and leaders,
 //! also as in no list of calls.
 
+use super::step_marks;
 use crate::call::*;
 use crate::certificate::{Certificate, ADDED, FOUND};
 use crate::driver::Line;
@@ -12,7 +13,7 @@ use crate::refusal::*;
 
 /// A memory and its call, and what the call gives and leaves.
 pub struct Seen {
-    before: Sample,
+    pub before: Sample,
     pub outcome: Outcome,
     after: Sample,
 }
@@ -98,7 +99,7 @@ impl Turn {
 
 type Mark = (&'static str, fn(&Seen) -> bool);
 
-pub const MARKS: &[Mark] = &[
+const MARKS: &[Mark] = &[
     ("found: prepare on an ACC", |seen| seen.finds(PREPARE_ACC)),
     ("found: prepare on commits", |seen| seen.finds(PREPARE_COMMITS)),
     ("found: store", |seen| seen.finds(STORE)),
@@ -144,3 +145,15 @@ pub const MARKS: &[Mark] = &[
         seen.gives(PREPARE_COMMITS, WRONG_VIEW, |turn| turn.view > CEILING)
     }),
 ];
+
+/// Every mark's name.
+pub fn names() -> Vec<String> {
+    let marks = MARKS.iter().map(|(mark, _)| mark.to_string());
+    marks.chain(step_marks::memory_names()).map(|mark| format!("memory: {mark}")).collect()
+}
+
+/// In the order of the names.
+pub fn hits(seen: &Seen) -> Vec<bool> {
+    let marks = MARKS.iter().map(|(_, holds)| holds(seen));
+    marks.chain(step_marks::memory_hits(seen)).collect()
+}

@@ -14,3 +14,4 @@ pub mod renumber;
 pub mod samples;
 pub mod shrink;
 pub mod shrink_netting;
+pub mod step_marks;

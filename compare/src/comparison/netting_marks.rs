@@ -93,7 +93,7 @@ impl Seen {
     /// Heights of the decided blocks, where a run has left them.
     fn decided_heights(&self) -> Vec<u32> {
         let Netting { sort, memory, .. } = &self.netting;
-        let replicas = memory.table.get(HEADER..).unwrap_or(&[]).chunks_exact(REPLICA_WORDS);
+        let replicas = memory.table.get(REPLICAS_START..).unwrap_or(&[]).chunks_exact(REPLICA_WORDS);
         let decided = replicas.map(|words| height(&memory.blocks, Replica::from_words(words).decided_block));
         if *sort == DECIDED_BLOCKS && self.sound_memory {
             decided.filter(|&height| height > 0).collect()

@@ -5,9 +5,7 @@ use crate::call::*;
 use crate::certificate::ADDED;
 use crate::driver::{Driver, Line};
 use crate::field::{read_number, COLUMNS, MAX_NUMBER, NO_NUMBER};
-use crate::memory::MAX_F;
 use crate::mistake::Correct;
-use crate::refusal::UNREADABLE;
 use crate::script::{BLOCK_SLOTS, CERTIFICATE_SLOTS, MAX_FIELDS, MIN_FIELDS};
 
 /// A script's lines; those that make no call have their bytes alone.
@@ -90,7 +88,9 @@ impl Makers {
             }
             _ => None,
         };
-        (number, line.list.iter().map(|&number| certificate(number)).collect())
+        // An opening's list is steps.
+        let named = |&number: &u32| if line.code == OPEN { None } else { certificate(number) };
+        (number, line.list.iter().map(named).collect())
     }
 
     fn note(&mut self, line: &Line, outcome: Outcome, place: usize) {
@@ -113,12 +113,11 @@ fn unopened() -> Driver<Correct> {
 }
 
 fn step(driver: &mut Driver<Correct>, line: &Line) -> Outcome {
-    if line.code == OPEN && (1..=MAX_F).contains(&line.replica) {
-        driver.reopen(line.replica);
+    if line.code == OPEN {
+        driver.reopen(line.replica, &line.list)
     } else {
-        driver.call(line.code, line.replica, line.number, &line.list);
+        driver.call(line.code, line.replica, line.number, &line.list)
     }
-    driver.trace.last().map_or(Outcome::from(Err(UNREADABLE)), |(_, outcome)| *outcome)
 }
 
 /// The call of a whole line; none where the program could not read it.

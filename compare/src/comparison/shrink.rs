@@ -2,7 +2,8 @@
 
 use super::renumber::Lines;
 use crate::generate::memory::Sample;
-use crate::memory::{header, Replica, CERTIFICATE_WORDS, HEADER, REPLICA_WORDS};
+use crate::memory::*;
+use crate::steps::Steps;
 use std::time::{Duration, Instant};
 
 pub const TIME: Duration = Duration::from_secs(20);
@@ -68,7 +69,7 @@ fn without_runs(
     kept
 }
 
-/// Drops free slots and the last certificates, shortens the list, and sets words to 0 or to a fresh replica's.
+/// Drops free slots and the last certificates, shortens the list, and sets words to 0 or to a fresh table's.
 pub fn shrink_sample(sample: &Sample, differs: impl Fn(&Sample) -> bool) -> Sample {
     let end = Instant::now() + TIME;
     let mut best = sample.clone();
@@ -96,7 +97,7 @@ fn candidates(sample: &Sample) -> Vec<Sample> {
     };
     let kept = sample.log.len().saturating_sub(CERTIFICATE_WORDS);
     add(&|next| next.log.truncate(kept));
-    if sample.table.len() >= HEADER && sample.table[header::ISSUED] > 0 {
+    if sample.table.len() >= HEADER_WORDS && sample.table[header::ISSUED] > 0 {
         add(&|next| next.table[header::ISSUED] -= 1);
         add(&|next| {
             next.table[header::ISSUED] -= 1;
@@ -106,8 +107,10 @@ fn candidates(sample: &Sample) -> Vec<Sample> {
     if sample.blocks.len() > 1 {
         add(&|next| next.blocks.truncate(sample.blocks.len() - 1));
     }
-    for word in HEADER..sample.table.len() {
-        let fresh = Replica::FRESH.words()[(word - HEADER) % REPLICA_WORDS];
+    if !sample.line.list.is_empty() {
+        add(&|next| next.line.list.truncate(sample.line.list.len() - 1));
+    }
+    for (word, fresh) in fresh_words().enumerate().take(sample.table.len()).skip(HEADER_WORDS) {
         if sample.table[word] != fresh {
             add(&|next| next.table[word] = fresh);
         }
@@ -121,6 +124,12 @@ fn candidates(sample: &Sample) -> Vec<Sample> {
     all
 }
 
+/// A table's words as an opening without steps leaves them, for any number of replicas; the header's are 0.
+fn fresh_words() -> impl Iterator<Item = u32> {
+    let replica = Replica::fresh(Steps::DEFAULT.first()).words();
+    [0; HEADER_WORDS].into_iter().chain(Steps::DEFAULT.0).chain(replica.into_iter().cycle())
+}
+
 /// The memory and its call, as text that a person can read.
 pub fn sample_text(sample: &Sample) -> String {
     format!("  call {}\n{}", sample.line.text(), memory_text(sample))
@@ -129,9 +138,10 @@ pub fn sample_text(sample: &Sample) -> String {
 pub fn memory_text(sample: &Sample) -> String {
     let rows =
         |words: &[u32], width: usize| words.chunks(width).map(|row| format!("    {row:?}\n")).collect::<String>();
-    let (head, replicas) = sample.table.split_at(sample.table.len().min(HEADER));
+    let (head, replicas) = sample.table.split_at(sample.table.len().min(REPLICAS_START));
+    let (head, steps) = head.split_at(head.len().min(HEADER_WORDS));
     format!(
-        "  table {head:?}\n{}  log, {} words\n{}  blocks {:?}\n",
+        "  table {head:?}, steps {steps:?}\n{}  log, {} words\n{}  blocks {:?}\n",
         rows(replicas, REPLICA_WORDS),
         sample.log.len(),
         rows(&sample.log, CERTIFICATE_WORDS),

@@ -1,18 +1,27 @@
-//! Scripts at the edges: a full log, full blocks, the counter's end, boots past the last step, retired replicas, openings
-//! again.
+//! Scripts at the edges: a full log, full blocks, the counter's end, boots past the last step, retired replicas, the least
+//! and the greatest steps, openings again.
 
+use super::steps::{broken_fields, large_steps, own_or_none, small_steps, sound_steps};
 use crate::call::*;
 use crate::driver::{Driver, Line};
 use crate::explore::Explorer;
 use crate::field::MAX_NUMBER;
-use crate::memory::{CEILING, COUNTER_STEPS, FIRST_LIMIT, LAST_STEP, LIVE, MAX_F};
+use crate::memory::{CEILING, LIVE, MAX_F, STEP_WORDS};
 use crate::mistake::Correct;
 use crate::random::Random;
 use crate::script::{BLOCK_SLOTS, CERTIFICATE_SLOTS};
+use crate::steps::Steps;
 
+/// With steps of its own now and then.
 fn explorer(mut random: Random, f: u32) -> Explorer<Correct> {
+    let steps = own_or_none(&mut random);
+    explorer_by(random, f, &steps)
+}
+
+fn explorer_by(mut random: Random, f: u32, steps: &[u32]) -> Explorer<Correct> {
     let noise = random.pick(&[2, 4, 8]);
-    Explorer { driver: Driver::open(Correct, f, CERTIFICATE_SLOTS, BLOCK_SLOTS), random, noise }
+    let driver = Driver::open_with_steps(Correct, f, steps, CERTIFICATE_SLOTS, BLOCK_SLOTS);
+    Explorer { driver, random, noise }
 }
 
 /// NEWVIEWs until the log is nearly full, a round of agreement that runs into its end, then random hosts.
@@ -75,22 +84,23 @@ pub fn full_blocks(random: Random, f: u32) -> Vec<Line> {
     hosts.driver.lines()
 }
 
-/// So many reserves of a fresh replica let its cuts end as near to the ceiling as its steps allow.
+/// So many reserves of a fresh replica let its cuts end as near to the ceiling as document 01's steps allow.
 fn even_reserves() -> u32 {
-    let by_cuts: u32 = COUNTER_STEPS[1..].iter().sum();
-    (CEILING - FIRST_LIMIT - by_cuts) % LAST_STEP / COUNTER_STEPS[0]
+    const STEPS: Steps = Steps::DEFAULT;
+    let by_cuts: u32 = STEPS.0[1..].iter().sum();
+    (CEILING - STEPS.first() - by_cuts) % STEPS.last() / STEPS.first()
 }
 
 /// Reserves and then cuts that bring the limit to just the ceiling; other numbers of reserves pass it by.
 pub fn counter_by_cuts(mut random: Random, f: u32) -> Vec<Line> {
     let even = even_reserves();
     let reserves = random.pick(&[even, even, even, even.saturating_sub(1), even + 1]);
-    let mut hosts = explorer(random, f);
+    let mut hosts = explorer_by(random, f, &[]);
     let replica = hosts.random.below(hosts.driver.n());
     for _ in 0..reserves {
         hosts.driver.call(RESERVE, replica, 0, &[]);
     }
-    hosts.driver.raise_limit(REBOOT, replica, CEILING - LAST_STEP);
+    hosts.driver.raise_limit(REBOOT, replica, CEILING - Steps::DEFAULT.last());
     let last = hosts.random.pick(&[REBOOT, RESERVE]);
     hosts.driver.call(last, replica, 0, &[]);
     at_the_end(&mut hosts, replica);
@@ -99,10 +109,48 @@ pub fn counter_by_cuts(mut random: Random, f: u32) -> Vec<Line> {
 
 /// Reserves alone, up to the ceiling.
 pub fn counter_by_reserves(random: Random, f: u32) -> Vec<Line> {
-    let mut hosts = explorer(random, f);
+    let mut hosts = explorer_by(random, f, &[]);
     let replica = hosts.random.below(hosts.driver.n());
     hosts.driver.raise_limit(RESERVE, replica, CEILING);
     at_the_end(&mut hosts, replica);
+    hosts.driver.lines()
+}
+
+/// Steps that bring the limit to the ceiling, or near it, by a few hundred cuts or reserves.
+pub fn counter_by_large_steps(mut random: Random, f: u32) -> Vec<Line> {
+    let steps = large_steps(&mut random);
+    let mut hosts = explorer_by(random, f, &steps.0);
+    let replica = hosts.random.below(hosts.driver.n());
+    for _ in 0..hosts.random.below(2 * STEP_WORDS as u32) {
+        let code = hosts.random.pick(&[REBOOT, RESERVE]);
+        hosts.driver.call(code, replica, 0, &[]);
+    }
+    let code = hosts.random.pick(&[REBOOT, RESERVE]);
+    hosts.driver.raise_limit(code, replica, CEILING - steps.last());
+    let last = hosts.random.pick(&[REBOOT, RESERVE]);
+    hosts.driver.call(last, replica, 0, &[]);
+    at_the_end(&mut hosts, replica);
+    hosts.driver.lines()
+}
+
+/// Steps so small that replicas meet their limits in every view: they ask at the limit, reserve, and are cut.
+pub fn limits_in_every_view(mut random: Random, f: u32) -> Vec<Line> {
+    let steps = small_steps(&mut random);
+    let mut hosts = explorer_by(random, f, &steps.0);
+    for _ in 0..100 {
+        let replica = hosts.random.below(hosts.driver.n());
+        let limit = hosts.driver.replica(replica).view_limit;
+        match hosts.random.below(8) {
+            0..=1 => drop(hosts.driver.call(VIEW, replica, limit, &[])),
+            2 => drop(hosts.driver.enter(replica, limit)),
+            3 => drop(hosts.driver.call(REBOOT, replica, 0, &[])),
+            4 => {
+                let others: Vec<u32> = (0..hosts.driver.n()).filter(|&other| other != replica).collect();
+                hosts.driver.restore(replica, &others);
+            }
+            _ => hosts.step(),
+        }
+    }
     hosts.driver.lines()
 }
 
@@ -125,9 +173,11 @@ fn at_the_end(hosts: &mut Explorer<Correct>, replica: u32) {
     }
 }
 
-/// Some replicas cut again and again with reserves between, so that every step of the counter is used.
-pub fn many_boots(random: Random, f: u32) -> Vec<Line> {
-    let mut hosts = explorer(random, f);
+/// Some replicas cut again and again with reserves between, so that every step of the counter is used; the pool's own
+/// half the time.
+pub fn many_boots(mut random: Random, f: u32) -> Vec<Line> {
+    let steps = if random.once_in(2) { sound_steps(&mut random).0.to_vec() } else { Vec::new() };
+    let mut hosts = explorer_by(random, f, &steps);
     for _ in 0..80 {
         let replica = hosts.random.below(2);
         let code = hosts.random.pick(&[REBOOT, REBOOT, RESERVE]);
@@ -141,20 +191,42 @@ pub fn many_boots(random: Random, f: u32) -> Vec<Line> {
     hosts.driver.lines()
 }
 
-/// Hosts at work in several ledgers, one opened after the other, with refused openings between.
+/// Hosts at work in several ledgers, one opened after the other, with refused openings between and before them all.
 pub fn openings(random: Random) -> Vec<Line> {
     let mut hosts = explorer(random, 1);
     for _ in 0..hosts.random.within(2, 5) {
         let f = hosts.random.within(1, MAX_F);
-        hosts.driver.reopen(f);
+        let steps = if hosts.random.once_in(2) { sound_steps(&mut hosts.random).0.to_vec() } else { Vec::new() };
+        hosts.driver.reopen(f, &steps);
         for _ in 0..hosts.random.within(1, 60) {
             hosts.step();
         }
-        let refused = hosts.random.pick(&[0, MAX_F + 1, MAX_F + 2, 1000, MAX_NUMBER]);
-        hosts.driver.call(OPEN, refused, 0, &[]);
-        for _ in 0..hosts.random.within(1, 20) {
-            hosts.step();
+        for _ in 0..hosts.random.within(1, 3) {
+            refused_opening(&mut hosts, f);
+            for _ in 0..hosts.random.within(1, 10) {
+                hosts.step();
+            }
         }
     }
-    hosts.driver.lines()
+    let mut lines = hosts.driver.lines();
+    if hosts.random.once_in(2) {
+        let early = [Line::new(OPEN, 1, 0, &broken_fields(&mut hosts.random)), Line::new(VIEW, 0, 1, &[])];
+        lines.splice(0..0, early).for_each(drop);
+    }
+    lines
+}
+
+/// An f out of range, steps that break the rule with this f or another, or both at once; a number beside sound steps.
+fn refused_opening(hosts: &mut Explorer<Correct>, f: u32) {
+    let random = &mut hosts.random;
+    let wrong = random.pick(&[0, MAX_F + 1, MAX_F + 2, 1000, MAX_NUMBER]);
+    let other = random.within(1, MAX_F);
+    let (broken, sound) = (broken_fields(random), sound_steps(random));
+    match random.below(9) {
+        0 => drop(hosts.driver.call(OPEN, f, 1, &sound.0)),
+        1..=2 => drop(hosts.driver.reopen(wrong, &[])),
+        3..=4 => drop(hosts.driver.reopen(wrong, &broken)),
+        5..=6 => drop(hosts.driver.reopen(f, &broken)),
+        _ => drop(hosts.driver.reopen(other, &broken)),
+    }
 }

@@ -2,12 +2,16 @@
 
 use super::perturb::{damage_form, nudge};
 use super::ready::make_ready;
+use super::steps::{any_list, sound_steps};
 use crate::call::*;
 use crate::certificate::{Certificate, FIRST_KIND, LAST_KIND};
 use crate::driver::{Driver, Line};
 use crate::memory::*;
 use crate::mistake::{Correct, Rules};
 use crate::random::Random;
+use crate::steps::{Steps, MAX_STEP};
+
+const FIRST_LIMIT: u32 = Steps::DEFAULT.first();
 
 /// Three slices and a call on them.
 #[derive(Clone, PartialEq, Eq, Debug)]
@@ -103,6 +107,7 @@ fn garbage(random: &mut Random) -> u32 {
 /// Small views mostly, so that they meet; the edges of the counter too.
 pub fn any_view(random: &mut Random) -> u32 {
     match random.below(8) {
+        0 if random.once_in(4) => random.pick(&[MAX_STEP - 1, MAX_STEP, MAX_STEP + 1, 2 * MAX_STEP]),
         0 => random.pick(&[FIRST_LIMIT - 1, FIRST_LIMIT, FIRST_LIMIT + 1, 2 * FIRST_LIMIT - 1, 2 * FIRST_LIMIT]),
         1 => random.pick(&[CEILING - FIRST_LIMIT - 1, CEILING - FIRST_LIMIT, CEILING - 2, CEILING - 1, CEILING]),
         _ => random.below(6),
@@ -129,7 +134,9 @@ fn well_formed_memory(random: &mut Random) -> Sample {
         blocks: (0..blocks).map(|_| garbage(random)).collect(),
         line: Line::new(OPEN, 0, 0, &[]),
     };
-    sample.table[..HEADER].copy_from_slice(&[f, issued, added]);
+    sample.table[..HEADER_WORDS].copy_from_slice(&[f, issued, added]);
+    let steps = if random.once_in(2) { Steps::DEFAULT } else { sound_steps(random) };
+    sample.memory().set_steps(steps);
     sample.blocks[0] = 0;
     for block in 1..added {
         sample.blocks[block as usize] = random.below(block);
@@ -176,7 +183,7 @@ pub fn any_certificate(random: &mut Random, n: u32, added: u32) -> Certificate {
 /// A call with numbers mostly in range.
 fn any_line(random: &mut Random, sample: &Sample) -> Line {
     let (f, issued, added) = (sample.table[header::F], sample.table[header::ISSUED], sample.table[header::ADDED]);
-    let code = random.below(LAST_CODE + 1);
+    let code = if random.once_in(16) { OPEN } else { random.below(LAST_CODE + 1) };
     let replica = if random.once_in(24) { sample.n() + random.below(2) } else { random.below(sample.n()) };
     let length = if random.once_in(12) { random.below(MAX_LIST as u32 + 1) } else { f + 1 };
     let list: Vec<u32> = (0..length).map(|_| random.nearly_below(issued, 30)).collect();
@@ -184,7 +191,7 @@ fn any_line(random: &mut Random, sample: &Sample) -> Line {
     let block = random.nearly_below(added, 12);
     let view = any_view(random) + u32::from(random.once_in(8));
     match code {
-        OPEN => Line::new(code, random.pick(&[0, f, f, f, 1, MAX_F, MAX_F + 1, u32::MAX]), 0, &[]),
+        OPEN => Line::new(code, random.pick(&[0, f, f, f, f, 1, MAX_F, MAX_F + 1, u32::MAX]), 0, &any_list(random)),
         BLOCK => Line::new(code, 0, block, &[]),
         PREPARE_ACC => Line::new(code, replica, block, &[certificate]),
         PREPARE_COMMITS => Line::new(code, replica, block, &list),

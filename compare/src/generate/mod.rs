@@ -1,4 +1,4 @@
-//! Seeded generators: scripts, memories with one call each, and nettings.
+//! Seeded generators: scripts, memories with one call each, nettings, and the steps that they open with.
 
 pub mod boundary;
 pub mod chunks;
@@ -10,3 +10,4 @@ pub mod perturb;
 pub mod progress;
 pub mod ready;
 pub mod scripts;
+pub mod steps;

@@ -3,6 +3,7 @@
 use super::memory::{sample, Sample};
 use super::movements::{any_list, extreme_list, Limits};
 use super::progress::ledger_in_progress;
+use super::steps::own_or_none;
 use crate::ancestry::ancestors;
 use crate::call::BLOCK;
 use crate::driver::Driver;
@@ -65,7 +66,7 @@ fn chosen_block(random: &mut Random, limits: Limits, memory: &Sample) -> u32 {
         1 => 0,
         2..=5 => added - 1,
         6..=8 => {
-            let at = HEADER + REPLICA_WORDS * random.below(n) as usize + replica_word::DECIDED_BLOCK;
+            let at = replica_start(random.below(n)) + replica_word::DECIDED_BLOCK;
             memory.table.get(at).copied().unwrap_or(0)
         }
         _ => random.below(added),
@@ -76,7 +77,8 @@ fn chosen_block(random: &mut Random, limits: Limits, memory: &Sample) -> u32 {
 fn decided_blocks(random: &mut Random) -> Sample {
     let f = random.pick(&[1, 1, 1, 2, 3]);
     let calls = random.within(30, 160) as usize;
-    let mut driver = ledger_in_progress(Random::new(random.bits()), f, calls, true);
+    let steps = own_or_none(random);
+    let mut driver = ledger_in_progress(Random::new(random.bits()), f, &steps, calls, true);
     for _ in 0..random.below(5) {
         let parent = random.below(driver.added());
         driver.call(BLOCK, 0, parent, &[]);

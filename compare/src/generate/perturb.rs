@@ -1,10 +1,12 @@
 //! Small changes to a ready memory: nudges that keep the form, damage that breaks it, wrong lengths.
 
 use super::memory::Sample;
+use super::steps::broken_steps;
 use crate::call::{LAST_CODE, MAX_LIST, PREPARE_ACC, REBOOT};
 use crate::certificate::{Certificate, LAST_KIND};
 use crate::memory::*;
 use crate::random::Random;
+use crate::steps::Steps;
 
 /// Changes one thing that the call looks at: a word of its certificates, of its replica, or a number of the call.
 pub fn nudge(random: &mut Random, sample: &mut Sample) {
@@ -42,7 +44,7 @@ fn nudge_certificate(random: &mut Random, sample: &mut Sample) {
 
 fn nudge_replica(random: &mut Random, sample: &mut Sample) {
     if sample.line.replica < sample.n() {
-        let start = HEADER + REPLICA_WORDS * sample.line.replica as usize;
+        let start = replica_start(sample.line.replica);
         let word = &mut sample.table[start + random.below(REPLICA_WORDS as u32) as usize];
         *word = near(random, *word);
     }
@@ -66,12 +68,13 @@ fn nudge_line(random: &mut Random, sample: &mut Sample) {
 
 /// Breaks the form in one word or in a length, mostly by just one too much.
 pub fn damage_form(random: &mut Random, sample: &mut Sample) {
-    match random.below(16) {
+    match random.below(18) {
         0..=5 => damage_certificate(random, sample),
         6..=10 => damage_replica(random, sample),
         11..=12 => damage_blocks(random, sample),
         13 => damage_counts(random, sample),
         14 => damage_f(random, sample),
+        15..=16 => sample.memory().set_steps(broken_steps(random)),
         _ => damage_lengths(random, sample),
     }
 }
@@ -112,8 +115,7 @@ fn damage_replica(random: &mut Random, sample: &mut Sample) {
         decided_view: CEILING + 1,
         decided_block: added,
     };
-    sample.table[HEADER + REPLICA_WORDS * replica as usize + word] =
-        if random.once_in(6) { u32::MAX } else { past.words()[word] };
+    sample.table[replica_start(replica) + word] = if random.once_in(6) { u32::MAX } else { past.words()[word] };
 }
 
 fn damage_blocks(random: &mut Random, sample: &mut Sample) {
@@ -138,7 +140,7 @@ fn damage_f(random: &mut Random, sample: &mut Sample) {
     if f <= MAX_F + 2 && random.once_in(2) {
         sample.table.truncate(table_length(f) as usize);
         while (sample.table.len() as u64) < table_length(f) {
-            sample.table.extend(Replica::FRESH.words());
+            sample.table.extend(Replica::fresh(Steps::DEFAULT.first()).words());
         }
         sample.log.clear();
         sample.table[header::ISSUED] = 0;
@@ -148,9 +150,11 @@ fn damage_f(random: &mut Random, sample: &mut Sample) {
 
 fn damage_lengths(random: &mut Random, sample: &mut Sample) {
     match random.below(8) {
+        // By as many words as the steps take.
+        0 if random.once_in(3) => sample.table.truncate(sample.table.len() - STEP_WORDS),
         0 => drop(sample.table.pop()),
         1 => sample.table.push(0),
-        2 => sample.table.truncate(random.below(HEADER as u32 + 1) as usize),
+        2 => sample.table.truncate(random.below(REPLICAS_START as u32 + 1) as usize),
         3 => sample.log.extend(vec![0; random.within(1, CERTIFICATE_WORDS as u32 - 1) as usize]),
         4 => drop(sample.log.pop()),
         5 => sample.blocks.clear(),

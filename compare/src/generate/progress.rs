@@ -18,16 +18,16 @@ struct Progress {
 }
 
 /// The lines of a ledger in progress.
-pub fn progress(random: Random, f: u32, lines: usize, hostile: bool) -> Vec<Line> {
-    let mut trace = ledger_in_progress(random, f, lines, hostile).lines();
+pub fn progress(random: Random, f: u32, steps: &[u32], lines: usize, hostile: bool) -> Vec<Line> {
+    let mut trace = ledger_in_progress(random, f, steps, lines, hostile).lines();
     trace.truncate(lines);
     trace
 }
 
-/// A ledger that decides until the lines are used up or the log is full, and goes on a little then. With `hostile`,
-/// random hosts cut in after each round.
-pub fn ledger_in_progress(mut random: Random, f: u32, lines: usize, hostile: bool) -> Driver<Correct> {
-    let driver = Driver::open(Correct, f, CERTIFICATE_SLOTS, BLOCK_SLOTS);
+/// A ledger, opened with these steps or none, that decides until the lines are used up or the log is full, and goes on a
+/// little then. With `hostile`, random hosts cut in after each round.
+pub fn ledger_in_progress(mut random: Random, f: u32, steps: &[u32], lines: usize, hostile: bool) -> Driver<Correct> {
+    let driver = Driver::open_with_steps(Correct, f, steps, CERTIFICATE_SLOTS, BLOCK_SLOTS);
     let view = random.within(0, 3);
     let hosts = Explorer { driver, random, noise: 8 };
     let mut progress = Progress { hosts, view, asleep: None, commits: Vec::new() };
@@ -60,7 +60,8 @@ impl Progress {
     }
 
     fn change_view(&mut self) -> Option<()> {
-        let jump = self.hosts.random.pick(&[1, 1, 1, 1, 1, 1, 70, 70, 400]);
+        let limit = self.hosts.driver.steps().first();
+        let jump = self.hosts.random.pick(&[1, 1, 1, 1, 1, 1, limit + 6, limit + 6, 6 * limit]);
         self.view += 1 + self.hosts.random.below(jump);
         let quorum = self.hosts.driver.f() as usize + 1;
         let voters = self.some_replicas(quorum, self.asleep);

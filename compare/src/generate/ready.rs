@@ -4,8 +4,9 @@ use super::memory::{any_view, Sample};
 use crate::call::*;
 use crate::certificate::*;
 use crate::leader::leader;
-use crate::memory::{header, Replica, CEILING, FIRST_LIMIT, LIVE, RECOVERING};
+use crate::memory::{header, Replica, CEILING, LIVE, RECOVERING};
 use crate::random::Random;
+use crate::steps::Steps;
 
 pub fn make_ready(random: &mut Random, sample: &mut Sample) {
     let (f, n, issued) = (sample.table[header::F], sample.n(), sample.table[header::ISSUED]);
@@ -21,6 +22,7 @@ pub fn make_ready(random: &mut Random, sample: &mut Sample) {
         STORE => ready_for_store(random, sample, places[0]),
         VIEW => ready_for_view(random, sample),
         ACCUMULATE => ready_for_accumulate(random, sample, places),
+        REBOOT | RESERVE => ready_for_step(random, sample),
         REPLY_TO => ready_for_reply(random, sample, places[0]),
         RECOVER => ready_for_recover(random, sample, places),
         _ => {}
@@ -44,7 +46,7 @@ fn live_at(random: &mut Random, sample: &mut Sample, w: u32) {
     r.status = LIVE;
     r.flag = 0;
     r.min_view = w.clamp(1, CEILING);
-    r.view_limit = (r.min_view + random.pick(&[0, 1, 1, 2, FIRST_LIMIT])).min(CEILING);
+    r.view_limit = (r.min_view + random.pick(&[0, 1, 1, 2, Steps::DEFAULT.first()])).min(CEILING);
     r.stored_view = random.below(r.min_view.min(8));
     set_caller(sample, r);
 }
@@ -145,6 +147,21 @@ fn ready_for_accumulate(random: &mut Random, sample: &mut Sample, places: Vec<u3
     sample.line.list = places;
     let mut r = caller(sample);
     r.status = LIVE;
+    set_caller(sample, r);
+}
+
+/// Now and then the limit grows to just the ceiling, or to one past it.
+fn ready_for_step(random: &mut Random, sample: &mut Sample) {
+    if !random.once_in(3) {
+        return;
+    }
+    let mut r = caller(sample);
+    r.boot = random.below(10);
+    let stepped = if sample.line.code == REBOOT { r.boot + 1 } else { r.boot };
+    r.status = random.pick(&[LIVE, RECOVERING]);
+    r.view_limit = CEILING - sample.memory().steps().of_boot(stepped) + random.below(2);
+    r.min_view = r.min_view.min(r.view_limit);
+    r.stored_view = r.stored_view.min(r.min_view - 1);
     set_caller(sample, r);
 }
 

@@ -4,6 +4,7 @@ use super::boundary::*;
 use super::chunks::over_chunk_ends;
 use super::damage::damaged;
 use super::progress::progress;
+use super::steps::own_or_none;
 use crate::driver::{script_text, Driver, Line};
 use crate::explore::Explorer;
 use crate::hunt::search::attack;
@@ -28,6 +29,8 @@ pub const SORTS: &[&str] = &[
     "full blocks",
     "counter by cuts",
     "counter by reserves",
+    "counter by large steps",
+    "limits in every view",
     "chunk ends",
     "damaged text",
 ];
@@ -37,9 +40,10 @@ pub fn script(seed: u64) -> Script {
     let mut random = Random::new(seed);
     let part = Random::new(random.bits());
     let f = any_f(&mut random);
-    let (sort, lines) = match random.below(64) {
-        0..=7 => ("progress", progress(part, f, 600, false)),
-        8..=20 => ("disturbed progress", progress(part, f, 600, true)),
+    let steps = own_or_none(&mut random);
+    let (sort, lines) = match random.below(68) {
+        0..=7 => ("progress", progress(part, f, &steps, 600, false)),
+        8..=20 => ("disturbed progress", progress(part, f, &steps, 600, true)),
         21..=28 => ("hostile", hostile(part, f)),
         29..=35 => ("attack", attacks(part)),
         36..=39 => ("openings", openings(part)),
@@ -48,7 +52,9 @@ pub fn script(seed: u64) -> Script {
         49..=50 => ("full blocks", full_blocks(part, f)),
         51..=53 => ("counter by cuts", counter_by_cuts(part, f)),
         54 if random.once_in(8) => ("counter by reserves", counter_by_reserves(part, f.min(2))),
-        54..=57 => ("chunk ends", progress(part, random.pick(&[1, MAX_F]), 300, true)),
+        54..=57 => ("chunk ends", progress(part, random.pick(&[1, MAX_F]), &steps, 300, true)),
+        58..=59 => ("counter by large steps", counter_by_large_steps(part, f)),
+        60..=61 => ("limits in every view", limits_in_every_view(part, f)),
         _ => ("damaged text", hostile(part, f)),
     };
     let plain = script_text(&lines);
@@ -72,7 +78,7 @@ fn any_f(random: &mut Random) -> u32 {
 pub fn hostile(mut random: Random, f: u32) -> Vec<Line> {
     let noise = random.pick(&[4, 8, 16]);
     let steps = random.within(20, 400);
-    let driver = Driver::open(Correct, f, CERTIFICATE_SLOTS, BLOCK_SLOTS);
+    let driver = Driver::open_with_steps(Correct, f, &own_or_none(&mut random), CERTIFICATE_SLOTS, BLOCK_SLOTS);
     let mut hosts = Explorer { driver, random, noise };
     for _ in 0..steps {
         hosts.step();

@@ -5,6 +5,7 @@
 
 use crate::call::DECIDE;
 use crate::driver::Driver;
+use crate::generate::steps::own_or_none;
 use crate::memory::replica_count;
 use crate::mistake::Mistake;
 use crate::random::Random;
@@ -26,7 +27,8 @@ impl Attack {
         random.shuffle(&mut roles);
         let late = roles.split_off(f as usize + 1);
         let hinge = roles.pop().unwrap_or(0);
-        Attack { driver: Driver::open(mistake, f, SLOTS.0, SLOTS.1), random, early: roles, hinge, late }
+        let driver = Driver::open_with_steps(mistake, f, &own_or_none(&mut random), SLOTS.0, SLOTS.1);
+        Attack { driver, random, early: roles, hinge, late }
     }
 
     pub fn first_quorum(&mut self) -> Vec<u32> {
@@ -50,6 +52,11 @@ impl Attack {
         self.random.shuffle(&mut repliers);
         repliers.push(self.random.pick(&self.early));
         repliers
+    }
+
+    /// A fresh replica's limit in this ledger.
+    pub fn first_limit(&mut self) -> u32 {
+        self.driver.steps().first()
     }
 
     /// A view of at least `from` whose leader is one of these.

@@ -2,7 +2,6 @@
 
 use super::attack::Attack;
 use crate::call::*;
-use crate::memory::FIRST_LIMIT;
 
 impl Attack {
     /// After the first decision the hinge is cut and restored by replies of which the late ones come first.
@@ -93,7 +92,8 @@ impl Attack {
         let asking = self.random.pick(&self.late);
         let req = self.asked(asking)?;
         let first = self.first_quorum();
-        let view = self.view_led_by(&self.early.clone(), FIRST_LIMIT);
+        let limit = self.first_limit();
+        let view = self.view_led_by(&self.early.clone(), limit);
         let acc = self.driver.gather(view, &first)?;
         let (prop, _) = self.driver.propose_on(acc)?;
         let quorum = self.second_quorum();
@@ -130,7 +130,8 @@ impl Attack {
         self.driver.accepted(RECOVER, asking, 0, &replies)?;
         self.driver.accepted(REBOOT, self.hinge, 0, &[])?;
         self.driver.accepted(RECOVER, self.hinge, 0, &replies)?;
-        self.first_decision(FIRST_LIMIT)?;
+        let limit = self.first_limit();
+        self.first_decision(limit)?;
         let quorum = self.second_quorum();
         self.second_decision(&quorum)
     }

@@ -86,7 +86,7 @@ impl Monitor {
 /// Runs the lines from an unopened ledger; the violation and the number of lines up to it.
 pub fn judge<R: Rules>(rules: R, lines: &[Line], slots: (usize, usize)) -> Option<(Violation, usize)> {
     let opening = lines.first().filter(|line| line.code == OPEN && (1..=MAX_F).contains(&line.replica))?;
-    let mut driver = Driver::open(rules, opening.replica, slots.0, slots.1);
+    let mut driver = Driver::open_with_steps(rules, opening.replica, &opening.list, slots.0, slots.1);
     let mut monitor = Monitor::default();
     monitor.look(&mut driver);
     for (place, line) in lines.iter().enumerate().skip(1) {

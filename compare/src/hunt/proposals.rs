@@ -3,7 +3,6 @@
 
 use super::attack::Attack;
 use crate::call::*;
-use crate::memory::{COUNTER_STEPS, FIRST_LIMIT};
 
 impl Attack {
     /// The first quorum decides the one block, the late ones store the other and speak first in the next view.
@@ -23,7 +22,8 @@ impl Attack {
         self.driver.accepted(REBOOT, asking, 0, &[])?;
         let req = self.driver.accepted(REQUEST, asking, 0, &[])?;
         self.driver.restore(asking, &voters)?;
-        let view = self.view_led_by(&voters, FIRST_LIMIT);
+        let limit = self.first_limit();
+        let view = self.view_led_by(&voters, limit);
         let acc = self.driver.gather(view, &voters)?;
         let (one, _) = self.driver.propose_on(acc)?;
         let leader = self.driver.leader(view)?;
@@ -53,7 +53,7 @@ impl Attack {
     /// The same at the leader's very limit, to which a reply has raised its min_view.
     pub fn proposes_at_the_limit(&mut self) -> Option<()> {
         let n = self.driver.n();
-        let view = COUNTER_STEPS[0] * self.random.within(1, 6);
+        let view = self.first_limit() * self.random.within(1, 6);
         let leader = self.driver.leader(view)?;
         let others: Vec<u32> = (0..n).filter(|&replica| replica != leader).collect();
         let asking = self.random.pick(&others);

@@ -5,6 +5,7 @@ use super::monitor::{judge, Monitor, Violation};
 use crate::call::Outcome;
 use crate::driver::{Driver, Line};
 use crate::explore::Explorer;
+use crate::generate::steps::own_or_none;
 use crate::mistake::Mistake;
 use crate::random::Random;
 use std::time::{Duration, Instant};
@@ -100,7 +101,8 @@ fn explore(mistake: Option<Mistake>, mut random: Random) -> (&'static str, Vec<L
     let f = random.pick(&[1, 1, 1, 1, 2]);
     let steps = random.within(20, 240);
     let noise = random.pick(&[0, 0, 16]);
-    let mut explorer = Explorer { driver: Driver::open(mistake, f, SLOTS.0, SLOTS.1), random, noise };
+    let driver = Driver::open_with_steps(mistake, f, &own_or_none(&mut random), SLOTS.0, SLOTS.1);
+    let mut explorer = Explorer { driver, random, noise };
     let mut monitor = Monitor::default();
     for _ in 0..steps {
         explorer.step();
@@ -111,7 +113,7 @@ fn explore(mistake: Option<Mistake>, mut random: Random) -> (&'static str, Vec<L
     ("random hosts", explorer.driver.lines())
 }
 
-/// Leaves out lines as long as demand 3 stays broken; refused ones go first.
+/// Leaves out lines, and the pool's own steps, as long as demand 3 stays broken.
 fn shortest(mistake: Option<Mistake>, mut lines: Vec<Line>) -> Vec<(Line, Outcome)> {
     let mut place = lines.len();
     while place > 1 {
@@ -124,8 +126,13 @@ fn shortest(mistake: Option<Mistake>, mut lines: Vec<Line>) -> Vec<(Line, Outcom
             lines = fewer;
         }
     }
-    let f = lines.first().map_or(1, |line| line.replica);
-    let mut driver = Driver::open(mistake, f, SLOTS.0, SLOTS.1);
+    let mut plain = lines.clone();
+    plain[0].list.clear();
+    if let Some((_, count)) = judge(mistake, &plain, SLOTS) {
+        plain.truncate(count);
+        lines = plain;
+    }
+    let mut driver = Driver::open_with_steps(mistake, lines[0].replica, &lines[0].list, SLOTS.0, SLOTS.1);
     for line in &lines[1..] {
         driver.call(line.code, line.replica, line.number, &line.list);
     }

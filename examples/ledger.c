@@ -1,5 +1,5 @@
 /* A ledger of three replicas in C: open it, decide a block, cut one replica's power, recover it; calls whose answers got lost are made
- * again. Its status is 1 if an answer was wrong. */
+ * again. Then it is opened anew with steps of the pool's own. Its status is 1 if an answer was wrong. */
 #include "../include/yard.h"
 
 #include <stdio.h>
@@ -33,6 +33,7 @@ static void panel(uint32_t replica, uint32_t height) {
 
 int main(void) {
     const uint32_t views[] = {0, 1}, acc[] = {2}, commits[] = {4, 5}, replies[] = {7, 8};
+    const uint32_t steps[YARD_STEPS] = {256, 256, 512, 512, 1024, 1024, 2048, YARD_MAX_STEP};
     uint8_t columns[8];
     call(OPEN, 1, 0, NULL, 0, 0, 3, 0);
     call(VIEW, 0, 1, NULL, 0, 0, 0, YARD_ADDED);
@@ -58,6 +59,13 @@ int main(void) {
     call(REPLY, 2, 6, NULL, 0, 0, 8, YARD_ADDED);
     call(RECOVER, 1, 0, replies, 2, 0, 64, 1);
     call(13, 0, 0, NULL, 0, 10, 0, 0);
+    call(OPEN, 1, 0, steps, YARD_STEPS - 1, 12, 0, 0);
+    panel(0, 1);
+    call(OPEN, 1, 0, steps, YARD_STEPS, 0, 3, 0);
+    panel(0, 0);
+    call(VIEW, 0, 255, NULL, 0, 0, 0, YARD_ADDED);
+    call(VIEW, 0, 256, NULL, 0, 8, 0, 0);
+    call(REBOOT, 0, 0, NULL, 0, 0, 1, 256);
     if (yard_write_number(64, columns, 8) != 0 || yard_read_number(columns, 8) != 64)
         wrong = 1;
     puts(wrong ? "wrong" : "right");

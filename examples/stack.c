@@ -11,8 +11,8 @@ enum { OPEN, BLOCK };
 
 enum { TABLE = YARD_TABLE_WORDS(30), BLOCKS = 4096, LAST = BLOCKS - 1, STACK = 1 << 18, PATTERN = 0xa5, SLACK = 256 };
 
-/* The decided view and block of replica 0. */
-enum { DECIDED_VIEW = 10, DECIDED_BLOCK = 11 };
+/* The decided view and block of replica 0: the last two of its nine words, which come after the three first words and the steps. */
+enum { DECIDED_VIEW = 3 + YARD_STEPS + 7, DECIDED_BLOCK };
 
 static uint32_t table[TABLE], blocks[BLOCKS], answer, height;
 static int32_t balance;

@@ -1,18 +1,23 @@
 /* The agreement core of a ledger box: five functions of the archive that `rt staticlib firmware` writes.
  *
  * What a caller owes: each pointer with its true length, and slices that overlap neither one another nor what is written beside them (the
- * two values, which are two words, the height or the balance). An empty list, of certificate numbers or of movements, and an empty log may
- * be NULL with length 0. Nothing else but room on the stack: any contents of the slices, the movements too, and any numbers are answered,
- * and what is refused changes no word of a slice. */
+ * two values, which are two words, the height or the balance). An empty list, of a call's or of movements, and an empty log may be NULL
+ * with length 0. Nothing else but room on the stack: any contents of the slices, the movements too, and any numbers are answered, and what
+ * is refused changes no word of a slice. */
 #ifndef YARD_H
 #define YARD_H
 
 #include <stddef.h>
 #include <stdint.h>
 
-/* The words that a caller lends: a table for f, from 1 to 30; at most 4096 certificates; 1 to 4096 blocks of a word each. */
-#define YARD_TABLE_WORDS(f) (3 + 9 * (2 * (f) + 1))
+/* The words that a caller lends: a table for f, from 1 to 30, of three words, the steps of the counter and nine words a replica; at most
+ * 4096 certificates; 1 to 4096 blocks of a word each. */
+#define YARD_STEPS 8
+#define YARD_TABLE_WORDS(f) (3 + YARD_STEPS + 9 * (2 * (f) + 1))
 #define YARD_CERTIFICATE_WORDS 7
+
+/* The largest step that an open may be given. */
+#define YARD_MAX_STEP 4096
 
 /* The second value of an accepted call that issues a certificate: it was added to the log, or an equal one was found there. Where a call is
  * refused both values are 0, so look at the answer first. */
@@ -21,7 +26,7 @@
 
 /* Bytes of stack for the longest line, of 4096 blocks, measured on x86-64 with the arguments, and at most 256 to spare: a panel takes 32
  * for each block of the line, more than a thread of 128 KB has; a balance 32 for every 16, beside 4.4 KB. examples/stack.c measures both.
- * The other functions do not recurse: 380 bytes were the most. */
+ * The other functions do not recurse: 404 bytes were the most. */
 #define YARD_PANEL_STACK 131328
 #define YARD_BALANCE_STACK 12800
 
@@ -37,11 +42,17 @@ uint32_t yard_read_number(const uint8_t *bytes, size_t length);
 uint32_t yard_write_number(uint32_t number, uint8_t *bytes, size_t length);
 
 /* A call: 0, or the number of its refusal with no word changed. Codes, unused arguments and list lengths are those of a script line: 0 open
- * (f as replica), 1 block (parent as number), 2 prepare on an ACC (block as number, the ACC as the one list number), 3 prepare on commits,
- * 4 store, 5 view, 6 accumulate, 7 decide, 8 reboot, 9 reserve, 10 request, 11 reply, 12 recover. A code above 12, a list where none
- * belongs, one of more than 31 numbers, a prepare on an ACC without just one, or an unused argument that is not 0 gives 10. The other
- * refusals: 1 wrong form or lengths, 2 out of range, 3 no such certificate or block, 4 wrong status, 5 wrong certificates or not the
- * leader, 6 wrong block, 7 wrong view, 8 the counter must be moved or is at its end, 9 no room.
+ * (f as replica, the steps as list), 1 block (parent as number), 2 prepare on an ACC (block as number, the ACC as the one list number), 3
+ * prepare on commits, 4 store, 5 view, 6 accumulate, 7 decide, 8 reboot, 9 reserve, 10 request, 11 reply, 12 recover. A code above 12, a
+ * list where none belongs, one of more than 31 numbers, a prepare on an ACC without just one, or an unused argument that is not 0 gives 10.
+ * The other refusals: 1 wrong form or lengths, 2 out of range, 3 no such certificate or block, 4 wrong status, 5 wrong certificates or not
+ * the leader, 6 wrong block, 7 wrong view, 8 the counter must be moved or is at its end, 9 no room, 12 wrong steps.
+ *
+ * An open with an empty list takes the steps 64, 64, 128, 128, 256, 256, 512 and 1024. A pool's own are YARD_STEPS numbers, each 1 to
+ * YARD_MAX_STEP and none smaller than the one before; any other list gives 12. The table keeps them, and they are those of boots 0 to 7;
+ * later boots have the last. Every replica's limit begins at the first step. A reserve adds the step of the replica's boot, a reboot that
+ * of the new boot, and each is a write of the counter: larger steps need fewer writes and bring it to its end, 1,000,000, in fewer cuts. An
+ * open looks at f (2), then at the steps (12), then at the lengths (1), and at no word of the slices.
  *
  * Replicas propose in turn: among n, replica (v - 1) mod n leads view v, so replica 0 leads view 1; view 0 has no leader. The view of a
  * prepare is its ACC's, or the one above its commits'; so on commits of view v it is the turn of replica v mod n.

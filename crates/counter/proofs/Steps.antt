@@ -2,16 +2,16 @@
 use Prim.Native.Nat.{ℕ, _+_, _≤_, min}
 use mathlib.Core.Path.{_≡_, refl, sym, ap, _∙_}
 use mathlib.Core.Bool.{true, false}
-use mathlib.Core.List.{List, [], _∷_, _++_}
+use mathlib.Core.List.{List, [], _∷_}
 use native.Mathlib.Omega.{arith}
 use native.Mathlib.Nat.{zero-add}
-use lib.ListN.{length, getD, take, drop}
+use lib.ListN.{length, getD}
 use lib.Seq.{sets, sets-eq, paste, take-all}
 use lib.Dec.{eqb}
-use Rattle.protocol.specs.Memory.{Memory, stepCount, lastStep, stepAt, keptStep}
+use Rattle.protocol.specs.Memory.{Memory, stepCount, lastStep, keptStep}
 use Rattle.protocol.specs.Form.{allHold, allBelow, stepsFormed}
 use Rattle.protocol.specs.Counter.{defaultSteps, stepsFrom, stepsAllowed, counterStep}
-use Rattle.protocol.proofs.Booleans.{tests, by-test, each}
+use Rattle.protocol.proofs.Booleans.{tests, each}
 use Rattle.protocol.proofs.Formed.{Formed, StepBounds, step-bounds, steps-same}
 use Rattle.layout.specs.inner.Parts.{stepFrom}
 use Rattle.layout.proofs.Joined.{joined-all}

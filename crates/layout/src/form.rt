@@ -49,7 +49,8 @@ fn counts_fit(table: &[u32], log: &[u32], blocks: &[u32]) -> bool
         & (1 <= table[BLOCK_COUNT_AT])
 }
 
-// Eight steps, from an index on. None is smaller than the one before, so it is enough that the first is at least 1 and the last at most 4,096.
+// Eight steps, from an index on. As none is smaller than the one before, it is enough that the first is at least 1 and the last at most
+// 4,096.
 pub fn steps_formed(words: &[u32], start: usize) -> bool
     requires { ⌜ start + stepCount ≤ length (now words) ⌝ }
     ensures { λ r. ⌜ r ≡ stepsFormed (stepFrom (now (words .entry)) start) ⌝ }

@@ -1,11 +1,11 @@
 -- A pool's own steps: the theorems that specs/Steps.antt states.
 use Prim.Native.Nat.{ℕ, zero, suc, min, _+_, _-_, _/_, _%_, _<_}
 use mathlib.Core.Path.{_≡_, refl, sym, ap, _∙_}
-use mathlib.Core.Bool.{true, false}
+use mathlib.Core.Bool.{true}
 use mathlib.Core.Logic.{_≢_, ⊎-elim}
-use mathlib.Core.List.{List, [], _∷_, _++_, List·Memᴰ, List·Memᴰ·head, List·Memᴰ·cases-cons, List·Memᴰ·not-nil}
+use mathlib.Core.List.{List, [], _∷_, List·Memᴰ, List·Memᴰ·head, List·Memᴰ·cases-cons, List·Memᴰ·not-nil}
 use native.Mathlib.Omega.{arith}
-use lib.ListN.{length, getD}
+use lib.ListN.{getD}
 use lib.Seq.{ext-getD}
 use lib.Dec.{ltb, eqb}
 use Rattle.protocol.specs.declared.Answer.{Answer}
@@ -19,8 +19,8 @@ use Rattle.protocol.specs.Counter.{stepsFrom, stepsAllowed, counterStep}
 use Rattle.protocol.specs.Outcome.{firstRefusal, answered, follow}
 use Rattle.protocol.specs.Calls.{opening, reboot, reserve}
 use Rattle.protocol.specs.Runs.{Invocation, ruleOf, step, run}
-use Rattle.protocol.specs.Theorems.{Accepted, Address, tableWord, logWord, blockWord, wordAt, replicaAddresses, certificateAddresses}
-use Rattle.protocol.specs.Theorems.{named, OnlyNamedChange, RefusedChangesNothing, SameLengths}
+use Rattle.protocol.specs.Theorems.{Accepted, Address, tableWord, logWord, blockWord, wordAt, named}
+use Rattle.protocol.specs.Theorems.{OnlyNamedChange, RefusedChangesNothing, SameLengths}
 use Rattle.protocol.specs.History.{Event, reopened, acceptedEvent, eventOf, history}
 use Rattle.protocol.specs.Agreement.{Execution, endOf}
 use Rattle.protocol.specs.Steps.{OpeningReadsNothing, WithoutStepsIsDefault, stepOf, FirstLimitIsFirstStep, CountersMoveBySteps}

@@ -7,7 +7,7 @@ use Rattle.protocol.specs.declared.Call.the-variants.{Reserve, Request, 
 use Rattle.protocol.specs.declared.Justification.the-variants.{Acc}
 use Rattle.protocol.specs.Memory.{Memory, viewLimitAt, _becomes_, update}
 use Rattle.protocol.specs.Outcome.{wrongForm, outOfRange, wrongStatus, counterLimit, wrongSteps}
-use Rattle.protocol.specs.Rows.{Case, blank, plain, _on_, accepted, refused, script, from, opened}
+use Rattle.protocol.specs.Rows.{Case, blank, plain, _on_, accepted, refused, script, from}
 
 -- ---- lists beside an opening
 

@@ -11,8 +11,8 @@ use Rattle.protocol.specs.Runs.{Invocation, step}
 use Rattle.protocol.specs.Theorems.{Accepted, SameLengths}
 use Rattle.protocol.specs.Agreement.{Execution, endOf}
 
--- ---- Opening reads no word: whatever two memories of the same lengths hold, it gives the same answer, and the same table where it is accepted.
--- So nothing of an earlier ledger is left in the table, its steps neither.
+-- ---- Opening reads no word: whatever two memories of the same lengths hold, it gives the same answer, and the same table where it is
+-- accepted. So nothing of an earlier ledger is left in the table, its steps neither.
 
 pub record OpenedAlike (m m′ : Memory) (f : ℕ) (list : List ℕ) : Type 0 where
   pub answer : step m (Open f) list .answer ≡ step m′ (Open f) list .answer

@@ -7,8 +7,8 @@ pub struct Answer {
     pub second: u32,
 }
 
-// The numbers of the table under "Calls" in document 01, and 11 and 12 of document 02. The refusals have the names of specs/Outcome.antt, in upper
-// case.
+// The numbers of the table under "Calls" in document 01, and 11 and 12 of document 02. The refusals have the names of specs/Outcome.antt,
+// in upper case.
 pub const ACCEPTED: u32 = 0;
 
 pub const WRONG_FORM: u32 = 1;

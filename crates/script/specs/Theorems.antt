@@ -10,7 +10,8 @@ use Rattle.script.specs.Lines.{fieldCount, numbers, hasNumbers}
 use Rattle.script.specs.Session.{Session, codeIn, replicaIn, numberIn, listIn, openCode, unchanged, answerLine}
 use Rattle.script.specs.Text.{Printable}
 
--- Every answer can be printed: a call's number is at most 9, or an opening's 12, an unreadable line's is 10, and values are at most 1,000,000.
+-- Every answer can be printed: a call's number is at most 9, or an opening's 12, an unreadable line's is 10, and values are at most
+-- 1,000,000.
 unfoldable pub AnswersPrintable : Type 0
 AnswersPrintable = (s : Session) (line : List ℕ) → Printable (answerLine s line .answer)
 

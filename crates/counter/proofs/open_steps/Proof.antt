@@ -1,6 +1,5 @@
 -- Document 01's steps are written where there is no list, else those of the list.
 use mathlib.Core.Path.{refl}
-use native.Mathlib.Omega.{arith}
 use borrow.Author.Needs.{needs}
 use Rattle.counter.proofs.Steps.{default-from, given-from, allowed-eight}
 use Rattle.counter.proofs.open_steps.Statement.{statement}

@@ -1,6 +1,5 @@
 -- No list is allowed, eight steps are as their form is, any other list is not.
 use mathlib.Core.Path.{_∙_}
-use native.Mathlib.Omega.{arith}
 use borrow.Author.Needs.{needs}
 use Rattle.counter.proofs.Steps.{none-allowed, eight-allowed, others-refused}
 use Rattle.counter.proofs.steps_allowed.Statement.{statement}

@@ -9,62 +9,75 @@ use Rattle.protocol.specs.Memory.{Memory, memory}
 use Rattle.protocol.specs.Form.{isFaultBound, lengthsFit}
 use Rattle.protocol.specs.Counter.{stepsAllowed}
 use Rattle.layout.proofs.Joined.{denied, granted}
-use Rattle.opening.proofs.Opens.{fitting, low, no-bound, no-steps, no-lengths, opens}
+use Rattle.opening.proofs.Opens.{Fitting, fitting, low, no-bound, no-steps, no-lengths, opens}
 use Rattle.opening.proofs.open_ledger.Statement.{statement}
 use Rattle.opening.proofs.open_ledger.Tie as tie
 
--- What holds once nothing was refused.
-abbrev of : (Memory → ℕ → List ℕ → Type 0) → tie.Else3 → Type 0
-of P c = let a = c .before .before .before .before .before .before .before .before .before .before .before .before .before .args in P (memory (a .table .now) (a .log .now) (a .blocks .now)) (a .f) (a .list .now)
+-- What each test tells that was passed, of the arguments: f is one, then the steps are allowed, then the lengths fit.
+abbrev faults : tie.Else2 → tie.Else1
+faults c = c .before .before
 
-bound : (c : tie.Else3) → of (λ m f list. isFaultBound f ≡ true) c
-bound c = granted (c .before .before .before .before .before .before .before .before .is-fault-bound .ensures) (c .before .before .before .before .before .before .before .if1 .left)
+abbrev steps : tie.Else3 → tie.Else2
+steps c = c .before .before .before .before .before
 
-allowed : (c : tie.Else3) → of (λ m f list. stepsAllowed list ≡ true) c
-allowed c = granted (c .before .before .before .before .before .before .steps-allowed .ensures) (c .before .before .before .before .before .if2 .left)
+abbrev of : (Memory → ℕ → List ℕ → Type 0) → tie.Else1 → Type 0
+of P c = let a = c .before .before .before .before .before .before .args in P (memory (a .table .now) (a .log .now) (a .blocks .now)) (a .f) (a .list .now)
 
-fits : (c : tie.Else3) → of (λ m f list. lengthsFit m f ≡ true) c
+bound : (c : tie.Else1) → of (λ m f list. isFaultBound f ≡ true) c
+bound c = granted (c .before .is-fault-bound .ensures) (c .if1 .left)
+
+allowed : (c : tie.Else2) → of (λ m f list. stepsAllowed list ≡ true) (faults c)
+allowed c = granted (c .before .steps-allowed .ensures) (c .if2 .left)
+
+fits : (c : tie.Else3) → of (λ m f list. lengthsFit m f ≡ true) (faults (steps c))
 fits c = granted (c .before .lengths-fit .ensures) (c .if3 .left)
+
+fitted : (c : tie.Else3) → of (λ m f list. Fitting m f) (faults (steps c))
+fitted c = fitting _ _ (bound (faults (steps c))) (fits c)
 
 returns : tie.Need-returns
 returns c = rw (c .refused .ensures) (no-bound _ _ _ (denied (c .before .before .is-fault-bound .ensures) (c .before .if1 .taken)))
 
 returns-2 : tie.Need-returns-2
 returns-2 c =
+    let tested = c .before .before in
     rw (c .refused2 .ensures)
-    (no-steps _ _ _ (granted (c .before .before .before .before .is-fault-bound .ensures) (c .before .before .before .if1 .left))
-    (denied (c .before .before .steps-allowed .ensures) (c .before .if2 .taken)))
+    (no-steps _ _ _ (bound (tested .before)) (denied (tested .steps-allowed .ensures) (c .before .if2 .taken)))
 
 lengths-fit-requires : tie.Need-lengths-fit-requires
-lengths-fit-requires c κs = low _ (granted (c .before .before .before .before .before .before .is-fault-bound .ensures) (c .before .before .before .before .before .if1 .left))
+lengths-fit-requires c κs = low _ (bound (faults (c .before .before .before)))
 
 returns-3 : tie.Need-returns-3
 returns-3 c =
+    let tested = c .before .before in
+    let passed = tested .before .before .before .before in
     rw (c .refused3 .ensures)
-    (no-lengths _ _ _ (granted (c .before .before .before .before .before .before .before .before .before .is-fault-bound .ensures) (c .before .before .before .before .before .before .before .before .if1 .left))
-    (granted (c .before .before .before .before .before .before .before .steps-allowed .ensures) (c .before .before .before .before .before .before .if2 .left)) (denied (c .before .before .lengths-fit .ensures) (c .before .if3 .taken)))
+    (no-lengths _ _ _ (bound (faults passed)) (allowed passed) (denied (tested .lengths-fit .ensures) (c .before .if3 .taken)))
 
 fresh-header-requires : tie.Need-fresh-header-requires
 fresh-header-requires c κs =
     let p = c .before .before in
-    let z = fitting _ _ (bound p) (fits p) in
-    (omega (arith, z), z .blocks, allowed p)
+    let z = fitted p in
+    (omega (arith, z), z .blocks, allowed (steps p))
 
 replica-count-requires : tie.Need-replica-count-requires
-replica-count-requires c κs = low _ (bound (c .before .before .before .before .before .before .before))
+replica-count-requires c κs = low _ (bound (faults (steps (c .before .before .before .before .before .before .before))))
 
 fresh-rows-requires : tie.Need-fresh-rows-requires
 fresh-rows-requires c κs =
-    let p = c .before .before .before .before .before .before .before .before .before in
-    let z = fitting _ _ (bound p) (fits p) in
-    omega (arith, z, c .before .replica-count .ensures, c .before .before .before .before .before .table .given)
+    let count = c .before in
+    let header = count .before .before .before .before in
+    omega (arith, fitted (header .before .before .before .before), count .replica-count .ensures, header .table .given)
 
 returns-4 : tie.Need-returns-4
 returns-4 c =
-    let p = c .before .before .before .before .before .before .before .before .before .before .before .before .before in
-    let header = c .before .before .before .before .before .before .before .before .before .before .fresh-header .ensures in
-    rw (c .accepted .ensures, c .before .before .before .fresh-rows .ensures)
-    (opens _ _ _ (bound p) (allowed p) (fits p) (header .1 _) (header .0) (c .before .before .before .before .before .replica-count .ensures))
+    let rows = c .before .before .before in
+    let count = rows .before .before in
+    let header = count .before .before .before .before .before in
+    let p = header .before .before .before in
+    rw (c .accepted .ensures, rows .fresh-rows .ensures)
+    (opens _ _ _ (bound (faults (steps p))) (allowed (steps p)) (fits p) (header .fresh-header .ensures .1 _) (header .fresh-header .ensures .0)
+    (count .replica-count .ensures))
 
 pub open-ledger-spec : {M : Type 1} → statement M
 open-ledger-spec =

@@ -15,8 +15,8 @@ returns c =
     let steps = parents .before in
     let t = steps .before .before .before .before .before .before .args .table .now in
     let n : steps .before .before .row-count .result ≡ replicaCount (getD t faultBoundAt 0) = omega arith in
-    rw (c .certificates-formed .ensures, replicas .replicas-formed .ensures, parents .parents-formed .ensures, steps .steps-formed .ensures, n)
-    (joined-all _ (_ ∷ _ ∷ _ ∷ []))
+    rw (c .certificates-formed .ensures, replicas .replicas-formed .ensures, parents .parents-formed .ensures)
+    (rw (steps .steps-formed .ensures, n) (joined-all _ (_ ∷ _ ∷ _ ∷ [])))
 
 pub words-formed-spec : {M : Type 1} → statement M
 words-formed-spec =

@@ -49,10 +49,11 @@ uint32_t yard_write_number(uint32_t number, uint8_t *bytes, size_t length);
  * the leader, 6 wrong block, 7 wrong view, 8 the counter must be moved or is at its end, 9 no room, 12 wrong steps.
  *
  * An open with an empty list takes the steps 64, 64, 128, 128, 256, 256, 512 and 1024. A pool's own are YARD_STEPS numbers, each 1 to
- * YARD_MAX_STEP and none smaller than the one before; any other list gives 12. The table keeps them, and they are those of boots 0 to 7;
- * later boots have the last. Every replica's limit begins at the first step. A reserve adds the step of the replica's boot, a reboot that
- * of the new boot, and each is a write of the counter: larger steps need fewer writes and bring it to its end, 1,000,000, in fewer cuts. An
- * open looks at f (2), then at the steps (12), then at the lengths (1), and at no word of the slices.
+ * YARD_MAX_STEP and none smaller than the one before; any other list of at most 31 numbers gives 12. The table keeps them, and they are
+ * those of boots 0 to 7; later boots have the last. Every replica's limit begins at the first step. A reserve adds the step of the
+ * replica's boot, a reboot that of the new boot, and each is a write of the counter: larger steps need fewer writes, and fewer cuts
+ * bring it to its end, as it never passes 1,000,000. An open looks at f (2), then at the steps (12), then at the lengths (1), and at no
+ * word of the slices.
  *
  * Replicas propose in turn: among n, replica (v - 1) mod n leads view v, so replica 0 leads view 1; view 0 has no leader. The view of a
  * prepare is its ACC's, or the one above its commits'; so on commits of view v it is the turn of replica v mod n.
@@ -66,7 +67,9 @@ uint32_t yard_write_number(uint32_t number, uint8_t *bytes, size_t length);
  * Where an answer got lost, and no other call was made since: a view, an accumulate, a request or a reply may be made again. If it was
  * accepted, it gives the same number and YARD_FOUND, and changes no word; if it was refused, it is refused again. A prepare or a store that
  * was accepted gives 7 when made again, and so may one that was refused: look for its certificate in the log, where it would be the last. A
- * decide gives the same again, a recover that was accepted 4. A block, a reboot and a reserve made again do their work once more. */
+ * decide gives the same again, a recover that was accepted 4. A block, a reboot and a reserve made again do their work once more. So does
+ * an open: made again at once it leaves what it left, later it empties the ledger. Where the steps are to stay, copy them out of the table
+ * first: the list may not lie in it. */
 uint32_t yard_call(uint32_t code, uint32_t replica, uint32_t number, const uint32_t *list, size_t list_length, uint32_t *table,
                    size_t table_length, uint32_t *log, size_t log_length, uint32_t *blocks, size_t blocks_length, uint32_t *first,
                    uint32_t *second);

@@ -18,7 +18,7 @@ pub const MAX_MOVEMENTS: usize = 2048;
 /// Most pallets of one movement.
 pub const MAX_PALLETS: u32 = 10_000;
 
-/// The table: its header, "the steps are kept after the header", then each replica's words.
+/// The table: its header, "The steps are kept after the header", then each replica's words.
 pub const STEPS_START: usize = HEADER_WORDS;
 pub const REPLICAS_START: usize = STEPS_START + STEP_WORDS;
 

@@ -35,7 +35,7 @@ pub record Claims : Type 0 where
   -- a refused line leaves the words and the f in use
   pub refusedLeavesSession : RefusedLeavesSession
   -- ---- Demand 2: accepted exactly when the rules accept. (The contracts are equations with the rules; these follow from the rules.)
-  -- of several refusals the lowest is returned
+  -- of several refusals the lowest is returned, but by opening
   pub lowestWins : LowestWins
   -- opening tests f, then its steps, then the lengths
   pub openingOrder : OpeningOrder
@@ -53,7 +53,7 @@ pub record Claims : Type 0 where
   pub turnsGiveOutput : TurnsGiveOutput
   -- the worked script, byte for byte
   pub workedScript : WorkedScript
-  -- one of openings with steps
+  -- a script of openings with steps, byte for byte
   pub stepsScript : StepsScript
   -- a number has no digit too many
   pub countIsLeast : CountIsLeast
@@ -87,13 +87,14 @@ pub record Claims : Type 0 where
   -- the premise of ProgramAgrees holds of it
   pub workedScriptOpens : WorkedScriptOpens
   -- ---- A pool's own steps (document 02, #104). (That decisions never conflict with any of them: demand 3.)
-  -- opening reads no word: what it answers and the table it leaves go by its arguments and the lengths
+  -- opening reads no word: what it answers, and the table it leaves where it is accepted, go by its arguments and the lengths
   pub openingReadsNothing : OpeningReadsNothing
   -- an opening without steps is the one with document 01's
   pub withoutStepsIsDefault : WithoutStepsIsDefault
   -- an opening's first limit is the first step
   pub firstLimitIsFirstStep : FirstLimitIsFirstStep
-  -- after an opening, each Reserve and each Reboot moves the limit by the step that the opening was given for the boot
+  -- after an opening, each accepted Reserve, and each Reboot that does not retire, moves the limit by the step that the opening was given
+  -- for the boot, a Reboot by that of the boot that begins
   pub countersMoveBySteps : CountersMoveBySteps
   -- ---- Leaders (document 02, #103).
   -- an accepted Prepare is by the leader of its view, replica v mod n on commits of view v; an accepted Store is of a leader's proposal

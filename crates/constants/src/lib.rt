@@ -7,6 +7,7 @@ ghost use Rattle.protocol.specs.Memory.{
   maxFaultBound,
   replicaCount,
   ceiling,
+  headerWords,
   faultBoundAt,
   certificateCountAt,
   blockCountAt,
@@ -61,6 +62,8 @@ pub const MAX_REPLICAS: usize = 61;
 pub const CEILING: u32 = 1000000;
 
 // The table's header.
+pub const HEADER_WORDS: usize = 3;
+
 pub const FAULT_BOUND_AT: usize = 0;
 
 pub const CERTIFICATE_COUNT_AT: usize = 1;
@@ -68,7 +71,7 @@ pub const CERTIFICATE_COUNT_AT: usize = 1;
 pub const BLOCK_COUNT_AT: usize = 2;
 
 // The counter's steps.
-pub const STEPS_AT: usize = 3;
+pub const STEPS_AT: usize = HEADER_WORDS;
 
 pub const STEP_COUNT: usize = 8;
 
@@ -187,13 +190,12 @@ pub fn most() -> [usize; 2]
     [MAX_REPLICAS, MAX_MOVEMENTS]
 }
 
-// Where the steps and the rows start; and the words of the steps, a replica, a certificate and a movement.
-pub fn widths() -> [usize; 6]
-    ensures { λ r. ⌜ r ≡ stepsAt ∷ rowStart ∷ stepCount ∷ replicaWords ∷ certificateWords ∷ movementWords ∷ [] ⌝ }
+// The words of the header, the steps, a replica, a certificate and a movement.
+pub fn widths() -> [usize; 5]
+    ensures { λ r. ⌜ r ≡ headerWords ∷ stepCount ∷ replicaWords ∷ certificateWords ∷ movementWords ∷ [] ⌝ }
 {
     [
-        STEPS_AT,
-        ROW_START,
+        HEADER_WORDS,
         STEP_COUNT,
         REPLICA_WORDS,
         CERTIFICATE_WORDS,
@@ -201,10 +203,17 @@ pub fn widths() -> [usize; 6]
     ]
 }
 
-pub fn header_offsets() -> [usize; STEPS_AT]
+pub fn header_offsets() -> [usize; HEADER_WORDS]
     ensures { λ r. ⌜ r ≡ faultBoundAt ∷ certificateCountAt ∷ blockCountAt ∷ [] ⌝ }
 {
     [FAULT_BOUND_AT, CERTIFICATE_COUNT_AT, BLOCK_COUNT_AT]
+}
+
+// Where the steps and the rows start.
+pub fn starts() -> [usize; 2]
+    ensures { λ r. ⌜ r ≡ stepsAt ∷ rowStart ∷ [] ⌝ }
+{
+    [STEPS_AT, ROW_START]
 }
 
 pub fn row_offsets() -> [usize; REPLICA_WORDS]

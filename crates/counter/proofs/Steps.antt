@@ -1,4 +1,4 @@
--- How large the step of a boot is; and the lists that a ledger may be opened with.
+-- How large the step of a boot is; the lists that a ledger may be opened with; and eight steps, written.
 use Prim.Native.Nat.{ℕ, _+_, _≤_, min}
 use mathlib.Core.Path.{_≡_, refl, sym, ap, _∙_}
 use mathlib.Core.Bool.{true, false}
@@ -13,7 +13,7 @@ use Rattle.protocol.specs.Form.{allHold, allBelow, stepsFormed}
 use Rattle.protocol.specs.Counter.{defaultSteps, stepsFrom, stepsAllowed, counterStep}
 use Rattle.protocol.proofs.Booleans.{tests, each}
 use Rattle.protocol.proofs.Formed.{Formed, StepBounds, step-bounds, steps-same}
-use Rattle.layout.specs.inner.Parts.{stepFrom}
+use Rattle.layout.specs.inner.Parts.{stepIn}
 use Rattle.layout.proofs.Joined.{joined-all}
 
 pub counter-step-bounds : (m : Memory) (boot : ℕ) → Formed m → StepBounds (counterStep m boot)
@@ -38,7 +38,7 @@ given-from [] some = absurd (some refl)
 given-from (step ∷ rest) some = refl
 
 module _ (list : List ℕ) where
-  pub eight-allowed : length list ≡ stepCount → stepsFormed (stepFrom list 0) ≡ stepsAllowed list
+  pub eight-allowed : length list ≡ stepCount → stepsFormed (stepIn list 0) ≡ stepsAllowed list
   unfolding stepsAllowed allHold
   eight-allowed e =
       let q : eqb (length list) stepCount ≡ true = omega tests in

@@ -14,7 +14,7 @@ const LAST_STEP: u32 = 7;
 
 const DEFAULT_STEPS: [u32; STEP_COUNT] = [64, 64, 128, 128, 256, 256, 512, 1024];
 
-// The step of a boot; boots after the last step's have that.
+// The step of a boot; later boots have the last.
 pub fn counter_step(table: &[u32], boot: u32) -> u32
     requires { ⌜ rowStart ≤ length (now table) ⌝ }
     ensures { λ r. ⌜ ((l b : List ℕ) → r ≡ counterStep (memory (now (table .entry)) l b) boot) ⌝ }

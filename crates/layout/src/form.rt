@@ -18,7 +18,7 @@ ghost use Rattle.protocol.specs.Memory.{
 };
 ghost use Rattle.protocol.specs.Form.{allBelow, isFaultBound, lengthsFit, countsFit, stepsFormed, wellFormed};
 ghost use Rattle.protocol.proofs.Formed.{Sizes};
-ghost use Rattle.layout.specs.inner.Parts.{stepFrom, blockOk, replicaOk, certificateOk, fourOk, wordsOk};
+ghost use Rattle.layout.specs.inner.Parts.{stepIn, blockOk, replicaOk, certificateOk, fourOk, wordsOk};
 
 // f is 1 to 30.
 pub fn is_fault_bound(f: u32) -> bool
@@ -53,7 +53,7 @@ fn counts_fit(table: &[u32], log: &[u32], blocks: &[u32]) -> bool
 // 4,096.
 pub fn steps_formed(words: &[u32], start: usize) -> bool
     requires { ⌜ start + stepCount ≤ length (now words) ⌝ }
-    ensures { λ r. ⌜ r ≡ stepsFormed (stepFrom (now (words .entry)) start) ⌝ }
+    ensures { λ r. ⌜ r ≡ stepsFormed (stepIn (now (words .entry)) start) ⌝ }
 {
     let mut formed = true;
     let mut least: u32 = 1;

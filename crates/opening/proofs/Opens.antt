@@ -8,7 +8,7 @@ use Rattle.protocol.specs.Memory.{Memory, memory, maxFaultBound, replicaCount, 
 use Rattle.protocol.specs.Form.{isFaultBound, lengthsFit}
 use Rattle.protocol.specs.Counter.{stepsFrom, stepsAllowed}
 use Rattle.protocol.specs.Outcome.{firstRefusal, follow, outOfRange, wrongForm, wrongSteps}
-use Rattle.protocol.specs.Calls.{freshReplica, freshReplicas, freshHeader, opening}
+use Rattle.protocol.specs.Calls.{freshReplica, freshReplicas, freshHeader, keepSteps, opening}
 use Rattle.protocol.proofs.Booleans.{tests, each}
 use Rattle.protocol.proofs.Needs.{refusal, acceptance, refuses, accepts, fails, holds}
 use Rattle.opening.specs.inner.Fresh.{freshRows}
@@ -34,14 +34,14 @@ module _ (m : Memory) (f : ℕ) (list : List ℕ) where
       unfolding opening
       no-lengths e = refuses m _ wrongForm (sym (holds _ _ bound ∙ holds _ _ allowed ∙ fails _ e)) (λ z. omega tests)
 
-      -- The header is written, then the rows.
-      pub opens : lengthsFit m f ≡ true → {h : Memory} → h ≡ freshHeader m f (stepsFrom list) → {limit n : ℕ}
-          → limit ≡ getD (stepsFrom list) 0 0 → n ≡ replicaCount f
-          → acceptance n 0 (memory (freshRows (h .table) limit n) (h .log) (h .blocks)) ≡ follow m (opening m f list)
+      -- The header is written, then the steps, then the rows.
+      pub opens : lengthsFit m f ≡ true → {h : Memory} → h ≡ freshHeader m f → {t : List ℕ} → t ≡ keepSteps h (stepsFrom list) .table
+          → {limit n : ℕ} → limit ≡ getD (stepsFrom list) 0 0 → n ≡ replicaCount f
+          → acceptance n 0 (memory (freshRows t limit n) (h .log) (h .blocks)) ≡ follow m (opening m f list)
       unfolding opening firstRefusal
-      opens e {h} header first count =
-          rw (first, count, header)
-          (ap (acceptance (replicaCount f) 0) (rows-are (freshHeader m f (stepsFrom list)) _ (replicaCount f)))
+      opens e header kept first count =
+          rw (first, count, kept, header)
+          (ap (acceptance (replicaCount f) 0) (rows-are (keepSteps (freshHeader m f) (stepsFrom list)) _ (replicaCount f)))
           ∙ accepts m (opening m f list) (rw (bound, allowed, e) refl)
 
 -- The lengths of a memory that may be opened.
@@ -53,6 +53,3 @@ pub record Fitting (m : Memory) (f : ℕ) : Type 0 where
 pub fitting : (m : Memory) (f : ℕ) → isFaultBound f ≡ true → lengthsFit m f ≡ true → Fitting m f
 unfolding lengthsFit
 fitting m f b l = let h = each _ b in let k = each _ l in omega tests
-
-pub low : (f : ℕ) → isFaultBound f ≡ true → f ≤ maxFaultBound
-low f b = let h = each _ b in omega tests

@@ -1,11 +1,9 @@
 // The two calls that no replica makes: opening a ledger, and adding a block.
 ghost use mathlib.Core.Path.{_≡_};
-ghost use mathlib.Core.Bool.{true};
 ghost use mathlib.Core.List.{List};
 ghost use Prim.Native.Nat.{ℕ, _+_, _≤_, _<_};
-ghost use lib.ListN.{length, getD};
+ghost use lib.ListN.{length};
 ghost use Rattle.protocol.specs.Memory.{memory, rowStart, rowAt, replicaWords, blockAt, assign};
-ghost use Rattle.protocol.specs.Counter.{stepsFrom, stepsAllowed};
 ghost use Rattle.protocol.specs.Outcome.{outcome, outcomeBy};
 ghost use Rattle.protocol.specs.Calls.{freshReplica, freshHeader, opening as openingRule, block as blockRule};
 ghost use Rattle.opening.specs.inner.Fresh.{freshRows};
@@ -64,18 +62,16 @@ fn fresh_rows(table: &mut [u32], replicas: u32, limit: u32)
     }
 }
 
-// The words that opening writes, but for the replicas' rows; gives the first step.
-fn fresh_header(table: &mut [u32], blocks: &mut [u32], f: u32, list: &[u32]) -> u32
-    requires { ⌜ (rowStart ≤ length (now table)) × (blockAt 0 < length (now blocks)) × (stepsAllowed (now list) ≡ true) ⌝ }
-    ensures { λ r. ⌜ r ≡ getD (stepsFrom (now (list .entry))) 0 0 ⌝ }
+// f, no certificates, and block 0.
+fn fresh_header(table: &mut [u32], blocks: &mut [u32], f: u32)
+    requires { ⌜ (rowStart ≤ length (now table)) × (blockAt 0 < length (now blocks)) ⌝ }
     ensures { λ _. ⌜ ((l : List ℕ) → memory (now (table .exit)) l (now (blocks .exit))
-        ≡ freshHeader (memory (now (table .entry)) l (now (blocks .entry))) f (stepsFrom (now (list .entry)))) ⌝ }
+        ≡ freshHeader (memory (now (table .entry)) l (now (blocks .entry))) f) ⌝ }
 {
     table[FAULT_BOUND_AT] = f;
     table[CERTIFICATE_COUNT_AT] = 0;
     table[BLOCK_COUNT_AT] = 1;
     blocks[0] = 0;
-    counter::open_steps(table, list)
 }
 
 // A ledger for f, with the steps of the list or document 01's, whatever the memory held.
@@ -98,7 +94,8 @@ pub fn open_ledger(
     if !layout::form::lengths_fit(table, log, blocks, f) {
         return refused(WRONG_FORM);
     }
-    let limit = fresh_header(table, blocks, f, list);
+    fresh_header(table, blocks, f);
+    let limit = counter::open_steps(table, list);
     let replicas = layout::replica_count(f);
     fresh_rows(table, replicas, limit);
     accepted(replicas, 0)

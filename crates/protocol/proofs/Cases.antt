@@ -1,4 +1,4 @@
--- The table of cases, by computation: a lemma for each row, so that the check names a row that is wrong.
+-- The table of cases, by computation: a lemma for each row, and one for the broken tables, so that the check names what is wrong.
 use Prim.Native.Nat.{ℕ}
 use mathlib.Core.Path.{_≡_, refl}
 use mathlib.Core.Bool.{Bool, true, false, _&&_}

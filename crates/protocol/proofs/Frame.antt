@@ -17,7 +17,7 @@ use Rattle.protocol.specs.Certificates.{file}
 use Rattle.protocol.specs.Counter.{stepsFrom}
 use Rattle.protocol.specs.Quorum.{certificatesOf, firstOf}
 use Rattle.protocol.specs.Outcome.{Need}
-use Rattle.protocol.specs.Calls.{issuing, freshHeader, opening, block, prepare, store, view}
+use Rattle.protocol.specs.Calls.{issuing, freshHeader, keepSteps, opening, block, prepare, store, view}
 use Rattle.protocol.specs.Calls.{accumulate, decide, reboot, reserve, request, reply, recover}
 use Rattle.protocol.specs.Runs.{ruleOf, step}
 use Rattle.protocol.specs.Theorems.{Address, tableWord, logWord, blockWord, wordAt, below, certificateAddresses, blockAddresses}
@@ -28,7 +28,7 @@ use Rattle.protocol.proofs.Needs.{outcome-memory}
 use Rattle.protocol.proofs.Words.{Avoids, assign-elsewhere, sets-elsewhere}
 use Rattle.protocol.proofs.Changes.{update-lengths, append-table, block-lengths, block-table}
 use Rattle.protocol.proofs.Filing.{file-cases, file-lengths}
-use Rattle.protocol.proofs.Opened.{fresh-lengths, fresh-log, fresh-blocks, header-lengths}
+use Rattle.protocol.proofs.Opened.{fresh-log, fresh-blocks, opening-lengths}
 
 -- An address that is none of a list.
 abbrev Apart : Address → List Address → Type 0
@@ -86,13 +86,6 @@ block-frame m b (tableWord j) h = block-table m b j (λ e. h .0 (ap tableWord e)
 block-frame m b (logWord j) h = refl
 block-frame m b (blockWord j) h = getD-set-other (m .blocks) _ j b 0 (λ e. h .1 .0 (ap blockWord e))
 
-opening-lengths : (m : Memory) (f : ℕ) (list : List ℕ) → SameLengths (opening m f list .after) m
-unfolding opening
-opening-lengths m f list =
-    let l = fresh-lengths (freshHeader m f (stepsFrom list)) _ (replicaCount f) in
-    let s = header-lengths m f (stepsFrom list) in
-    record { table = l .table ∙ s .table; log = l .log ∙ s .log; blocks = l .blocks ∙ s .blocks }
-
 opening-frame : (m : Memory) (f : ℕ) (list : List ℕ) (a : Address) → Apart a (named m (Open f))
     → wordAt (opening m f list .after) a ≡ wordAt m a
 unfolding opening wordAt named
@@ -102,9 +95,9 @@ opening-frame m f list (tableWord j) h =
     List·getD-eq-default (opening m f list .after .table) 0 {n = j} (omega arith)
     ∙ sym (List·getD-eq-default (m .table) 0 {n = j} (omega arith))
 opening-frame m f list (logWord j) h =
-    ap (λ (l : List ℕ). getD l j 0) (fresh-log (freshHeader m f (stepsFrom list)) _ (replicaCount f))
+    ap (λ (l : List ℕ). getD l j 0) (fresh-log (keepSteps (freshHeader m f) (stepsFrom list)) _ (replicaCount f))
 opening-frame m f list (blockWord j) h =
-    ap (λ (l : List ℕ). getD l j 0) (fresh-blocks (freshHeader m f (stepsFrom list)) _ (replicaCount f))
+    ap (λ (l : List ℕ). getD l j 0) (fresh-blocks (keepSteps (freshHeader m f) (stepsFrom list)) _ (replicaCount f))
     ∙ getD-set-other (m .blocks) _ j 0 0 (λ e. h .0 (ap blockWord e))
 
 -- ---- the calls

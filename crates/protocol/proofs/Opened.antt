@@ -5,14 +5,14 @@ use mathlib.Core.Bool.{true}
 use mathlib.Core.List.{List}
 use native.Mathlib.Omega.{arith}
 use lib.ListN.{length, getD, set, length-set}
-use lib.Seq.{sets, getD-set-same, getD-set-other, length-sets}
+use lib.Seq.{getD-set-same, getD-set-other, length-sets}
 use lib.Dec.{eqb}
-use Rattle.protocol.specs.Memory.{Memory, Replica, replicaCount, faultBoundAt, certificateCountAt, blockCountAt, faultBound}
+use Rattle.protocol.specs.Memory.{Memory, Replica, replicaCount, headerWords, faultBoundAt, certificateCountAt, blockCountAt, faultBound}
 use Rattle.protocol.specs.Memory.{certificateCount, blockCount, stepCount, stepAt, keptStep, rowStart, rowAt, replica, parent}
 use Rattle.protocol.specs.Memory.{live, lowered, update}
 use Rattle.protocol.specs.Form.{isFaultBound, lengthsFit, blockFormed, replicaFormed}
 use Rattle.protocol.specs.Counter.{stepsFrom, stepsAllowed}
-use Rattle.protocol.specs.Calls.{freshReplica, freshReplicas, freshHeader, opening}
+use Rattle.protocol.specs.Calls.{freshReplica, freshReplicas, freshHeader, keepSteps, opening}
 use Rattle.protocol.specs.Theorems.{SameLengths}
 use Rattle.protocol.proofs.Booleans.{tests, by-test, each, all-hold}
 use Rattle.protocol.proofs.Words.{sets-elsewhere, sets-at}
@@ -68,11 +68,10 @@ module _ (m : Memory) (limit : ℕ) where
       (λ e. let q : i ≡ k = omega tests in rw q (update-own (freshReplicas m limit k) k (freshReplica limit) refl (omega arith)))
       (λ e. update-other (freshReplicas m limit k) k (freshReplica limit) refl i (omega tests) ∙ fresh-row k i (omega tests) (omega arith))
 
--- ---- the header and the steps
+-- ---- the header
 
-pub header-lengths : (m : Memory) (f : ℕ) (steps : List ℕ) → SameLengths (freshHeader m f steps) m
-header-lengths m f steps =
-    record { table = length-sets _ (stepAt 0) steps ∙ simp length-set; log = refl; blocks = simp length-set }
+pub header-lengths : (m : Memory) (f : ℕ) → SameLengths (freshHeader m f) m
+header-lengths m f = record { table = simp length-set; log = refl; blocks = simp length-set }
 
 pub record Header (m : Memory) (f : ℕ) : Type 0 where
   pub faults : faultBound m ≡ f
@@ -94,22 +93,34 @@ header-words t f certificates blocks h =
       getD-set-same counted blockCountAt blocks 0 (simp length-set (omega arith)),
     )
 
--- The steps come after them.
-before-steps : (t steps : List ℕ) (k : ℕ) → k < stepAt 0 → getD (sets t (stepAt 0) steps) k 0 ≡ getD t k 0
-before-steps t steps k h = sets-elsewhere steps t (stepAt 0) k (λ le. absurd (omega arith))
-
-pub header : (m : Memory) (f : ℕ) (steps : List ℕ) → lengthsFit m f ≡ true → Header (freshHeader m f steps) f
+pub header : (m : Memory) (f : ℕ) → lengthsFit m f ≡ true → Header (freshHeader m f) f
 unfolding lengthsFit
-header m f steps fit =
+header m f fit =
     let h = each _ fit in
-    let w = header-words (m .table) f 0 1 (omega tests) in
-    record {
-      faults = before-steps _ steps faultBoundAt (omega arith) ∙ w .0;
-      certificates = before-steps _ steps certificateCountAt (omega arith) ∙ w .1;
-      blocks = before-steps _ steps blockCountAt (omega arith) ∙ w .2;
-    }
+    let w = header-words (m .table) f _ _ (omega tests) in
+    record { faults = w .0; certificates = w .1; blocks = w .2 }
 
--- What opening leaves with these steps, named: everything that the form and the later argument about lists of calls need to know of it.
+-- ---- the steps
+
+keep-lengths : (m : Memory) (steps : List ℕ) → SameLengths (keepSteps m steps) m
+keep-lengths m steps = record { table = length-sets (m .table) (stepAt 0) steps; log = refl; blocks = refl }
+
+-- The header stands before them.
+pub keep-header : (m : Memory) (steps : List ℕ) (k : ℕ) → k < headerWords → getD (keepSteps m steps .table) k 0 ≡ getD (m .table) k 0
+keep-header m steps k h = sets-elsewhere steps (m .table) (stepAt 0) k (λ le. absurd (omega arith))
+
+-- ---- what opening leaves
+
+pub opening-lengths : (m : Memory) (f : ℕ) (list : List ℕ) → SameLengths (opening m f list .after) m
+unfolding opening
+opening-lengths m f list =
+    let steps = stepsFrom list in
+    let r = fresh-lengths (keepSteps (freshHeader m f) steps) (getD steps 0 0) (replicaCount f) in
+    let k = keep-lengths (freshHeader m f) steps in
+    let h = header-lengths m f in
+    record { table = r .table ∙ k .table ∙ h .table; log = r .log; blocks = r .blocks ∙ h .blocks }
+
+-- With these steps, named: everything that the form and the later argument about lists of calls need to know of it.
 pub record Opened (m : Memory) (f : ℕ) (given : List ℕ) (o : Memory) : Type 0 where
   pub lengths : SameLengths o m
   pub header : Header o f
@@ -125,21 +136,24 @@ opened m f list allowed fit =
     let h = each _ fit in
     let steps = stepsFrom list in
     let limit = getD steps 0 0 in
-    let s = header-lengths m f steps in
-    let l = fresh-lengths (freshHeader m f steps) limit (replicaCount f) in
-    let head = header m f steps fit in
-    let same = fresh-header (freshHeader m f steps) limit (replicaCount f) in
+    let kept = keepSteps (freshHeader m f) steps in
+    let l = keep-lengths (freshHeader m f) steps in
+    let s = header-lengths m f in
+    let head = header m f fit in
+    let rows = fresh-header kept limit (replicaCount f) in
+    let same : (k : ℕ) → k < headerWords → getD (opening m f list .after .table) k 0 ≡ getD (freshHeader m f .table) k 0 =
+    λ k h. rows k (omega arith) ∙ keep-header (freshHeader m f) steps k h in
     record {
-      lengths = record { table = l .table ∙ s .table; log = l .log ∙ s .log; blocks = l .blocks ∙ s .blocks };
+      lengths = opening-lengths m f list;
       header =
           record {
             faults = same faultBoundAt (omega arith) ∙ head .faults;
             certificates = same certificateCountAt (omega arith) ∙ head .certificates;
             blocks = same blockCountAt (omega arith) ∙ head .blocks;
           };
-      steps = λ k l. same (stepAt k) (omega arith) ∙ sets-at steps _ (stepAt 0) k (omega tests) (simp length-set (omega tests));
-      root = rw (fresh-blocks (freshHeader m f steps) limit (replicaCount f)) (getD-set-same (m .blocks) 0 0 0 (omega tests));
-      rows = λ i own. fresh-row (freshHeader m f steps) limit (replicaCount f) i own (omega tests);
+      steps = λ k l. rows (stepAt k) (omega arith) ∙ sets-at steps _ (stepAt 0) k (omega tests) (simp length-set (omega tests));
+      root = rw (fresh-blocks kept limit (replicaCount f)) (getD-set-same (m .blocks) 0 0 0 (omega tests));
+      rows = λ i own. fresh-row kept limit (replicaCount f) i own (omega tests);
     }
 
 pub opened-formed : (m : Memory) (f : ℕ) (list : List ℕ) (o : Memory) → isFaultBound f ≡ true → stepsAllowed list ≡ true

@@ -181,11 +181,18 @@ kept-since m f list calls execution boot =
     run-stays k (omega arith) [] (step m (Open f) list .memory) calls (execution .once)
     ∙ rw (accepted-after m (ruleOf m (Open f) list) (execution .opened)) (opened m f list (h .1 .0) (h .1 .1 .0) .steps k (omega arith))
 
--- What a Reserve answers, and what a Reboot leaves, by the steps that the memory keeps.
-reserved : (m : Memory) (i : ℕ) (beside : List ℕ) → Accepted (step m (Reserve i) beside)
-    → step m (Reserve i) beside .answer .first ≡ replica m i .viewLimit + counterStep m (replica m i .boot)
-unfolding step ruleOf reserve
-reserved m i beside accepted = accepted-first m (reserve m i) accepted
+-- What a Reserve and a Reboot leave, by the steps that the memory keeps; and what a Reserve answers.
+module _ (m : Memory) (i : ℕ) (beside : List ℕ) (accepted : Accepted (step m (Reserve i) beside)) where
+  reserved : replica (step m (Reserve i) beside .memory) i .viewLimit ≡ replica m i .viewLimit + counterStep m (replica m i .boot)
+  unfolding step ruleOf reserve
+  reserved =
+      let h = accepted-needs m (Reserve i) beside accepted in
+      let z = sizes m (formed m (h .0)) in
+      rw (accepted-after m (reserve m i) accepted) (ap (λ (r : Replica). r .viewLimit) (update-own m i _ refl (omega tests)))
+
+  told : step m (Reserve i) beside .answer .first ≡ replica (step m (Reserve i) beside .memory) i .viewLimit
+  unfolding step ruleOf reserve
+  told = accepted-first m (reserve m i) accepted ∙ sym reserved
 
 rebooted : (m : Memory) (i : ℕ) (beside : List ℕ) → Accepted (step m (Reboot i) beside)
     → replica (step m (Reboot i) beside .memory) i .status ≡ recovering
@@ -211,6 +218,7 @@ counters-move-by-steps m f list calls execution i beside =
     let same = kept-since m f list calls execution in
     record {
       reserve = λ accepted. reserved o i beside accepted ∙ ap (λ (x : ℕ). replica o i .viewLimit + x) (same (replica o i .boot));
+      answer = λ accepted. told o i beside accepted;
       reboot =
           λ accepted status.
           rebooted o i beside accepted status ∙ ap (λ (x : ℕ). replica o i .viewLimit + x) (same (replica o i .boot + 1));

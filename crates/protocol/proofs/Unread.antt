@@ -9,7 +9,7 @@ use lib.Dec.{ltb}
 use Rattle.protocol.specs.declared.Call.{Call}
 use Rattle.protocol.specs.declared.Call.the-variants.{Open, Block, Prepare, Store, View, Accumulate, Decide, Reboot}
 use Rattle.protocol.specs.declared.Call.the-variants.{Reserve, Request, Reply, Recover}
-use Rattle.protocol.specs.Memory.{Memory, memory, Certificate, Assignment, replicaCount, certificate, replica, words, update}
+use Rattle.protocol.specs.Memory.{Memory, memory, Certificate, Assignment, replicaCount, certificate, replica, words, update, certificateCountAt, blockCountAt}
 use Rattle.protocol.specs.declared.Justification.{Justification}
 use Rattle.protocol.specs.declared.Justification.the-variants.{Acc, Commits}
 use Rattle.protocol.specs.Counter.{stepsFrom, counterStep}
@@ -17,7 +17,7 @@ use Rattle.protocol.specs.Form.{wellFormed, lengthsFit}
 use Rattle.protocol.specs.Certificates.{found, appended, file}
 use Rattle.protocol.specs.Quorum.{certificatesOf, firstOf}
 use Rattle.protocol.specs.Outcome.{Need, _else_, Rule, firstRefusal, answered, follow}
-use Rattle.protocol.specs.Calls.{issuing, isSized, numbersOf, freshReplica, freshReplicas, freshHeader, opening}
+use Rattle.protocol.specs.Calls.{issuing, isSized, numbersOf, freshReplica, freshReplicas, freshHeader, keepSteps, opening}
 use Rattle.protocol.specs.Calls.{block, prepare, store, view, accumulate, decide, reboot, reserve, request, reply}
 use Rattle.protocol.specs.Calls.{recover}
 use Rattle.protocol.specs.Runs.{ruleOf, step}
@@ -29,7 +29,7 @@ use Rattle.protocol.proofs.Rules.{needs-hold}
 use Rattle.protocol.proofs.Words.{withinRow, set-alike}
 use Rattle.protocol.proofs.Formed.{formed}
 use Rattle.protocol.proofs.Keeps.{lengths-same, issuing-needs}
-use Rattle.protocol.proofs.Opened.{header}
+use Rattle.protocol.proofs.Opened.{header, keep-header}
 use Rattle.protocol.proofs.Alike.{twin, lengths-alike, word-same, parent-same, named-same, form-same, number-same}
 use Rattle.protocol.proofs.Alike.{filed-same, can-same, file-alike, block-alike, update-alike}
 
@@ -233,10 +233,13 @@ module _ (m : Memory) (l b : List ℕ) (a : Alike m (twin m l b)) where
       }
 
   fresh-alike : (f : ℕ) (steps : List ℕ) (limit k : ℕ) → lengthsFit m f ≡ true
-      → Alike (freshReplicas (freshHeader m f steps) limit k) (freshReplicas (freshHeader (twin m l b) f steps) limit k)
+      → Alike (freshReplicas (keepSteps (freshHeader m f) steps) limit k)
+      (freshReplicas (keepSteps (freshHeader (twin m l b) f) steps) limit k)
   unfolding freshReplicas
   fresh-alike f steps limit zero fit =
-      let h = header m f steps fit in
+      let h = header m f fit in
+      let issued = keep-header (freshHeader m f) steps certificateCountAt (omega arith) in
+      let added = keep-header (freshHeader m f) steps blockCountAt (omega arith) in
       record {
         table = refl;
         logLength = a .logLength;

@@ -59,15 +59,18 @@ unfoldable pub freshReplicas : Memory → ℕ → ℕ → Memory
 freshReplicas m limit zero = m
 freshReplicas m limit (suc i) = update (freshReplicas m limit i) i (freshReplica limit)
 
--- "one block, number 0, whose parent word becomes 0; no certificates. [..] The book and the other block words aren't touched." The steps
--- are written after the header.
-abbrev pub freshHeader : Memory → ℕ → List ℕ → Memory
-freshHeader m f steps =
+-- "one block, number 0, whose parent word becomes 0; no certificates. [..] The book and the other block words aren't touched."
+abbrev pub freshHeader : Memory → ℕ → Memory
+freshHeader m f =
     record {
-      table = sets (set (set (set (m .table) faultBoundAt f) certificateCountAt 0) blockCountAt 1) (stepAt 0) steps;
+      table = set (set (set (m .table) faultBoundAt f) certificateCountAt 0) blockCountAt 1;
       log = m .log;
       blocks = set (m .blocks) (blockAt 0) 0;
     }
+
+-- Document 02, #104: "The steps are kept after the header in the table".
+abbrev pub keepSteps : Memory → List ℕ → Memory
+keepSteps m steps = record { table = sets (m .table) (stepAt 0) steps; log = m .log; blocks = m .blocks }
 
 -- "Values n, 0." Document 02, #104: "12 for steps that break these rules or aren't eight, after opening's 2 and before its 1."
 unfoldable pub opening : Memory → ℕ → List ℕ → Rule
@@ -77,7 +80,7 @@ opening m f list =
       needs = isFaultBound f else outOfRange ∷ stepsAllowed list else wrongSteps ∷ lengthsFit m f else wrongForm ∷ [];
       first = replicaCount f;
       second = 0;
-      after = freshReplicas (freshHeader m f steps) (getD steps 0 0) (replicaCount f);
+      after = freshReplicas (keepSteps (freshHeader m f) steps) (getD steps 0 0) (replicaCount f);
     }
 
 -- "Block(parent): values new number, 0."

@@ -29,6 +29,9 @@ ceiling = 1000000
 -- ---- the table
 
 -- "Table: f, certificates issued, blocks added;"
+abbrev pub headerWords : ℕ
+headerWords = 3
+
 abbrev pub faultBoundAt : ℕ
 faultBoundAt = 0
 
@@ -49,7 +52,7 @@ blockCount m = getD (m .table) blockCountAt 0
 
 -- Document 02, #104: "The steps are kept after the header in the table": the counter's eight, by their number from 0.
 abbrev pub stepsAt : ℕ
-stepsAt = 3
+stepsAt = headerWords
 
 abbrev pub stepCount : ℕ
 stepCount = 8

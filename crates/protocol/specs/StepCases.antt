@@ -188,7 +188,8 @@ recoverNearTheLimit =
           ∷ [];
     }
 
--- Document 01's script and what it has after it, up to the decision and the recovery: of the answers only those change that name the counter.
+-- Document 01's script up to its decision, then the recovery and a reserve as it has them: what differs are the views that the counter sets,
+-- 2 for 64.
 unfoldable pub scriptWithOwnSteps : Case
 scriptWithOwnSteps =
     record {

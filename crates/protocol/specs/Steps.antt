@@ -38,10 +38,13 @@ FirstLimitIsFirstStep =
     (m : Memory) (f : ℕ) (list : List ℕ) → Accepted (step m (Open f) list) → (i : ℕ) → i < replicaCount f
     → replica (step m (Open f) list .memory) i .viewLimit ≡ stepOf list 0
 
--- A Reserve moves the limit by the boot's step, and answers it; a Reboot after which the replica recovers moves it by the next boot's.
+-- An accepted Reserve moves the limit by the boot's step, and answers it; an accepted Reboot after which the replica is recovering, not
+-- retired, moves it by the step of the boot that begins.
 pub record MovesBy (list : List ℕ) (m : Memory) (i : ℕ) (beside : List ℕ) : Type 0 where
   pub reserve : Accepted (step m (Reserve i) beside)
-      → step m (Reserve i) beside .answer .first ≡ replica m i .viewLimit + stepOf list (replica m i .boot)
+      → replica (step m (Reserve i) beside .memory) i .viewLimit ≡ replica m i .viewLimit + stepOf list (replica m i .boot)
+  pub answer : Accepted (step m (Reserve i) beside)
+      → step m (Reserve i) beside .answer .first ≡ replica (step m (Reserve i) beside .memory) i .viewLimit
   pub reboot : Accepted (step m (Reboot i) beside) → replica (step m (Reboot i) beside .memory) i .status ≡ recovering
       → replica (step m (Reboot i) beside .memory) i .viewLimit ≡ replica m i .viewLimit + stepOf list (replica m i .boot + 1)
 

@@ -65,9 +65,9 @@ equalStepsDoNotFall =
       expected = accepted 0 0 ∷ accepted 128 0 ∷ [];
     }
 
--- One of 4,097, and a fall at each pair of neighbours.
-abbrev pub isBroken : ℕ → ℕ → Case
-isBroken k value =
+-- What such a ledger gives where the step breaks the form.
+abbrev pub withStep : ℕ → ℕ → Case
+withStep k value =
     record {
       start = steppedBy k value;
       calls = plain (View 0 1) ∷ plain (Reserve 0) ∷ [];
@@ -75,27 +75,28 @@ isBroken k value =
     }
 
 -- A table of so many zeros is not opened.
-abbrev pub isNoTable : ℕ → Case
-isNoTable words =
+abbrev pub ofLength : ℕ → Case
+ofLength words =
     record {
       start = memory (replicate words 0) (blank 1 .log) (blank 1 .blocks);
       calls = plain (Open 1) ∷ [];
       expected = refused wrongForm ∷ [];
     }
 
+-- A step of 4,097, a fall at each pair of neighbours; and lengths about 38, that of a table for f = 1, and 30, which it would be without steps.
 unfoldable pub brokenTables : List Case
 brokenTables =
-    isBroken 7 4097
-    ∷ isBroken 1 63
-    ∷ isBroken 2 63
-    ∷ isBroken 3 127
-    ∷ isBroken 4 127
-    ∷ isBroken 5 255
-    ∷ isBroken 6 255
-    ∷ isBroken 7 511
-    ∷ isNoTable 30
-    ∷ isNoTable 37
-    ∷ isNoTable 39
+    withStep 7 4097
+    ∷ withStep 1 63
+    ∷ withStep 2 63
+    ∷ withStep 3 127
+    ∷ withStep 4 127
+    ∷ withStep 5 255
+    ∷ withStep 6 255
+    ∷ withStep 7 511
+    ∷ ofLength 30
+    ∷ ofLength 37
+    ∷ ofLength 39
     ∷ []
 
 unfoldable pub tableCases : List Case

@@ -1,5 +1,5 @@
--- Document 01's worked script, as document 02 changes it, and one of openings with steps, in the form in which the program reads and writes
--- them: fields of eight columns, line feeds, line numbers.
+-- Document 01's worked script, as document 02 changes it, and a script of openings with steps, in the form in which the program reads and
+-- writes them: fields of eight columns, line feeds, line numbers.
 use Prim.Native.Nat.{ℕ}
 use mathlib.Core.Path.{_≡_}
 use mathlib.Core.List.{List, [], _∷_, _++_}
@@ -69,8 +69,8 @@ WorkedScriptOpens = OpenedAt (textOf workedInput) 0 10
 -- ---- A pool's own steps (document 02, #104): "In a script they are the list of code 0, which may have 0 to 31 fields."
 
 -- Before anything is open a bad list gives 12 and opens nothing. Then a pool's own steps; a bad list for another f, and a number field that
--- is not 0, leave f, table and steps in use: the reserve goes by them. 31 fields are a list, 32 make no line. f is tested before the list. An
--- empty list brings document 01's steps back.
+-- is not 0, leave f, table and steps in use: the reserve, the cut and the reserve after it go by the first and the second of them. 31 fields
+-- are a list, 32 make no line. f is tested before the list. An empty list brings document 01's steps back.
 unfoldable pub stepsInput : List (List ℕ)
 stepsInput =
     (0 ∷ 1 ∷ 0 ∷ 5 ∷ [])
@@ -78,6 +78,8 @@ stepsInput =
     ∷ (0 ∷ 1 ∷ 0 ∷ 2 ∷ 3 ∷ 5 ∷ 7 ∷ 11 ∷ 13 ∷ 17 ∷ 19 ∷ [])
     ∷ (0 ∷ 2 ∷ 0 ∷ 2 ∷ 3 ∷ 5 ∷ 7 ∷ 11 ∷ 13 ∷ 17 ∷ [])
     ∷ (0 ∷ 1 ∷ 7 ∷ 2 ∷ 3 ∷ 5 ∷ 7 ∷ 11 ∷ 13 ∷ 17 ∷ 19 ∷ [])
+    ∷ (9 ∷ 0 ∷ 0 ∷ [])
+    ∷ (8 ∷ 0 ∷ 0 ∷ [])
     ∷ (9 ∷ 0 ∷ 0 ∷ [])
     ∷ (0 ∷ 1 ∷ 0 ∷ replicate 31 5)
     ∷ (0 ∷ 1 ∷ 0 ∷ replicate 32 5)
@@ -94,11 +96,13 @@ stepsOutput =
     ∷ (4 ∷ 12 ∷ 0 ∷ 0 ∷ [])
     ∷ (5 ∷ 10 ∷ 0 ∷ 0 ∷ [])
     ∷ (6 ∷ 0 ∷ 4 ∷ 0 ∷ [])
-    ∷ (7 ∷ 12 ∷ 0 ∷ 0 ∷ [])
-    ∷ (8 ∷ 10 ∷ 0 ∷ 0 ∷ [])
-    ∷ (9 ∷ 2 ∷ 0 ∷ 0 ∷ [])
-    ∷ (10 ∷ 0 ∷ 3 ∷ 0 ∷ [])
-    ∷ (11 ∷ 0 ∷ 128 ∷ 0 ∷ [])
+    ∷ (7 ∷ 0 ∷ 1 ∷ 4 ∷ [])
+    ∷ (8 ∷ 0 ∷ 10 ∷ 0 ∷ [])
+    ∷ (9 ∷ 12 ∷ 0 ∷ 0 ∷ [])
+    ∷ (10 ∷ 10 ∷ 0 ∷ 0 ∷ [])
+    ∷ (11 ∷ 2 ∷ 0 ∷ 0 ∷ [])
+    ∷ (12 ∷ 0 ∷ 3 ∷ 0 ∷ [])
+    ∷ (13 ∷ 0 ∷ 128 ∷ 0 ∷ [])
     ∷ []
 
 unfoldable pub StepsScript : Type 0

@@ -1,4 +1,4 @@
--- No list is allowed, eight steps are as their form is, any other list is not.
+-- An empty list is allowed; eight steps are if they have their form; any other list is not.
 use mathlib.Core.Path.{_∙_}
 use borrow.Author.Needs.{needs}
 use Rattle.counter.proofs.Steps.{none-allowed, eight-allowed, others-refused}

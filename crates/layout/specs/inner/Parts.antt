@@ -9,8 +9,8 @@ use Rattle.protocol.specs.Memory.{certificate, parent}
 use Rattle.protocol.specs.Form.{allHold, allBelow, stepsFormed, blockFormed, replicaFormed, certificateFormed}
 
 -- Steps by their number, from an index on.
-abbrev pub stepFrom : List ℕ → ℕ → ℕ → ℕ
-stepFrom words start k = getD words (start + k) 0
+abbrev pub stepIn : List ℕ → ℕ → ℕ → ℕ
+stepIn words start k = getD words (start + k) 0
 
 -- The least that a step may be: 1, or the one before.
 abbrev pub leastStep : (ℕ → ℕ) → ℕ → ℕ
@@ -42,7 +42,7 @@ fourOk test k = allHold (test k ∷ test (k + 1) ∷ test (k + 2) ∷ test (k + 
 abbrev pub wordsOk : Memory → Bool
 wordsOk m =
     allHold
-    (stepsFormed (stepFrom (m .table) stepsAt)
+    (stepsFormed (stepIn (m .table) stepsAt)
     ∷ allBelow (blockCount m) (blockOk (m .blocks))
     ∷ allBelow (replicaCount (faultBound m)) (replicaOk (m .table) (blockCount m))
     ∷ allBelow (certificateCount m) (certificateOk (m .log) (replicaCount (faultBound m)) (blockCount m))

@@ -9,7 +9,8 @@ use Rattle.protocol.specs.Memory.{Memory, memory}
 use Rattle.protocol.specs.Form.{isFaultBound, lengthsFit}
 use Rattle.protocol.specs.Counter.{stepsAllowed}
 use Rattle.layout.proofs.Joined.{denied, granted}
-use Rattle.opening.proofs.Opens.{Fitting, fitting, low, no-bound, no-steps, no-lengths, opens}
+use Rattle.layout.proofs.Whole.{bounded}
+use Rattle.opening.proofs.Opens.{Fitting, fitting, no-bound, no-steps, no-lengths, opens}
 use Rattle.opening.proofs.open_ledger.Statement.{statement}
 use Rattle.opening.proofs.open_ledger.Tie as tie
 
@@ -45,7 +46,7 @@ returns-2 c =
     (no-steps _ _ _ (bound (tested .before)) (denied (tested .steps-allowed .ensures) (c .before .if2 .taken)))
 
 lengths-fit-requires : tie.Need-lengths-fit-requires
-lengths-fit-requires c κs = low _ (bound (faults (c .before .before .before)))
+lengths-fit-requires c κs = bounded _ (bound (faults (c .before .before .before)))
 
 returns-3 : tie.Need-returns-3
 returns-3 c =
@@ -55,34 +56,39 @@ returns-3 c =
     (no-lengths _ _ _ (bound (faults passed)) (allowed passed) (denied (tested .lengths-fit .ensures) (c .before .if3 .taken)))
 
 fresh-header-requires : tie.Need-fresh-header-requires
-fresh-header-requires c κs =
-    let p = c .before .before in
-    let z = fitted p in
-    (omega (arith, z), z .blocks, allowed (steps p))
+fresh-header-requires c κs = let z = fitted (c .before .before) in (omega (arith, z), z .blocks)
+
+open-steps-requires : tie.Need-open-steps-requires
+open-steps-requires c κs =
+    let header = c .before .before .before .before in
+    let p = header .before .before .before .before in
+    (omega (arith, fitted p, header .table .given), allowed (steps p))
 
 replica-count-requires : tie.Need-replica-count-requires
-replica-count-requires c κs = low _ (bound (faults (steps (c .before .before .before .before .before .before .before))))
+replica-count-requires c κs = let header = c .before .before .before .before .before .before .before .before in bounded _ (bound (faults (steps (header .before .before .before))))
 
 fresh-rows-requires : tie.Need-fresh-rows-requires
 fresh-rows-requires c κs =
     let count = c .before in
-    let header = count .before .before .before .before in
-    omega (arith, fitted (header .before .before .before .before), count .replica-count .ensures, header .table .given)
+    let kept = count .before .before in
+    let header = kept .before .before .before .before .before .before in
+    omega (arith, fitted (header .before .before .before .before), count .replica-count .ensures, kept .table2 .given, header .table .given)
 
 returns-4 : tie.Need-returns-4
 returns-4 c =
     let rows = c .before .before .before in
     let count = rows .before .before in
-    let header = count .before .before .before .before .before in
+    let kept = count .before .before .before in
+    let header = kept .before .before .before .before .before .before in
     let p = header .before .before .before in
     rw (c .accepted .ensures, rows .fresh-rows .ensures)
-    (opens _ _ _ (bound (faults (steps p))) (allowed (steps p)) (fits p) (header .fresh-header .ensures .1 _) (header .fresh-header .ensures .0)
-    (count .replica-count .ensures))
+    (opens _ _ _ (bound (faults (steps p))) (allowed (steps p)) (fits p) (header .fresh-header .ensures _) (kept .open-steps .ensures .0)
+    (kept .open-steps .ensures .1) (count .replica-count .ensures))
 
 pub open-ledger-spec : {M : Type 1} → statement M
 open-ledger-spec =
     tie.close
     (tie.spec (λ c κs. search needs) (λ c κs. search needs) returns (λ c κs. search needs) (λ c κs. search needs) returns-2
     lengths-fit-requires (λ c κs. search needs) (λ c. search needs) (λ c. search needs) (λ c. search needs) returns-3
-    fresh-header-requires replica-count-requires fresh-rows-requires (λ c κs. search needs) (λ c. search needs) (λ c. search needs)
-    (λ c. search needs) returns-4)
+    fresh-header-requires open-steps-requires replica-count-requires fresh-rows-requires (λ c κs. search needs) (λ c. search needs)
+    (λ c. search needs) (λ c. search needs) returns-4)

@@ -5,14 +5,14 @@ use native.Mathlib.Numerals.{add-one}
 use native.Mathlib.Omega.{arith}
 use borrow.Author.Needs.{needs}
 use Rattle.protocol.specs.Memory.{stepCount}
-use Rattle.layout.specs.inner.Parts.{stepFrom, leastStep, stepsRise}
+use Rattle.layout.specs.inner.Parts.{stepIn, leastStep, stepsRise}
 use Rattle.layout.proofs.Rising.{rising-formed}
 use Rattle.layout.proofs.form.steps_formed.Statement.{statement}
 use Rattle.layout.proofs.form.steps_formed.Tie as tie
 
 abbrev Inv-loop : tie.InvT-loop
 Inv-loop words start formed₀ least₀ k₀ formed least k =
-    (k ≤ stepCount) × ((least ≡ leastStep (stepFrom words start) k) × (formed ≡ stepsRise (stepFrom words start) k))
+    (k ≤ stepCount) × ((least ≡ leastStep (stepIn words start) k) × (formed ≡ stepsRise (stepIn words start) k))
 
 abbrev μ-loop : tie.MeasureT-loop
 μ-loop words start formed₀ least₀ k₀ formed least k = stepCount - k

@@ -22,9 +22,24 @@ fn full_memory() -> Sample {
     Sample::left_by(driver)
 }
 
-fn sum(sample: &Sample) -> u32 {
-    let slices = [&sample.table, &sample.log, &sample.blocks];
-    slices.iter().flat_map(|words| words.iter()).fold(0, |sum, &word| sum.wrapping_add(word))
+/// A function of its own for each start, so that the same loop stands in several places.
+#[inline(never)]
+fn sum<const START: u32>(words: &[u32]) -> u32 {
+    words.iter().fold(START, |sum, &word| sum.wrapping_add(word))
+}
+
+/// Where the machine code of so short a loop happens to stand can double its time: the best of eight is by what the others are measured.
+fn bare_sum(sample: &Sample, calls: usize, runs: u64) -> Result<f64, std::io::Error> {
+    let copies = [sum::<0>, sum::<1>, sum::<2>, sum::<3>, sum::<4>, sum::<5>, sum::<6>, sum::<7>];
+    let mut least = f64::INFINITY;
+    for copy in copies {
+        let bare = || {
+            let Sample { table, log, blocks, .. } = black_box(sample);
+            black_box([copy(table), copy(log), copy(blocks)]);
+        };
+        least = least.min(best_own(bare, calls, runs)?);
+    }
+    Ok(least)
 }
 
 /// Names and microseconds: the bare sum, the library's panel (its form test and a height of 0), the firmware's.
@@ -35,10 +50,7 @@ pub fn times(
 ) -> Result<Vec<(&'static str, f64)>, std::io::Error> {
     let mut sample = full_memory();
     let each = |seconds: f64| seconds * 1e6 / calls as f64;
-    let bare = || {
-        black_box(sum(black_box(&sample)));
-    };
-    let mut times = vec![("bare sum", each(best_own(bare, calls, runs)?))];
+    let mut times = vec![("bare sum", each(bare_sum(&sample, calls, runs)?))];
     let library = Library(Correct);
     let mut checkers: Vec<(&str, &dyn Checker)> = vec![("library", &library)];
     checkers.extend(firmware.map(|firmware| ("firmware", firmware)));

@@ -9,9 +9,7 @@ use crate::memory::{CEILING, MAX_F, RECOVERING};
 use crate::mistake::Rules;
 use crate::random::Random;
 use crate::refusal::COUNTER_LIMIT;
-use crate::steps::{Steps, MAX_STEP};
-
-const FIRST_LIMIT: u32 = Steps::DEFAULT.first();
+use crate::steps::{FIRST_LIMIT, MAX_STEP};
 
 /// Numbers around a fresh replica's limit by document 01's steps, the next one, the greatest that steps allow, the
 /// ceiling and the last that a field holds.

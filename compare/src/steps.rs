@@ -5,6 +5,8 @@ use crate::mistake::{Correct, Mistake, Rules};
 
 pub const MIN_STEP: u32 = 1;
 pub const MAX_STEP: u32 = 4096;
+/// A fresh replica's limit where the ledger has document 01's steps.
+pub const FIRST_LIMIT: u32 = Steps::DEFAULT.first();
 /// The boot from which on the step stays.
 pub const LAST_STEP_BOOT: u32 = STEP_WORDS as u32 - 1;
 

@@ -7,9 +7,7 @@ use judge::generate::steps::{broken_fields, broken_list, large_steps, small_step
 use judge::memory::{CEILING, RETIRED};
 use judge::mistake::Mistake;
 use judge::random::Random;
-use judge::steps::Steps;
-
-const FIRST_LIMIT: u32 = Steps::DEFAULT.first();
+use judge::steps::{Steps, FIRST_LIMIT};
 
 #[test]
 fn raising_a_limit_ends_where_a_call_is_refused() {

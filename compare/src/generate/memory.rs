@@ -9,9 +9,7 @@ use crate::driver::{Driver, Line};
 use crate::memory::*;
 use crate::mistake::{Correct, Rules};
 use crate::random::Random;
-use crate::steps::{Steps, MAX_STEP};
-
-const FIRST_LIMIT: u32 = Steps::DEFAULT.first();
+use crate::steps::{Steps, FIRST_LIMIT, MAX_STEP};
 
 /// Three slices and a call on them.
 #[derive(Clone, PartialEq, Eq, Debug)]

@@ -1,10 +1,11 @@
 /* A ledger of three replicas in C: open it, decide a block, cut one replica's power, recover it; calls whose answers got lost are made
- * again. Then it is opened anew with steps of the pool's own. Its status is 1 if an answer was wrong. */
+ * again, and a height that a host wrote is refused. Then it is opened anew with steps of the pool's own. Its status is 1 if an answer was
+ * wrong. */
 #include "../include/yard.h"
 
 #include <stdio.h>
 
-enum { TABLE = YARD_TABLE_WORDS(1), LOG = 16 * YARD_CERTIFICATE_WORDS, BLOCKS = 4 };
+enum { TABLE = YARD_TABLE_WORDS(1), LOG = 16 * YARD_CERTIFICATE_WORDS, BLOCKS = 4 * YARD_BLOCK_WORDS };
 
 enum { OPEN, BLOCK, PREPARE, PREPARE_ON_COMMITS, STORE, VIEW, ACCUMULATE, DECIDE, REBOOT, RESERVE, REQUEST, REPLY, RECOVER };
 
@@ -23,11 +24,11 @@ static void call(uint32_t code, uint32_t replica, uint32_t number, const uint32_
         wrong = 1;
 }
 
-static void panel(uint32_t replica, uint32_t height) {
+static void panel(uint32_t replica, uint32_t answer, uint32_t height) {
     uint32_t shown = 0;
     uint32_t got = yard_panel(table, TABLE, log_words, LOG, blocks, BLOCKS, replica, &shown);
-    printf("panel of %u: %u\n", replica, shown);
-    if (got != 0 || shown != height)
+    printf("panel of %u: %u %u\n", replica, got, shown);
+    if (got != answer || shown != height)
         wrong = 1;
 }
 
@@ -50,8 +51,13 @@ int main(void) {
     call(STORE, 1, 3, NULL, 0, 4, 0, 0);
     call(STORE, 2, 3, NULL, 0, 0, 5, YARD_ADDED);
     call(DECIDE, 0, 0, commits, 2, 0, 1, 1);
-    panel(0, 1);
-    panel(1, 0);
+    panel(0, 0, 1);
+    panel(1, 0, 0);
+    /* A host that writes another height for block 1, the second word of its record, is shown nothing. */
+    blocks[YARD_BLOCK_WORDS + 1] = 2;
+    panel(0, 1, 0);
+    call(VIEW, 0, 2, NULL, 0, 1, 0, 0);
+    blocks[YARD_BLOCK_WORDS + 1] = 1;
     call(REQUEST, 1, 0, NULL, 0, 0, 6, YARD_ADDED);
     call(REQUEST, 1, 0, NULL, 0, 0, 6, YARD_FOUND);
     call(REPLY, 0, 6, NULL, 0, 0, 7, YARD_ADDED);
@@ -60,9 +66,9 @@ int main(void) {
     call(RECOVER, 1, 0, replies, 2, 0, 64, 1);
     call(13, 0, 0, NULL, 0, 10, 0, 0);
     call(OPEN, 1, 0, steps, YARD_STEPS - 1, 12, 0, 0);
-    panel(0, 1);
+    panel(0, 0, 1);
     call(OPEN, 1, 0, steps, YARD_STEPS, 0, 3, 0);
-    panel(0, 0);
+    panel(0, 0, 0);
     call(VIEW, 0, 255, NULL, 0, 0, 0, YARD_ADDED);
     call(VIEW, 0, 256, NULL, 0, 8, 0, 0);
     call(REBOOT, 0, 0, NULL, 0, 0, 1, 256);

@@ -10,11 +10,13 @@
 #include <stddef.h>
 #include <stdint.h>
 
-/* The words that a caller lends: a table for f, from 1 to 30, of three words, the steps of the counter and nine words a replica; at most
- * 4096 certificates; 1 to 4096 blocks of a word each. */
+/* The words that a caller lends: a table for f, from 1 to 30, of three words, the steps of the counter and nine words a replica; room for
+ * at most 4096 certificates; and for 1 to 4096 blocks, of a parent and a height each. A length that is no whole number of records gives 1.
+ */
 #define YARD_STEPS 8
 #define YARD_TABLE_WORDS(f) (3 + YARD_STEPS + 9 * (2 * (f) + 1))
 #define YARD_CERTIFICATE_WORDS 7
+#define YARD_BLOCK_WORDS 2
 
 /* The largest step that an open may be given. */
 #define YARD_MAX_STEP 4096
@@ -24,10 +26,9 @@
 #define YARD_ADDED 0
 #define YARD_FOUND 1
 
-/* Bytes of stack for the longest line, of 4096 blocks, measured on x86-64 with the arguments, and at most 256 to spare: a panel takes 32
- * for each block of the line, more than a thread of 128 KB has; a balance 32 for every 16, beside 4.4 KB. examples/stack.c measures both.
- * The other functions do not recurse: 404 bytes were the most. */
-#define YARD_PANEL_STACK 131328
+/* Bytes of stack that a balance takes for the longest line, of 4096 blocks, measured on x86-64 with the arguments, and at most 256 to
+ * spare: 32 for every 16 blocks, beside 4.4 KB. examples/stack.c measures it. The other functions do not recurse: 404 bytes were the most.
+ */
 #define YARD_BALANCE_STACK 12800
 
 /* Lent to yard_balance alone: at most 2048 movements of four words each (block, giver, taker, pallets). */
@@ -74,7 +75,8 @@ uint32_t yard_call(uint32_t code, uint32_t replica, uint32_t number, const uint3
                    size_t table_length, uint32_t *log, size_t log_length, uint32_t *blocks, size_t blocks_length, uint32_t *first,
                    uint32_t *second);
 
-/* The height of a replica's decided block: 0, or 1 for wrong form and 2 for a replica out of range with a height of 0. */
+/* The height of a replica's decided block: 0, or 1 for wrong form and 2 for a replica out of range with a height of 0. It is a word of the
+ * block's record, so a panel takes as long as the form test, whatever the height. */
 uint32_t yard_panel(const uint32_t *table, size_t table_length, const uint32_t *log, size_t log_length, const uint32_t *blocks,
                     size_t blocks_length, uint32_t replica, uint32_t *height);
 

@@ -1,5 +1,6 @@
 //! Block, prepare, store, view and decide.
 
+use crate::block::{block_slots, Block};
 use crate::certificate::{Certificate, ACC, COMMIT, FOUND, NEWVIEW, PROP};
 use crate::form::well_formed;
 use crate::memory::*;
@@ -17,13 +18,39 @@ pub fn block<R: Rules>(rules: R, m: &mut Memory, parent: u32) -> Answer {
     need(well_formed(rules, m), WRONG_FORM)?;
     need(m.is_added(parent), UNKNOWN_NUMBER)?;
     let number = m.added();
-    let kept = u64::from(rules.has(Mistake::NineBlocksEarly));
-    need(u64::from(number) + kept < m.blocks.len() as u64, NO_ROOM)?;
-    m.blocks[number as usize] = parent;
+    let kept = usize::from(rules.has(Mistake::NineBlocksEarly));
+    let by_words = rules.has(Mistake::BlockRoomByWords);
+    let slots = if by_words { m.blocks.len() } else { block_slots(m.blocks) };
+    need(number as usize + kept < slots, NO_ROOM)?;
+    new_block(rules, m, parent).put(m.blocks, number);
     if !rules.has(Mistake::BlockCountStays) {
         m.table[header::ADDED] += 1;
     }
     Ok((number, if rules.has(Mistake::BlockToldFound) { FOUND } else { 0 }))
+}
+
+fn new_block<R: Rules>(rules: R, m: &Memory, parent: u32) -> Block {
+    let number = m.added();
+    let mut block = Block::on(m.blocks, parent);
+    if rules.has(Mistake::BlockHeightParents) {
+        block.height = m.height(parent);
+    }
+    if rules.has(Mistake::BlockHeightNumber) {
+        block.height = number;
+    }
+    if rules.has(Mistake::BlockHeightOnNumber) {
+        block.height = parent + 1;
+    }
+    if rules.has(Mistake::BlockHeightLeft) {
+        block.height = m.height(number);
+    }
+    if rules.has(Mistake::BlockHeightLast) {
+        block.height = Block::on(m.blocks, number - 1).height;
+    }
+    if rules.has(Mistake::BlockWordsSwapped) {
+        block = Block { parent: block.height, height: parent };
+    }
+    block
 }
 
 /// The view to propose in and the block to build on, by a justification.
@@ -61,7 +88,8 @@ pub fn prepare<R: Rules>(rules: R, m: &mut Memory, replica: u32, block: u32, j: 
     let led = if own_view { w - 1 } else { w };
     need(m.leads(rules, replica, led, Mistake::PrepareOldLeader) || any_leader, WRONG_CERTIFICATE)?;
     need(block != 0 || rules.has(Mistake::PrepareBlockZero), WRONG_BLOCK)?;
-    need(m.parent(block) == base || rules.has(Mistake::PrepareAnyParent), WRONG_BLOCK)?;
+    let by_height = rules.has(Mistake::PrepareByHeight) && m.height(block) == Block::on(m.blocks, base).height;
+    need(m.parent(block) == base || by_height || rules.has(Mistake::PrepareAnyParent), WRONG_BLOCK)?;
     need(r.min_view == w || rules.has(Mistake::PrepareAboveMinView) && r.min_view < w, WRONG_VIEW)?;
     need(r.flag == 0 || rules.has(Mistake::PrepareIgnoresFlag), WRONG_VIEW)?;
     need(below_limit(w, r, rules.has(Mistake::PrepareLimitInclusive)), COUNTER_LIMIT)?;

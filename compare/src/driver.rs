@@ -4,7 +4,7 @@ use crate::call::*;
 use crate::certificate::Certificate;
 use crate::field::field_text;
 use crate::leader::leader;
-use crate::memory::{header, replica_count, table_length, Memory, Replica, CERTIFICATE_WORDS, MAX_F};
+use crate::memory::{header, replica_count, table_length, Memory, Replica, BLOCK_WORDS, CERTIFICATE_WORDS, MAX_F};
 use crate::mistake::Rules;
 use crate::steps::Steps;
 
@@ -54,7 +54,7 @@ impl<R: Rules> Driver<R> {
             rules,
             table: vec![0; table_length(f) as usize],
             log: vec![0; CERTIFICATE_WORDS * certificate_slots],
-            blocks: vec![0; block_slots],
+            blocks: vec![0; BLOCK_WORDS * block_slots],
             trace: Vec::new(),
         };
         driver.reopen(f, steps);
@@ -109,6 +109,10 @@ impl<R: Rules> Driver<R> {
 
     pub fn added(&self) -> u32 {
         self.table[header::ADDED]
+    }
+
+    pub fn parent(&mut self, block: u32) -> u32 {
+        self.memory().parent(block)
     }
 
     pub fn steps(&mut self) -> Steps {

@@ -133,7 +133,7 @@ impl<R: Rules> Explorer<R> {
     /// A block whose parent is the given one, mostly; a new one half the time.
     fn child_of(&mut self, parent: u32) -> u32 {
         let added = self.driver.added();
-        let children: Vec<u32> = (1..added).filter(|&b| self.driver.blocks[b as usize] == parent).collect();
+        let children: Vec<u32> = (1..added).filter(|&b| self.driver.parent(b) == parent).collect();
         if self.random.once_in(16) {
             return self.random.below(added);
         }

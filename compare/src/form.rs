@@ -1,17 +1,14 @@
-//! The form that every call but opening tests (document 01, "Form"; document 02, #104: the steps too).
+//! The form that every call but opening tests (document 01, "Form"; document 02, #104: the steps too, #105: the heights).
 
+use crate::block::{self, block_slots, Block};
 use crate::certificate::{certificate_word, FIRST_KIND, LAST_KIND};
 use crate::memory::*;
 use crate::mistake::{Mistake, Rules};
-use crate::steps::{Steps, FORM};
+use crate::steps::{self, Steps};
 
 /// A log of this many words: whole slots, and not too many.
 pub fn log_length_fits(words: usize) -> bool {
     words.is_multiple_of(CERTIFICATE_WORDS) && words / CERTIFICATE_WORDS <= MAX_CERTIFICATES
-}
-
-pub fn blocks_length_fits(words: usize) -> bool {
-    (1..=MAX_BLOCKS).contains(&words)
 }
 
 /// Lengths, f, counts, steps, blocks, replicas and certificates are all as the documents say.
@@ -19,7 +16,7 @@ pub fn well_formed<R: Rules>(rules: R, m: &Memory) -> bool {
     lengths_fit(rules, m)
         && counts_fit(rules, m)
         && steps_fit(rules, m)
-        && parents_fall(rules, m)
+        && blocks_fit(rules, m)
         && replicas_fit(rules, m)
         && certificates_fit(rules, m)
 }
@@ -32,31 +29,56 @@ fn lengths_fit<R: Rules>(rules: R, m: &Memory) -> bool {
         && (words == table_length(m.f()) || rules.has(Mistake::FormTableLonger) && words > table_length(m.f()))
         && (rules.has(Mistake::FormLogSeven) || m.log.len().is_multiple_of(CERTIFICATE_WORDS))
         && (rules.has(Mistake::FormLogLong) || slots <= MAX_CERTIFICATES)
-        && !m.blocks.is_empty()
-        && (rules.has(Mistake::FormBlocksLong) || m.blocks.len() <= MAX_BLOCKS)
+        && block::length_fits(rules, m.blocks, &block::FORM)
 }
 
 fn counts_fit<R: Rules>(rules: R, m: &Memory) -> bool {
     let slots = m.log.len() / CERTIFICATE_WORDS;
+    let by_words = rules.has(Mistake::FormAddedByWords);
+    let most_added = if by_words { m.blocks.len() } else { block_slots(m.blocks) };
     (rules.has(Mistake::FormIssued) || m.issued() as usize <= slots)
-        && (rules.has(Mistake::FormAdded) || m.added() as usize <= m.blocks.len())
+        && (rules.has(Mistake::FormAdded) || m.added() as usize <= most_added)
         && m.added() >= 1
 }
 
 fn steps_fit<R: Rules>(rules: R, m: &Memory) -> bool {
     let steps = m.steps();
-    (steps.fit(rules, &FORM) || rules.has(Mistake::FormSteps))
+    (steps.fit(rules, &steps::FORM) || rules.has(Mistake::FormSteps))
         && (steps == Steps::DEFAULT || !rules.has(Mistake::FormOwnSteps))
 }
 
-fn parents_fall<R: Rules>(rules: R, m: &Memory) -> bool {
-    let added = m.blocks.iter().take(m.added() as usize);
-    (rules.has(Mistake::FormRoot) || m.blocks[0] == 0)
-        && added.enumerate().skip(1).all(|(block, &parent)| {
-            (parent as usize) < block
-                || rules.has(Mistake::FormParent)
-                || rules.has(Mistake::FormParentEqual) && parent as usize == block
-        })
+fn blocks_fit<R: Rules>(rules: R, m: &Memory) -> bool {
+    let mut records = (0..).zip(m.blocks.chunks_exact(BLOCK_WORDS).map(Block::from_words));
+    let mut added = records.by_ref().take(m.added() as usize);
+    let added_fit = added.all(|(number, block)| block_fits(rules, m, number, block));
+    let mut past_fit = || records.all(|(number, block)| height_fits(rules, m, number, block));
+    added_fit && (!rules.has(Mistake::FormHeightsPast) || past_fit())
+}
+
+fn block_fits<R: Rules>(rules: R, m: &Memory, number: u32, block: Block) -> bool {
+    if number == 0 {
+        let any_height = rules.has(Mistake::FormRootHeight) || rules.has(Mistake::FormHeights);
+        return (block.parent == Block::FIRST.parent || rules.has(Mistake::FormRoot))
+            && (block.height == Block::FIRST.height || any_height);
+    }
+    let as_first = rules.has(Mistake::FormSecondRoot) && block == Block { parent: number, ..Block::FIRST };
+    let falls = block.parent < number || rules.has(Mistake::FormParent);
+    falls && height_fits(rules, m, number, block) || as_first
+}
+
+/// One more than the parent's, as numbers: heights do not wrap round.
+fn height_fits<R: Rules>(rules: R, m: &Memory, number: u32, block: Block) -> bool {
+    let below = match block.parent {
+        _ if rules.has(Mistake::FormHeightBefore) => m.height(number - 1),
+        parent if rules.has(Mistake::FormHeightOnNumber) => parent,
+        parent => m.height(parent),
+    };
+    let (height, needed) = (u64::from(block.height), u64::from(below) + 1);
+    height == needed
+        || rules.has(Mistake::FormHeights)
+        || rules.has(Mistake::FormHeightAbove) && height > needed
+        || rules.has(Mistake::FormHeightUpTo) && height < needed
+        || rules.has(Mistake::FormLastHeight) && number + 1 == m.added()
 }
 
 fn replicas_fit<R: Rules>(rules: R, m: &Memory) -> bool {

@@ -1,5 +1,5 @@
 //! An independent second implementation of the yard ledger's checker and of the netting of movements, written from
-//! document 01 and document 02's #101 to #104 alone.
+//! document 01 and document 02's #101 to #105 alone.
 //!
 //! Simple before clever: each call looks for its refusal in the order of document 01's table, changes nothing if it
 //! finds one, and otherwise applies the change. Every call is total on any memory.
@@ -7,6 +7,7 @@
 pub mod accumulator;
 pub mod ancestry;
 pub mod benchmark;
+pub mod block;
 pub mod call;
 pub mod certificate;
 pub mod checker;

@@ -1,5 +1,5 @@
 //! The three lent slices and a replica's words (document 01, "Memory"), the table with the counter's steps (document 02,
-//! #104); a movement's words (#101).
+//! #104), where a block has its words (#105) and a movement (#101).
 
 /// Views, boots and the counter never pass this.
 pub const CEILING: u32 = 1_000_000;
@@ -7,11 +7,13 @@ pub const MAX_F: u32 = 30;
 pub const MAX_REPLICAS: u32 = replica_count(MAX_F);
 /// Most slots of the certificate log.
 pub const MAX_CERTIFICATES: usize = 4096;
+/// Most slots of the blocks.
 pub const MAX_BLOCKS: usize = 4096;
 pub const HEADER_WORDS: usize = 3;
 pub const STEP_WORDS: usize = 8;
 pub const REPLICA_WORDS: usize = 9;
 pub const CERTIFICATE_WORDS: usize = 7;
+pub const BLOCK_WORDS: usize = 2;
 pub const MOVEMENT_WORDS: usize = 4;
 /// Most movements that may be lent.
 pub const MAX_MOVEMENTS: usize = 2048;
@@ -40,6 +42,12 @@ pub mod replica_word {
     pub const STORED_BLOCK: usize = 6;
     pub const DECIDED_VIEW: usize = 7;
     pub const DECIDED_BLOCK: usize = 8;
+}
+
+/// Where a block has each of its words.
+pub mod block_word {
+    pub const PARENT: usize = 0;
+    pub const HEIGHT: usize = 1;
 }
 
 /// Where a movement has each of its words.
@@ -177,10 +185,5 @@ impl Memory<'_> {
     pub fn set_replica(&mut self, replica: u32, to: Replica) {
         let start = replica_start(replica);
         self.table[start..start + REPLICA_WORDS].copy_from_slice(&to.words());
-    }
-
-    /// The parent word of a block; 0 past the slice, so that reading is total.
-    pub fn parent(&self, block: u32) -> u32 {
-        self.blocks.get(block as usize).copied().unwrap_or(0)
     }
 }

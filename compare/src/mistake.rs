@@ -108,6 +108,7 @@ mistakes! {
     // Checker.
     PrepareIgnoresFlag "prepare-ignores-flag" "prepare does not look at its flag" "";
     PrepareAnyParent "prepare-any-parent" "prepare does not look at the block's parent" "";
+    PrepareByHeight "prepare-by-height" "prepare takes a block one higher than the justification's, whatever its parent" "";
     PrepareBlockZero "prepare-block-zero" "prepare takes block 0" "block 0 stands in every block's ancestry";
     PrepareOtherAcc "prepare-other-acc" "prepare takes another replica's ACC" "an ACC is sound whoever signed it";
     PrepareAboveMinView "prepare-above-min-view" "prepare passes where min_view is below w" "";
@@ -156,8 +157,25 @@ mistakes! {
     NineBlocksEarly "nine-blocks-early" "no room with one slot of the blocks free" "refuses more";
     CountStays "count-stays" "the issued count does not grow" "no certificate can be handed in";
     BlockCountStays "block-count-stays" "the block count does not grow" "no block but 0 can be named";
+    BlockRoomByWords "block-room-by-words" "block counts slots by words: full blocks have room for as many again" "a count above the slots is wrong form: nothing is accepted any more";
+    BlockHeightParents "block-height-parents" "a new block gets its parent's height" "a wrong height is wrong form: nothing is accepted any more";
+    BlockHeightNumber "block-height-number" "a new block gets its number as height" "a wrong height is wrong form: nothing is accepted any more";
+    BlockHeightOnNumber "block-height-on-number" "a new block gets one more than its parent's number as height" "a wrong height is wrong form: nothing is accepted any more";
+    BlockHeightLast "block-height-last" "a new block gets one more than the last block's height" "a wrong height is wrong form: nothing is accepted any more";
+    BlockHeightLeft "block-height-left" "a new block's height is not written" "a wrong height is wrong form: nothing is accepted any more";
+    BlockWordsSwapped "block-words-swapped" "a new block's height stands before its parent" "a parent not below its block is wrong form: nothing is accepted any more";
+    // Panel.
+    PanelParentsHeight "panel-parents-height" "the panel shows the height of the decided block's parent" "it never falls either";
+    PanelBlockNumber "panel-block-number" "the panel shows the decided block's number" "it never falls either: a block's number is above its parent's";
     FiledAgain "filed-again" "an equal certificate is added again" "a copy says nothing new";
     OpenClearsLog "open-clears-log" "opening clears the log's words" "words past the count are not read";
+    OpenClearsBlocks "open-clears-blocks" "opening clears the other blocks' words" "words past the count are not read";
+    OpenParentLeft "open-parent-left" "opening leaves block 0's parent" "another parent of block 0 is wrong form: nothing is accepted any more";
+    OpenHeightLeft "open-height-left" "opening leaves block 0's height" "a wrong height is wrong form: nothing is accepted any more";
+    OpenHeightOne "open-height-one" "opening gives block 0 a height of 1" "a wrong height is wrong form: nothing is accepted any more";
+    OpenBlocksOdd "open-blocks-odd" "opening takes blocks of an odd number of words" "it is wrong form: nothing is accepted any more";
+    OpenBlocksLong "open-blocks-long" "opening takes blocks of too many slots" "they are wrong form: nothing is accepted any more";
+    OpenBlocksByWords "open-blocks-by-words" "opening counts slots by words: 4,098 and more are too many" "refuses more";
     FoundLastEqual "found-last-equal" "of several equal certificates the last one's number is given" "no list of calls makes two equal ones";
     FoundChangesNothing "found-changes-nothing" "a call that finds its certificate leaves its replica's words" "where a list of calls finds one, its replica's words stay in any case";
     // Found or added.
@@ -174,18 +192,30 @@ mistakes! {
     FoundNeverFull "found-never-full" "a certificate found in a full log is told as added" "only a value shows it: agreement goes by blocks and views";
     FoundByLaterCount "found-by-later-count" "found or added goes by the count after filing: the last certificate, found, is told as added" "only a value shows it: agreement goes by blocks and views";
     FoundByWords "found-by-words" "found or added goes by the log's words: a certificate added where its words stood already is told as found" "only a value shows it: agreement goes by blocks and views";
-    // Form: each line drops one test, but for those that refuse more. Two tests have no line, since others imply them: at least one block (a replica's
-    // stored block is added), and 1 <= min_view (the stored view is below it).
+    // Form: each line drops one test or part of it, but for those that refuse more. Some tests have no line, since others imply them: at least one block
+    // (a replica's stored block is added), 1 <= min_view (the stored view is below it), that no block is its own parent (its height would be above itself),
+    // and that heights do not wrap round (they count the blocks up from block 0).
     FormTableLonger "form-table-longer" "a longer table has sound form" "no list of calls reaches it";
     FormLogSeven "form-log-seven" "a log of any length has sound form" "no list of calls reaches it";
     FormLogLong "form-log-long" "a log of too many slots has sound form" "no list of calls reaches it";
     FormBlocksLong "form-blocks-long" "blocks of too many slots have sound form" "no list of calls reaches it";
+    FormBlocksOdd "form-blocks-odd" "blocks of an odd number of words have sound form" "no list of calls reaches it";
+    FormBlocksByWords "form-blocks-by-words" "slots are counted by words: blocks of 4,098 words and more are wrong form" "refuses more";
     FormF "form-f" "f is not tested" "no list of calls reaches it";
     FormIssued "form-issued" "the issued count is not tested" "no list of calls reaches it";
     FormAdded "form-added" "the block count is not tested" "no list of calls reaches it";
+    FormAddedByWords "form-added-by-words" "slots are counted by words: a block count up to the words has sound form" "no list of calls reaches it";
     FormRoot "form-root" "block 0's parent is not tested" "no list of calls reaches it";
     FormParent "form-parent" "parents are not tested" "no list of calls reaches it";
-    FormParentEqual "form-parent-equal" "a block may be its own parent" "no list of calls reaches it";
+    FormSecondRoot "form-second-root" "any block may be as block 0 is, its own parent at height 0" "no list of calls reaches it";
+    FormHeights "form-heights" "heights are not tested" "no list of calls reaches it";
+    FormRootHeight "form-root-height" "block 0's height is not tested" "no list of calls reaches it";
+    FormHeightAbove "form-height-above" "any height above the parent's has sound form" "no list of calls reaches it";
+    FormHeightUpTo "form-height-up-to" "any height up to one more than the parent's has sound form" "no list of calls reaches it";
+    FormHeightBefore "form-height-before" "a height must be one more than that of the block before" "in a list of calls it only refuses more";
+    FormHeightOnNumber "form-height-on-number" "a height must be one more than the parent's number" "in a list of calls it only refuses more";
+    FormLastHeight "form-last-height" "the last block's height is not tested" "no list of calls reaches it";
+    FormHeightsPast "form-heights-past" "heights past the count are tested too" "refuses more";
     FormStatus "form-status" "status is not tested" "no list of calls reaches it";
     FormFlag "form-flag" "flag is not tested" "no list of calls reaches it";
     FormBoot "form-boot" "boot is not tested" "no list of calls reaches it";
@@ -221,6 +251,7 @@ mistakes! {
     NettingUnsigned "netting-unsigned" "a balance below 0 is told as 0" "no call: netting changes no word";
     NettingOutsideLine "netting-outside-line" "a movement outside the chosen block's ancestry counts" "no call: netting changes no word";
     NettingByNumber "netting-by-number" "a movement of any block up to the chosen one's number counts" "no call: netting changes no word";
+    NettingByHeight "netting-by-height" "a movement of any block up to the chosen one's height counts" "no call: netting changes no word";
     NettingNotItself "netting-not-itself" "the chosen block's own movements do not count" "no call: netting changes no word";
     NettingOnlyItself "netting-only-itself" "only the chosen block's own movements count" "no call: netting changes no word";
     NettingCountedOnly "netting-counted-only" "only movements that count are tested" "no call: netting changes no word";

@@ -118,6 +118,10 @@ impl Counted {
         if rules.has(Mistake::NettingByNumber) {
             (0..=block.min(m.added())).for_each(|lower| counted.add(lower));
         }
+        if rules.has(Mistake::NettingByHeight) {
+            let no_higher = |other: &u32| m.height(*other) <= m.height(block);
+            (0..m.added()).filter(no_higher).for_each(|other| counted.add(other));
+        }
         counted
     }
 

@@ -1,10 +1,12 @@
-//! Open, with document 01's steps or a pool's own (document 02, #104). It reads no word of the memory.
+//! Open, with document 01's steps or a pool's own (document 02, #104). It reads no word of the memory, and of the blocks it
+//! writes the record of block 0 alone (#105).
 
-use crate::form::{blocks_length_fits, log_length_fits};
+use crate::block::{self, Block};
+use crate::form::log_length_fits;
 use crate::memory::*;
 use crate::mistake::{Mistake, Rules};
 use crate::refusal::*;
-use crate::steps::{Steps, OPENING};
+use crate::steps::{self, Steps};
 
 /// The list is the pool's own steps; "Opening without steps, in a script with an empty list, writes the eight of 01."
 pub fn open<R: Rules>(rules: R, m: &mut Memory, f: u32, list: &[u32]) -> Answer {
@@ -12,17 +14,19 @@ pub fn open<R: Rules>(rules: R, m: &mut Memory, f: u32, list: &[u32]) -> Answer 
     let steps = given_steps(rules, list);
     need(!rules.has(Mistake::OpenStepsFirst) || steps.is_some(), WRONG_STEPS)?;
     need((1..=MAX_F).contains(&f), OUT_OF_RANGE)?;
-    need(!rules.has(Mistake::OpenLengthsFirst) || lengths_fit(m, f), WRONG_FORM)?;
+    need(!rules.has(Mistake::OpenLengthsFirst) || lengths_fit(rules, m, f), WRONG_FORM)?;
     write_early(rules, m, list);
     let steps = steps.ok_or(WRONG_STEPS)?;
-    need(lengths_fit(m, f), WRONG_FORM)?;
+    need(lengths_fit(rules, m, f), WRONG_FORM)?;
     let kept = rules.has(Mistake::OpenEmptyKeepsSteps) && list.is_empty() && m.steps().are_sound();
     write(rules, m, f, if kept { m.steps() } else { steps });
     Ok((m.replicas(), 0))
 }
 
-fn lengths_fit(m: &Memory, f: u32) -> bool {
-    m.table.len() as u64 == table_length(f) && log_length_fits(m.log.len()) && blocks_length_fits(m.blocks.len())
+fn lengths_fit<R: Rules>(rules: R, m: &Memory, f: u32) -> bool {
+    m.table.len() as u64 == table_length(f)
+        && log_length_fits(m.log.len())
+        && block::length_fits(rules, m.blocks, &block::OPENING)
 }
 
 /// None where the list is neither empty nor eight sound steps.
@@ -30,7 +34,7 @@ fn given_steps<R: Rules>(rules: R, list: &[u32]) -> Option<Steps> {
     if list.is_empty() && !rules.has(Mistake::OpenEmptyRefused) {
         return Some(Steps::DEFAULT);
     }
-    eight(rules, list).filter(|steps| steps.fit(rules, &OPENING))
+    eight(rules, list).filter(|steps| steps.fit(rules, &steps::OPENING))
 }
 
 fn eight<R: Rules>(rules: R, list: &[u32]) -> Option<Steps> {
@@ -61,13 +65,31 @@ fn write<R: Rules>(rules: R, m: &mut Memory, f: u32, steps: Steps) {
     m.table[header::ISSUED] = 0;
     m.table[header::ADDED] = 1;
     m.set_steps(if rules.has(Mistake::OpenStepsNotKept) { Steps::DEFAULT } else { steps });
-    m.blocks[0] = 0;
+    first_block(rules, m).put(m.blocks, 0);
+    if rules.has(Mistake::OpenClearsBlocks) {
+        m.blocks[BLOCK_WORDS..].fill(0);
+    }
     if rules.has(Mistake::OpenClearsLog) {
         m.log.fill(0);
     }
     for replica in 0..m.replicas() {
         m.set_replica(replica, Replica::fresh(first_limit(rules, steps)));
     }
+}
+
+/// "opening writes both words of block 0".
+fn first_block<R: Rules>(rules: R, m: &Memory) -> Block {
+    let mut block = Block::FIRST;
+    if rules.has(Mistake::OpenParentLeft) {
+        block.parent = m.parent(0);
+    }
+    if rules.has(Mistake::OpenHeightLeft) {
+        block.height = m.height(0);
+    }
+    if rules.has(Mistake::OpenHeightOne) {
+        block.height = 1;
+    }
+    block
 }
 
 fn first_limit<R: Rules>(rules: R, steps: Steps) -> u32 {

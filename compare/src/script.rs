@@ -2,7 +2,7 @@
 
 use crate::call::{call, is_call, Outcome, MAX_LIST, OPEN};
 use crate::field::{read_number, write_number, COLUMNS, MAX_NUMBER, NO_NUMBER};
-use crate::memory::{table_length, Memory, CERTIFICATE_WORDS, MAX_F};
+use crate::memory::{table_length, Memory, BLOCK_WORDS, CERTIFICATE_WORDS, MAX_F};
 use crate::mistake::{Mistake, Rules};
 use crate::refusal::UNREADABLE;
 
@@ -39,7 +39,7 @@ impl<R: Rules> Program<R> {
             rules,
             table: vec![0; table_length(MAX_F) as usize],
             log: vec![0; CERTIFICATE_SLOTS * CERTIFICATE_WORDS],
-            blocks: vec![0; BLOCK_SLOTS],
+            blocks: vec![0; BLOCK_SLOTS * BLOCK_WORDS],
             f: 0,
             line: Vec::with_capacity(MAX_LINE_BYTES + 1),
             lines: 0,

@@ -3,7 +3,7 @@
 //! documents have them: derived from the library's constants they would hold for any others.
 
 use judge::call::{call, Outcome};
-use judge::memory::{replica_start, replica_word, table_length, Memory, CERTIFICATE_WORDS, MAX_F};
+use judge::memory::{replica_start, replica_word, table_length, Memory, BLOCK_WORDS, CERTIFICATE_WORDS, MAX_F};
 use judge::mistake::Correct;
 
 /// Code, replica, number and list of a call; its answer and both values.
@@ -26,8 +26,8 @@ struct Yard {
 
 impl Yard {
     fn with_slots(f: u32, certificates: usize, blocks: usize) -> Yard {
-        let table = vec![9; table_length(f) as usize];
-        let mut yard = Yard { table, log: vec![9; CERTIFICATE_WORDS * certificates], blocks: vec![9; blocks] };
+        let (log, blocks) = (vec![9; CERTIFICATE_WORDS * certificates], vec![9; BLOCK_WORDS * blocks]);
+        let mut yard = Yard { table: vec![9; table_length(f) as usize], log, blocks };
         assert_eq!(yard.call(0, f, 0, &[]), (0, 2 * f + 1, 0));
         yard
     }
@@ -96,10 +96,11 @@ fn the_script_and_its_continuation() {
 #[test]
 fn f_from_1_to_30() {
     for (f, answer) in [(0, 2), (1, 0), (30, 0), (31, 2), (99_999_999, 2), (u32::MAX, 2)] {
-        let mut yard = Yard { table: vec![7; table_length(f.clamp(1, MAX_F)) as usize], log: vec![], blocks: vec![5] };
+        let table = vec![7; table_length(f.clamp(1, MAX_F)) as usize];
+        let mut yard = Yard { table, log: vec![], blocks: vec![5, 5] };
         let given = yard.call(0, f, 0, &[]);
         assert_eq!(given.0, answer);
-        assert_eq!(yard.blocks[0], if answer == 0 { 0 } else { 5 });
+        assert_eq!(yard.blocks, if answer == 0 { [0, 0] } else { [5, 5] });
     }
 }
 
@@ -112,10 +113,11 @@ fn opening_tests_f_before_lengths() {
 
 #[test]
 fn lengths() {
-    let lent = [(0, 1, 0), (7 * 4096, 4096, 0), (7 * 4097, 1, 1), (6, 1, 1), (0, 0, 1), (0, 4097, 1)];
+    let lent =
+        [(0, 2, 0), (7 * 4096, 8192, 0), (7 * 4097, 2, 1), (6, 2, 1), (0, 0, 1), (0, 1, 1), (0, 3, 1), (0, 8194, 1)];
     for (log, blocks, answer) in lent {
         let mut yard = Yard { table: vec![7; 11 + 9 * 3], log: vec![7; log], blocks: vec![7; blocks] };
-        assert_eq!(yard.call(0, 1, 0, &[]).0, answer, "{log} words of log, {blocks} blocks");
+        assert_eq!(yard.call(0, 1, 0, &[]).0, answer, "{log} words of log, {blocks} of blocks");
     }
 }
 

@@ -1,11 +1,15 @@
-//! What the generators rest on ends whatever the calls answer; steps are sound or broken as they are meant to be.
+//! What the generators rest on ends whatever the calls answer; steps and blocks are sound or broken as they are meant to
+//! be; any memory is answered.
 
 use judge::call::{REBOOT, RESERVE};
 use judge::driver::Driver;
 use judge::field::MAX_NUMBER;
+use judge::generate::blocks::{damage_blocks, put_blocks};
+use judge::generate::memory::{sample, Sample};
 use judge::generate::steps::{broken_fields, broken_list, large_steps, small_steps, sound_steps};
 use judge::memory::{CEILING, RETIRED};
-use judge::mistake::Mistake;
+use judge::mistake::{Correct, Mistake};
+use judge::panel::panel;
 use judge::random::Random;
 use judge::steps::{Steps, FIRST_LIMIT};
 
@@ -45,5 +49,53 @@ fn steps_are_sound_or_broken_as_they_are_meant_to_be() {
             assert!((1..=31).contains(&broken.len()) && !are_steps(broken), "{broken:?}");
         }
         assert!(fields.iter().all(|&field| field <= MAX_NUMBER));
+    }
+}
+
+/// The rule in the document's own numbers.
+fn are_records(words: &[u32]) -> bool {
+    let height = |block: u32| words.get(2 * block as usize + 1).map(|&height| u64::from(height));
+    let rule = |(block, record): (u32, &[u32])| match block {
+        0 => record == [0, 0],
+        _ => record[0] < block && height(record[0]).map(|below| below + 1) == Some(u64::from(record[1])),
+    };
+    (0..).zip(words.chunks(2)).all(rule)
+}
+
+#[test]
+fn records_are_sound_until_they_are_damaged() {
+    let mut broken = 0;
+    for seed in 1..=2000 {
+        let mut random = Random::new(seed);
+        let added = random.within(1, 20);
+        let mut driver = Driver::open(Correct, 1, 0, added as usize);
+        let fork = random.pick(&[1, 2, 16]);
+        put_blocks(&mut random, &mut driver.blocks, added, fork);
+        driver.table[2] = added;
+        let mut sample = Sample::left_by(driver);
+        assert!(are_records(&sample.blocks), "{:?}", sample.blocks);
+        if added > 1 {
+            let block = random.within(1, added - 1);
+            sample.set_parent(block, random.below(block));
+            assert!(are_records(&sample.blocks), "{:?}", sample.blocks);
+        }
+        damage_blocks(&mut random, &mut sample);
+        broken += u32::from(!are_records(&sample.blocks));
+    }
+    assert!(broken > 1600, "only {broken} of 2000 are broken");
+}
+
+/// Damaged memories and calls, with each mistake: none goes past a slice or a number's end.
+#[test]
+fn any_memory_is_answered() {
+    for seed in 1..=500 {
+        let before = sample(seed);
+        let given = before.clone().run(Correct);
+        assert_eq!(before.clone().run(None::<Mistake>), given);
+        for &mistake in Mistake::ALL {
+            let mut after = before.clone();
+            let _ = panel(Some(mistake), &after.memory(), before.line.replica);
+            after.run(Some(mistake));
+        }
     }
 }

@@ -1,7 +1,9 @@
 //! Document 02, #103: whose turn a view is, at prepare and at store. Codes, words, numbers and answers are literal, and
 //! the turns are counted, not computed.
 
-use judge::call::Outcome;
+mod common;
+
+use common::{given, refused};
 use judge::driver::Driver;
 use judge::generate::progress::ledger_in_progress;
 use judge::leader::leader;
@@ -18,19 +20,6 @@ fn ledger(f: u32) -> Driver<Correct> {
     assert_eq!(driver.accepted(1, 0, 0, &[]), Some(1));
     assert_eq!(driver.accepted(1, 0, 1, &[]), Some(2));
     driver
-}
-
-fn given(driver: &mut Driver<Correct>, code: u32, replica: u32, number: u32, list: &[u32]) -> (u32, u32, u32) {
-    let Outcome { answer, first, second } = driver.call(code, replica, number, list);
-    (answer, first, second)
-}
-
-/// A refusal that leaves every word.
-fn refused(driver: &mut Driver<Correct>, answer: u32, code: u32, replica: u32, number: u32, list: &[u32]) {
-    let (table, log, blocks) = (driver.table.clone(), driver.log.clone(), driver.blocks.clone());
-    let told = given(driver, code, replica, number, list);
-    assert_eq!(told, (answer, 0, 0), "code {code}, box {replica} of {}, number {number}", driver.n());
-    assert!(driver.table == table && driver.log == log && driver.blocks == blocks);
 }
 
 /// Puts a certificate into the log by hand; its number.

@@ -1,7 +1,9 @@
 //! Document 02, #101: its limits and orders, worked cases, and its law of two decided blocks on random runs. Numbers and
 //! answers are literal, as the document has them.
 
-use judge::ancestry::height;
+mod common;
+
+use common::steps_up;
 use judge::driver::Driver;
 use judge::explore::Explorer;
 use judge::generate::netting::netting;
@@ -146,7 +148,8 @@ fn the_lowest_refusal_wins() {
     assert_eq!(net(&mut driver, &wrong, 2, 3), Err(2));
     assert_eq!(words_net(&mut driver, &[0, 3, 3], 2, 3), Err(1));
     assert_eq!(net(&mut driver, &vec![[0, 3, 3, 0]; 2_049], 2, 3), Err(1));
-    driver.blocks[1] = 1;
+    // Block 1 becomes its own parent.
+    driver.blocks[2] = 1;
     assert_eq!(net(&mut driver, &wrong, 2, 3), Err(1));
     assert_eq!(net(&mut driver, &[], 0, 0), Err(1));
 }
@@ -154,7 +157,8 @@ fn the_lowest_refusal_wins() {
 #[test]
 fn any_memory_of_wrong_form() {
     let good = ledger(1, &[0]);
-    let lengths = [(0, 28, 8), (2, 28, 8), (37, 28, 8), (39, 28, 8), (38, 27, 8), (38, 28, 0), (38, 28, 1)];
+    let lengths =
+        [(0, 28, 16), (2, 28, 16), (37, 28, 16), (39, 28, 16), (38, 27, 16), (38, 28, 0), (38, 28, 2), (38, 28, 15)];
     for (table, log, blocks) in lengths {
         let mut driver = ledger(1, &[0]);
         driver.table.resize(table, 0);
@@ -162,7 +166,7 @@ fn any_memory_of_wrong_form() {
         driver.blocks.resize(blocks, 0);
         assert_eq!(net(&mut driver, &[[1, 0, 1, 5]], 1, 1), Err(1), "{table} {log} {blocks}");
     }
-    assert_eq!((good.table.len(), good.log.len(), good.blocks.len()), (38, 28, 8));
+    assert_eq!((good.table.len(), good.log.len(), good.blocks.len()), (38, 28, 16));
 }
 
 /// Damaged memories and lists, with each mistake: no netting goes past a slice or a number's end.
@@ -217,7 +221,7 @@ fn the_longer_line_counts_what_the_other_counts() {
 }
 
 fn compare_lines(driver: &mut Driver<Correct>, one: u32, other: u32) -> u32 {
-    let (high, low) = (height(&driver.blocks, one), height(&driver.blocks, other));
+    let (high, low) = (steps_up(driver, one), steps_up(driver, other));
     assert_ne!(high, low, "two blocks of one height");
     let (longer, shorter) = if high > low { (one, other) } else { (other, one) };
     let (more, fewer) = (counted(driver, longer), counted(driver, shorter));

@@ -1,36 +1,20 @@
 //! Document 02, #104: a pool's own steps, at opening, in the form, in use and in a script. Codes, words, numbers and
 //! answers are literal, as the documents have them.
 
-use judge::call::Outcome;
+mod common;
+
+use common::{answers, given, refused, wrong_form};
 use judge::driver::Driver;
 use judge::mistake::Correct;
-use judge::netting::balance;
-use judge::panel::panel;
-use judge::script::run;
 
 const DOCUMENT_01: [u32; 8] = [64, 64, 128, 128, 256, 256, 512, 1024];
 const TENS: [u32; 8] = [10, 20, 30, 40, 50, 60, 70, 80];
 const DOUBLED: [u32; 8] = [1, 2, 4, 8, 16, 32, 64, 128];
 
-type Given = (u32, u32, u32);
-
 fn opened(f: u32, steps: &[u32]) -> Driver<Correct> {
     let mut driver = Driver::open_with_steps(Correct, f, steps, 64, 8);
     assert_eq!(given(&mut driver, 0, f, 0, steps), (0, 2 * f + 1, 0));
     driver
-}
-
-fn given(driver: &mut Driver<Correct>, code: u32, replica: u32, number: u32, list: &[u32]) -> Given {
-    let Outcome { answer, first, second } = driver.call(code, replica, number, list);
-    (answer, first, second)
-}
-
-/// A refusal that leaves every word.
-fn refused(driver: &mut Driver<Correct>, answer: u32, code: u32, replica: u32, number: u32, list: &[u32]) {
-    let (table, log, blocks) = (driver.table.clone(), driver.log.clone(), driver.blocks.clone());
-    let told = given(driver, code, replica, number, list);
-    assert_eq!(told, (answer, 0, 0), "code {code}, box {replica}, number {number}, list {list:?}");
-    assert!(driver.table == table && driver.log == log && driver.blocks == blocks);
 }
 
 /// What an opening with f = 1 gives on a memory full of 9s, of just the right lengths.
@@ -72,7 +56,7 @@ fn the_log_and_the_other_blocks_are_not_touched() {
     driver.log.fill(9);
     driver.blocks.fill(9);
     assert_eq!(given(&mut driver, 0, 1, 0, &DOUBLED), (0, 3, 0));
-    assert_eq!((driver.log, driver.blocks), (vec![9; 14], vec![0, 9]));
+    assert_eq!((driver.log, driver.blocks), (vec![9; 14], vec![0, 0, 9, 9]));
 }
 
 #[test]
@@ -117,7 +101,7 @@ fn eight_or_none() {
 #[test]
 fn openings_refusals_are_2_then_12_then_1() {
     let wrong = with(0, 0, TENS);
-    for (table, log, blocks) in [(37, 14, 2), (38, 13, 2), (38, 14, 0), (0, 0, 0), (30, 14, 2)] {
+    for (table, log, blocks) in [(37, 14, 4), (38, 13, 4), (38, 14, 0), (38, 14, 3), (0, 0, 0), (30, 14, 4)] {
         let mut driver = Driver::open(Correct, 1, 2, 2);
         driver.table.resize(table, 9);
         driver.log.resize(log, 9);
@@ -236,30 +220,15 @@ fn steps_of_4000_meet_the_ceiling() {
     assert_eq!(driver.table[20], 2);
 }
 
-/// Every call but opening, with numbers that sound form would have answered otherwise.
-const CALLS: &[(u32, u32, u32, &[u32])] = &[
-    (1, 0, 0, &[]),
-    (2, 0, 1, &[0]),
-    (3, 0, 1, &[0, 0]),
-    (4, 0, 0, &[]),
-    (5, 0, 1, &[]),
-    (6, 0, 0, &[0, 0]),
-    (7, 0, 0, &[0, 0]),
-    (8, 0, 0, &[]),
-    (9, 0, 0, &[]),
-    (10, 0, 0, &[]),
-    (11, 0, 0, &[]),
-    (12, 0, 0, &[0, 0]),
-];
-
-fn form_refuses(steps: [u32; 8]) {
+/// A ledger with these words for its steps.
+fn with_steps(steps: [u32; 8]) -> Driver<Correct> {
     let mut driver = opened(1, &[]);
     driver.table[3..11].copy_from_slice(&steps);
-    for &(code, replica, number, list) in CALLS {
-        refused(&mut driver, 1, code, replica, number, list);
-    }
-    assert_eq!(panel(Correct, &driver.memory(), 0), Err(1), "{steps:?}");
-    assert_eq!(balance(Correct, &driver.memory(), &[], 0, 0), Err(1), "{steps:?}");
+    driver
+}
+
+fn form_refuses(steps: [u32; 8]) {
+    assert!(wrong_form(&mut with_steps(steps)), "{steps:?}");
 }
 
 #[test]
@@ -279,26 +248,8 @@ fn the_form_test_covers_the_steps() {
 #[test]
 fn sound_steps_have_sound_form() {
     for steps in [[1; 8], [4096; 8], TENS, DOUBLED, with(0, 1, [4096; 8]), with(7, 4096, [1; 8])] {
-        let mut driver = opened(1, &[]);
-        driver.table[3..11].copy_from_slice(&steps);
-        for &(code, replica, number, list) in CALLS {
-            assert_ne!(given(&mut driver, code, replica, number, list).0, 1, "{steps:?}, code {code}");
-        }
-        assert_eq!(panel(Correct, &driver.memory(), 0), Ok(0));
-        assert_eq!(balance(Correct, &driver.memory(), &[], 0, 0), Ok(0));
+        assert!(!wrong_form(&mut with_steps(steps)), "{steps:?}");
     }
-}
-
-fn line(fields: &[u32]) -> String {
-    fields.iter().map(|field| format!("{field:8}")).collect::<String>() + "\n"
-}
-
-/// A script's answers with both values.
-fn answers(lines: &[&[u32]]) -> Vec<Given> {
-    let script: String = lines.iter().map(|fields| line(fields)).collect();
-    let out = String::from_utf8(run(Correct, script.as_bytes())).unwrap();
-    let number = |text: &str, field: usize| text[8 * field..8 * field + 8].trim().parse().unwrap();
-    out.lines().map(|text| (number(text, 1), number(text, 2), number(text, 3))).collect()
 }
 
 /// Document 01's script, as #103 leaves it, and its continuation: bounds of 2 where they were 64.

@@ -1,4 +1,4 @@
-//! The benchmark's scripts, timing, tables and plot, the form test beside a bare sum, and nettings.
+//! The benchmark's scripts, timing, tables and plot, the form test beside a bare sum and a panel, and nettings.
 
 pub mod fit;
 pub mod form_test;
@@ -8,3 +8,8 @@ pub mod netting;
 pub mod plot;
 pub mod tables;
 pub mod timing;
+
+use crate::comparison::checkers::Checker;
+
+/// What is timed in the benchmark's own process.
+type Named<'a> = (&'static str, &'a dyn Checker);

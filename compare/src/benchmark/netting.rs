@@ -3,6 +3,7 @@
 use super::fit::straight;
 use super::tables::thousands;
 use super::timing::best_in_turn;
+use super::Named;
 use crate::call::BLOCK;
 use crate::comparison::checkers::{Checker, Library};
 use crate::comparison::nettings::netting_difference;
@@ -19,8 +20,6 @@ const HEIGHTS: [usize; 2] = [BLOCK_SLOTS - 1, MAX_BLOCKS - 1];
 const MOVEMENTS: [usize; 5] = [0, MAX_MOVEMENTS / 8, MAX_MOVEMENTS / 4, MAX_MOVEMENTS / 2, MAX_MOVEMENTS];
 
 const NO_FIRMWARE: &str = "This was built without the feature `firmware`: there is no firmware to time.\n\n";
-
-type Named<'a> = (&'static str, &'a dyn Checker);
 
 /// Microseconds of each checker at one height: of the form test alone, and of a netting by its movements.
 struct Measured {

@@ -99,6 +99,18 @@ impl Bench<'_> {
         Ok(table)
     }
 
+    /// A panel at the greatest height beside the form test alone, on the same memory.
+    pub fn panel(&self, firmware: Option<&dyn Checker>) -> Result<String, String> {
+        let height = thousands(form_test::GREATEST_HEIGHT as usize);
+        let mut table = format!(
+            "| Panel | Form test alone, microseconds | At height {height}, microseconds | Ratio |\n|---|---|---|---|\n"
+        );
+        for (name, [form, panel]) in form_test::panels(firmware, self.calls, self.runs)? {
+            table += &format!("| {name} | {form:.2} | {panel:.2} | {:.2} |\n", panel / form);
+        }
+        Ok(table)
+    }
+
     /// One netting by its height and movements, and what a step of it costs.
     pub fn netting(&self, firmware: Option<&dyn Checker>) -> Result<(String, String), String> {
         netting::section(firmware, self.netting_calls(), self.runs)

@@ -4,6 +4,7 @@
 //!       [--runs N] [--lines N] [--text-lines N] [--calls N] [--seed N]
 //! Run in compare/. Without paths: ../target/bin/yard, the programs beside this one, ../docs/benchmark.svg, and no page.
 
+use judge::benchmark::form_test::GREATEST_HEIGHT;
 use judge::benchmark::inputs::LONG_LINE;
 use judge::benchmark::machine;
 use judge::benchmark::netting::most_steps;
@@ -49,6 +50,7 @@ fn work(options: &Options) -> Result<(), String> {
         ("growth", growth),
         ("fit", fit(&series)),
         ("form", bench.form(firmware())?),
+        ("panel", bench.panel(firmware())?),
         ("netting", netting),
         ("steps", steps),
     ];
@@ -61,7 +63,7 @@ fn work(options: &Options) -> Result<(), String> {
 }
 
 /// What the page says of how much was run.
-fn sizes(bench: &Bench) -> [(&'static str, String); 10] {
+fn sizes(bench: &Bench) -> [(&'static str, String); 11] {
     let (most_steps, steps_of_walks) = most_steps();
     [
         ("runs", bench.runs.to_string()),
@@ -74,6 +76,7 @@ fn sizes(bench: &Bench) -> [(&'static str, String); 10] {
         ("certificates", thousands(CERTIFICATE_SLOTS)),
         ("blocks", thousands(BLOCK_SLOTS)),
         ("long", thousands(LONG_LINE)),
+        ("greatest height", thousands(GREATEST_HEIGHT as usize)),
     ]
 }
 

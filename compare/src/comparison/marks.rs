@@ -1,6 +1,6 @@
 //! What a script's line can show that the generators are meant to reach.
 
-use super::step_marks;
+use super::{height_marks, step_marks};
 use crate::call::*;
 use crate::certificate::{Certificate, ADDED, FOUND};
 use crate::field::{read_number, COLUMNS, NO_NUMBER};
@@ -34,6 +34,15 @@ pub struct Seen<'a> {
     pub replica: Option<Replica>,
     /// Since its last accepted opening, another f was refused with wrong steps.
     pub other_refused: bool,
+    /// The block that an accepted block or decide gives.
+    pub named: Option<Named>,
+}
+
+pub struct Named {
+    pub number: u32,
+    pub height: u32,
+    /// Of the block before it in number.
+    pub height_before: u32,
 }
 
 struct Proposal {
@@ -190,13 +199,13 @@ const MARKS: &[Mark] = &[
 /// Every mark's name.
 pub fn names() -> Vec<String> {
     let marks = MARKS.iter().map(|(mark, _)| mark.to_string());
-    marks.chain(step_marks::script_names()).collect()
+    marks.chain(step_marks::script_names()).chain(height_marks::script_names()).collect()
 }
 
 /// In the order of the names.
 pub fn hits(seen: &Seen) -> Vec<bool> {
     let marks = MARKS.iter().map(|(_, holds)| holds(seen));
-    marks.chain(step_marks::script_hits(seen)).collect()
+    marks.chain(step_marks::script_hits(seen)).chain(height_marks::script_hits(seen)).collect()
 }
 
 /// Shows every line of a script.
@@ -215,9 +224,24 @@ pub fn seen_lines(script: &[u8], mut show: impl FnMut(Seen)) {
         let (again, full) = (ledger.accepted.contains(text), ledger.issued == CERTIFICATE_SLOTS);
         let proposes = outcome.is_accepted() && [PREPARE_ACC, PREPARE_COMMITS].contains(&code);
         let proposal = proposes.then(|| ledger.proposal(&mut program, outcome.first));
+        let named = named_block(&mut program, code, outcome);
         let other_refused = ledger.other_refused;
         ledger.note_refused_opening(&mut program, &numbers, outcome);
-        show(Seen { start, text, fed, code, outcome, again, full, proposal, numbers, steps, replica, other_refused });
+        show(Seen {
+            start,
+            text,
+            fed,
+            code,
+            outcome,
+            again,
+            full,
+            proposal,
+            numbers,
+            steps,
+            replica,
+            other_refused,
+            named,
+        });
         ledger.note(text, code, outcome);
         start += line.len();
     }
@@ -236,6 +260,13 @@ fn in_use(program: &mut Program<Correct>) -> Option<Memory<'_>> {
 fn named_replica(program: &mut Program<Correct>, replica: u32) -> Option<Replica> {
     let memory = in_use(program)?;
     memory.is_replica(replica).then(|| memory.replica(replica))
+}
+
+fn named_block(program: &mut Program<Correct>, code: u32, outcome: Outcome) -> Option<Named> {
+    let gives_block = outcome.is_accepted() && [BLOCK, DECIDE].contains(&code);
+    let memory = in_use(program).filter(|_| gives_block)?;
+    let number = outcome.first;
+    Some(Named { number, height: memory.height(number), height_before: memory.height(number.saturating_sub(1)) })
 }
 
 /// What the program gives for one more line; only the last may lack its line feed.

@@ -1,7 +1,7 @@
 //! What a call on a memory can show that the generators are meant to reach: certificates found and added, and leaders,
 //! also as in no list of calls.
 
-use super::step_marks;
+use super::{height_marks, step_marks};
 use crate::call::*;
 use crate::certificate::{Certificate, ADDED, FOUND};
 use crate::driver::Line;
@@ -15,7 +15,7 @@ use crate::refusal::*;
 pub struct Seen {
     pub before: Sample,
     pub outcome: Outcome,
-    after: Sample,
+    pub after: Sample,
 }
 
 impl Seen {
@@ -149,11 +149,15 @@ const MARKS: &[Mark] = &[
 /// Every mark's name.
 pub fn names() -> Vec<String> {
     let marks = MARKS.iter().map(|(mark, _)| mark.to_string());
-    marks.chain(step_marks::memory_names()).map(|mark| format!("memory: {mark}")).collect()
+    marks
+        .chain(step_marks::memory_names())
+        .chain(height_marks::memory_names())
+        .map(|mark| format!("memory: {mark}"))
+        .collect()
 }
 
 /// In the order of the names.
 pub fn hits(seen: &Seen) -> Vec<bool> {
     let marks = MARKS.iter().map(|(_, holds)| holds(seen));
-    marks.chain(step_marks::memory_hits(seen)).collect()
+    marks.chain(step_marks::memory_hits(seen)).chain(height_marks::memory_hits(seen)).collect()
 }

@@ -4,6 +4,7 @@ pub mod checkers;
 pub mod coverage;
 #[cfg(feature = "firmware")]
 pub mod firmware;
+pub mod height_marks;
 pub mod marks;
 pub mod memory_marks;
 pub mod mistakes;

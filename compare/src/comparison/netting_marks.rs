@@ -1,7 +1,9 @@
 //! What a netting can show that the generators are meant to reach: each refusal for each of its reasons alone, two
 //! refusals at once, every limit met, balances of either sign.
 
-use crate::ancestry::{ancestors, height};
+use super::height_marks::FAR;
+use crate::ancestry::ancestors;
+use crate::block::Block;
 use crate::form::well_formed;
 use crate::generate::netting::{netting, Netting, DECIDED_BLOCKS, NETTING_SORTS};
 use crate::memory::*;
@@ -94,7 +96,7 @@ impl Seen {
     fn decided_heights(&self) -> Vec<u32> {
         let Netting { sort, memory, .. } = &self.netting;
         let replicas = memory.table.get(REPLICAS_START..).unwrap_or(&[]).chunks_exact(REPLICA_WORDS);
-        let decided = replicas.map(|words| height(&memory.blocks, Replica::from_words(words).decided_block));
+        let decided = replicas.map(|words| self.height(Replica::from_words(words).decided_block));
         if *sort == DECIDED_BLOCKS && self.sound_memory {
             decided.filter(|&height| height > 0).collect()
         } else {
@@ -104,6 +106,17 @@ impl Seen {
 
     fn chosen_height(&self) -> u32 {
         self.ancestry.len() as u32 - 1
+    }
+
+    /// As the block's record has it.
+    fn height(&self, block: u32) -> u32 {
+        Block::at(&self.netting.memory.blocks, block).unwrap_or_default().height
+    }
+
+    /// Wrong form, and the chosen block's record has another height than its ancestry.
+    fn wrong_height(&self) -> bool {
+        let added = self.netting.block < self.added;
+        !self.sound_memory && added && self.height(self.netting.block) != self.chosen_height()
     }
 
     /// Whole records so many, then a part of one: refused for that, and maybe for its length too.
@@ -184,6 +197,11 @@ const MARKS: &[(&str, Test)] = &[
         seen.accepts(|m| !seen.counts(m)) && seen.any(|m| seen.counts(m))
     }),
     ("a fork: outside, of a lower number", |seen| seen.accepts(|m| m.block < seen.netting.block && !seen.counts(m))),
+    ("a fork: outside, no higher than the chosen block", |seen| {
+        seen.accepts(|m| !seen.counts(m) && seen.height(m.block) <= seen.chosen_height())
+    }),
+    ("wrong form: another height of the chosen block", |seen| seen.wrong_height()),
+    ("wrong form: another height far up the chain", |seen| seen.wrong_height() && seen.chosen_height() > FAR),
     ("a wrong movement that would count", |seen| seen.wrong_movement(true)),
     ("a wrong movement that would not count", |seen| seen.wrong_movement(false)),
     ("a wrong first movement", |seen| seen.wrong_alone(|list| list.first())),

@@ -1,6 +1,7 @@
 //! Makes a script or a memory smaller as long as it still shows the difference.
 
 use super::renumber::Lines;
+use crate::block::{block_slots, Block};
 use crate::generate::memory::Sample;
 use crate::memory::*;
 use crate::steps::Steps;
@@ -69,59 +70,78 @@ fn without_runs(
     kept
 }
 
-/// Drops free slots and the last certificates, shortens the list, and sets words to 0 or to a fresh table's.
+/// Drops free slots, the last certificates and the last blocks, shortens the list, and sets words to 0 or to a fresh
+/// table's and parents to block 0.
 pub fn shrink_sample(sample: &Sample, differs: impl Fn(&Sample) -> bool) -> Sample {
     let end = Instant::now() + TIME;
     let mut best = sample.clone();
     let mut smaller = true;
     while smaller && Instant::now() < end {
-        smaller = false;
-        for next in candidates(&best) {
-            if next != best && differs(&next) {
-                best = next;
-                smaller = true;
-                break;
-            }
-        }
+        let next = changes(&best).iter().find_map(|change| changed(&best, change, &differs));
+        smaller = next.is_some();
+        best = next.unwrap_or(best);
     }
     best
 }
 
-/// Memories one step simpler than this one.
-fn candidates(sample: &Sample) -> Vec<Sample> {
-    let mut all = Vec::new();
-    let mut add = |change: &dyn Fn(&mut Sample)| {
-        let mut next = sample.clone();
-        change(&mut next);
-        all.push(next);
-    };
+type Change = Box<dyn Fn(&mut Sample)>;
+
+/// The changed memory, where it is another and the difference stays.
+fn changed(sample: &Sample, change: &Change, differs: &impl Fn(&Sample) -> bool) -> Option<Sample> {
+    let mut next = sample.clone();
+    change(&mut next);
+    (next != *sample && differs(&next)).then_some(next)
+}
+
+/// What makes a memory one step simpler.
+fn changes(sample: &Sample) -> Vec<Change> {
+    let mut all: Vec<Change> = Vec::new();
     let kept = sample.log.len().saturating_sub(CERTIFICATE_WORDS);
-    add(&|next| next.log.truncate(kept));
+    all.push(Box::new(move |next| next.log.truncate(kept)));
     if sample.table.len() >= HEADER_WORDS && sample.table[header::ISSUED] > 0 {
-        add(&|next| next.table[header::ISSUED] -= 1);
-        add(&|next| {
+        all.push(Box::new(|next| next.table[header::ISSUED] -= 1));
+        all.push(Box::new(move |next| {
             next.table[header::ISSUED] -= 1;
             next.log.truncate(kept);
-        });
+        }));
     }
-    if sample.blocks.len() > 1 {
-        add(&|next| next.blocks.truncate(sample.blocks.len() - 1));
-    }
-    if !sample.line.list.is_empty() {
-        add(&|next| next.line.list.truncate(sample.line.list.len() - 1));
-    }
+    all.extend(block_changes(sample));
+    all.push(Box::new(|next| next.line.list.truncate(next.line.list.len().saturating_sub(1))));
     for (word, fresh) in fresh_words().enumerate().take(sample.table.len()).skip(HEADER_WORDS) {
-        if sample.table[word] != fresh {
-            add(&|next| next.table[word] = fresh);
-        }
+        all.push(Box::new(move |next| next.table[word] = fresh));
     }
-    for word in (0..sample.log.len()).filter(|&word| sample.log[word] > 1) {
-        add(&|next| next.log[word] = next.log[word].min(1));
-    }
-    for word in (0..sample.blocks.len()).filter(|&word| sample.blocks[word] != 0) {
-        add(&|next| next.blocks[word] = 0);
+    for word in 0..sample.log.len() {
+        all.push(Box::new(move |next| next.log[word] = next.log[word].min(1)));
     }
     all
+}
+
+/// Fewer blocks, at first many fewer, and a word less; then blocks on block 0, with the heights for it, and words of 0.
+fn block_changes(sample: &Sample) -> Vec<Change> {
+    let mut all: Vec<Change> = Vec::new();
+    let mut run = block_slots(&sample.blocks);
+    while run > 0 {
+        all.push(Box::new(move |next| drop_blocks(next, run)));
+        run /= 2;
+    }
+    all.push(Box::new(|next| next.blocks.truncate(next.blocks.len().saturating_sub(1))));
+    if sample.table.len() >= HEADER_WORDS {
+        let higher = |block: &u32| Block::at(&sample.blocks, *block).is_some_and(|record| record.parent != 0);
+        let blocks = (1..block_slots(&sample.blocks) as u32).filter(higher);
+        all.extend(blocks.map(|block| Box::new(move |next: &mut Sample| next.set_parent(block, 0)) as Change));
+    }
+    let words = 0..sample.blocks.len();
+    all.extend(words.map(|word| Box::new(move |next: &mut Sample| next.blocks[word] = 0) as Change));
+    all
+}
+
+/// Leaves out the last blocks, so many of them.
+pub fn drop_blocks(sample: &mut Sample, run: usize) {
+    let slots = block_slots(&sample.blocks).saturating_sub(run);
+    sample.blocks.truncate(BLOCK_WORDS * slots);
+    if let Some(word) = sample.table.get_mut(header::ADDED) {
+        *word = (*word).min(slots as u32);
+    }
 }
 
 /// A table's words as an opening without steps leaves them, for any number of replicas; the header's are 0.
@@ -141,10 +161,11 @@ pub fn memory_text(sample: &Sample) -> String {
     let (head, replicas) = sample.table.split_at(sample.table.len().min(REPLICAS_START));
     let (head, steps) = head.split_at(head.len().min(HEADER_WORDS));
     format!(
-        "  table {head:?}, steps {steps:?}\n{}  log, {} words\n{}  blocks {:?}\n",
+        "  table {head:?}, steps {steps:?}\n{}  log, {} words\n{}  blocks, {} words: {:?}\n",
         rows(replicas, REPLICA_WORDS),
         sample.log.len(),
         rows(&sample.log, CERTIFICATE_WORDS),
-        sample.blocks
+        sample.blocks.len(),
+        sample.blocks.chunks(BLOCK_WORDS).collect::<Vec<_>>()
     )
 }

@@ -1,8 +1,9 @@
 //! Makes a netting smaller as long as it still shows the difference.
 
-use super::shrink::{memory_text, shrink_sample, TIME};
+use super::shrink::{drop_blocks, memory_text, shrink_sample, TIME};
+use crate::block::block_slots;
 use crate::generate::netting::Netting;
-use crate::memory::{header, MOVEMENT_WORDS};
+use crate::memory::MOVEMENT_WORDS;
 use std::time::Instant;
 
 /// Drops movements, sets their words and the question to small numbers, drops blocks, then shrinks the memory.
@@ -73,15 +74,9 @@ const SMALLER: [fn(u32) -> u32; 4] = [|_| 0, |word| word.min(1), |word| word / 2
 
 /// Leaves out the last added blocks, many at once first.
 fn with_fewer_blocks(mut best: Netting, differs: &impl Fn(&Netting) -> bool) -> Netting {
-    let mut run = best.memory.blocks.len();
+    let mut run = block_slots(&best.memory.blocks);
     while run > 0 {
-        best = changed(best, differs, |next| {
-            let added = next.memory.blocks.len().saturating_sub(run);
-            next.memory.blocks.truncate(added);
-            if let Some(word) = next.memory.table.get_mut(header::ADDED) {
-                *word = (*word).min(added as u32);
-            }
-        });
+        best = changed(best, differs, |next| drop_blocks(&mut next.memory, run));
         run /= 2;
     }
     best

@@ -1,5 +1,6 @@
 //! Random memory of sound form, with garbage past the counts, and one call.
 
+use super::blocks::{any_added, put_blocks};
 use super::perturb::{damage_form, nudge};
 use super::ready::make_ready;
 use super::steps::{any_list, sound_steps};
@@ -63,6 +64,9 @@ pub fn sample(seed: u64) -> Sample {
     if random.once_in(3) {
         damage_form(&mut random, &mut sample);
     }
+    if sample.line.code == OPEN && random.once_in(4) {
+        sample.blocks.fill_with(|| garbage(&mut random));
+    }
     sample
 }
 
@@ -121,24 +125,22 @@ fn any_boot(random: &mut Random) -> u32 {
 
 fn well_formed_memory(random: &mut Random) -> Sample {
     let f = random.pick(&[1, 1, 1, 2, 2, 3, 5, MAX_F]);
-    let added = random.within(1, 6);
+    let added = any_added(random);
     let quorum = f + 1;
     let issued = if random.once_in(6) { random.below(4) } else { quorum + random.below(5) };
     let free = random.pick(&[0, 1, 1, 2, 3]);
-    let blocks = added + random.pick(&[0, 1, 2]);
+    let slots = (added + random.pick(&[0, 1, 2])).min(MAX_BLOCKS as u32);
     let mut sample = Sample {
         table: vec![0; table_length(f) as usize],
         log: (0..CERTIFICATE_WORDS as u32 * (issued + free)).map(|_| garbage(random)).collect(),
-        blocks: (0..blocks).map(|_| garbage(random)).collect(),
+        blocks: (0..BLOCK_WORDS as u32 * slots).map(|_| garbage(random)).collect(),
         line: Line::new(OPEN, 0, 0, &[]),
     };
     sample.table[..HEADER_WORDS].copy_from_slice(&[f, issued, added]);
     let steps = if random.once_in(2) { Steps::DEFAULT } else { sound_steps(random) };
     sample.memory().set_steps(steps);
-    sample.blocks[0] = 0;
-    for block in 1..added {
-        sample.blocks[block as usize] = random.below(block);
-    }
+    let fork = random.pick(&[1, 2, 16, u32::MAX]);
+    put_blocks(random, &mut sample.blocks, added, fork);
     for replica in 0..sample.n() {
         let r = any_replica(random, added);
         sample.memory().set_replica(replica, r);

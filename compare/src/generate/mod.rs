@@ -1,5 +1,6 @@
 //! Seeded generators: scripts, memories with one call each, nettings, and the steps that they open with.
 
+pub mod blocks;
 pub mod boundary;
 pub mod chunks;
 pub mod damage;

@@ -1,5 +1,6 @@
 //! A memory, a list of movements, and the block and replica that are asked for.
 
+use super::blocks::{damage_blocks, put_blocks};
 use super::memory::{sample, Sample};
 use super::movements::{any_list, extreme_list, Limits};
 use super::progress::ledger_in_progress;
@@ -85,20 +86,24 @@ fn decided_blocks(random: &mut Random) -> Sample {
     }
     let slots = driver.issued() + random.below(2);
     driver.log.truncate(CERTIFICATE_WORDS * slots as usize);
-    driver.blocks.truncate((driver.added() + random.below(2)) as usize);
+    let slots = driver.added() + random.below(2);
+    driver.blocks.truncate(BLOCK_WORDS * slots as usize);
     Sample::left_by(driver)
 }
 
-/// Fresh replicas over up to as many blocks as there may be, each on the one before but for some forks.
+/// Fresh replicas over up to as many blocks as there may be, each on the one before but for some forks; now and then a
+/// record breaks the form.
 fn long_chain(random: &mut Random) -> Sample {
     let f = random.pick(&[1, 2, 7, MAX_F]);
     let slots = random.pick(&[2, 16, 256, MAX_BLOCKS - 1, MAX_BLOCKS, MAX_BLOCKS]);
     let mut driver = Driver::open(Correct, f, random.below(2) as usize, slots);
     let added = slots as u32 - random.below(2);
     let fork = random.pick(&[2, 16, 256, u32::MAX]);
-    for block in 1..added {
-        driver.blocks[block as usize] = if random.once_in(fork) { random.below(block) } else { block - 1 };
-    }
+    put_blocks(random, &mut driver.blocks, added, fork);
     driver.table[header::ADDED] = added;
-    Sample::left_by(driver)
+    let mut sample = Sample::left_by(driver);
+    if random.once_in(8) {
+        damage_blocks(random, &mut sample);
+    }
+    sample
 }

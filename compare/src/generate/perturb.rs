@@ -1,7 +1,9 @@
 //! Small changes to a ready memory: nudges that keep the form, damage that breaks it, wrong lengths.
 
+use super::blocks::{damage_block_lengths, damage_blocks};
 use super::memory::Sample;
 use super::steps::broken_steps;
+use crate::block::block_slots;
 use crate::call::{LAST_CODE, MAX_LIST, PREPARE_ACC, REBOOT};
 use crate::certificate::{Certificate, LAST_KIND};
 use crate::memory::*;
@@ -68,13 +70,14 @@ fn nudge_line(random: &mut Random, sample: &mut Sample) {
 
 /// Breaks the form in one word or in a length, mostly by just one too much.
 pub fn damage_form(random: &mut Random, sample: &mut Sample) {
-    match random.below(18) {
+    match random.below(25) {
         0..=5 => damage_certificate(random, sample),
         6..=10 => damage_replica(random, sample),
-        11..=12 => damage_blocks(random, sample),
-        13 => damage_counts(random, sample),
-        14 => damage_f(random, sample),
-        15..=16 => sample.memory().set_steps(broken_steps(random)),
+        11..=16 => damage_blocks(random, sample),
+        17 => damage_counts(random, sample),
+        18 => damage_f(random, sample),
+        19..=20 => sample.memory().set_steps(broken_steps(random)),
+        21..=22 => damage_block_lengths(random, sample),
         _ => damage_lengths(random, sample),
     }
 }
@@ -118,17 +121,11 @@ fn damage_replica(random: &mut Random, sample: &mut Sample) {
     sample.table[replica_start(replica) + word] = if random.once_in(6) { u32::MAX } else { past.words()[word] };
 }
 
-fn damage_blocks(random: &mut Random, sample: &mut Sample) {
-    let added = sample.table[header::ADDED].min(sample.blocks.len() as u32);
-    let block = random.below(added.max(1));
-    sample.blocks[block as usize] = block + random.pick(&[0, 1, 2]);
-}
-
 fn damage_counts(random: &mut Random, sample: &mut Sample) {
     let slots = (sample.log.len() / CERTIFICATE_WORDS) as u32;
     match random.below(4) {
         0 => sample.table[header::ISSUED] = slots + 1,
-        1 => sample.table[header::ADDED] = sample.blocks.len() as u32 + 1,
+        1 => sample.table[header::ADDED] = random.pick(&[block_slots(&sample.blocks) + 1, sample.blocks.len()]) as u32,
         2 => sample.table[header::ADDED] = 0,
         _ => sample.table[random.pick(&[header::ISSUED, header::ADDED])] = u32::MAX,
     }
@@ -149,7 +146,7 @@ fn damage_f(random: &mut Random, sample: &mut Sample) {
 }
 
 fn damage_lengths(random: &mut Random, sample: &mut Sample) {
-    match random.below(8) {
+    match random.below(6) {
         // By as many words as the steps take.
         0 if random.once_in(3) => sample.table.truncate(sample.table.len() - STEP_WORDS),
         0 => drop(sample.table.pop()),
@@ -157,11 +154,9 @@ fn damage_lengths(random: &mut Random, sample: &mut Sample) {
         2 => sample.table.truncate(random.below(REPLICAS_START as u32 + 1) as usize),
         3 => sample.log.extend(vec![0; random.within(1, CERTIFICATE_WORDS as u32 - 1) as usize]),
         4 => drop(sample.log.pop()),
-        5 => sample.blocks.clear(),
-        6 if random.once_in(8) => {
+        5 if random.once_in(4) => {
             sample.log.resize(CERTIFICATE_WORDS * (MAX_CERTIFICATES + random.below(2) as usize), 0)
         }
-        7 if random.once_in(8) => sample.blocks.resize(MAX_BLOCKS + random.below(2) as usize, 0),
         _ => sample.table.extend([0; REPLICA_WORDS]),
     }
 }

@@ -84,7 +84,7 @@ fn child(random: &mut Random, sample: &mut Sample, base: u32) -> u32 {
         return random.below(added);
     }
     let block = random.within(base + 1, added - 1);
-    sample.blocks[block as usize] = base;
+    sample.set_parent(block, base);
     block
 }
 

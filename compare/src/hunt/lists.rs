@@ -82,13 +82,15 @@ impl Attack {
         Some((prop, block))
     }
 
-    /// The leader proposes a child of block 0 whatever its ACC names.
+    /// The leader proposes a child of block 0 whatever its ACC names; where that is refused, a child of the child, as high
+    /// as a block on what the ACC names would be.
     pub fn wrong_parent(&mut self) -> Option<()> {
         self.first_decision(1)?;
         let quorum = self.second_quorum();
         let view = self.later_view(&quorum);
         let acc = self.driver.gather(view, &quorum)?;
-        let (prop, _) = self.driver.propose(acc, 0)?;
+        let proposed = self.driver.propose(acc, 0);
+        let (prop, _) = proposed.or_else(|| self.driver.propose(acc, self.driver.added() - 1))?;
         let commits = self.driver.commit(prop, &quorum)?;
         self.decide(&commits)
     }

@@ -1,6 +1,7 @@
 //! Demand 3 as a judge of a trace: decisions of one line, panels that never fall.
 
 use crate::ancestry::is_ancestor;
+use crate::block::Block;
 use crate::call::{BLOCK, DECIDE, OPEN};
 use crate::driver::{Driver, Line};
 use crate::memory::{replica_count, MAX_F};
@@ -19,8 +20,8 @@ pub enum Violation {
 /// What has been seen of one opened ledger.
 #[derive(Default)]
 pub struct Monitor {
-    /// Parents as the accepted Block calls gave them.
-    parents: Vec<u32>,
+    /// Records as the accepted Block calls make them.
+    blocks: Vec<u32>,
     /// The highest block decided so far; all others are its ancestors.
     tip: u32,
     panels: Vec<u32>,
@@ -50,21 +51,21 @@ impl Monitor {
     }
 
     fn opened(&mut self, line: &Line) -> Option<Violation> {
-        self.parents = vec![0];
+        self.blocks = Block::FIRST.words().to_vec();
         self.tip = 0;
         self.panels = vec![0; replica_count(line.replica) as usize];
         None
     }
 
     fn added(&mut self, line: &Line) -> Option<Violation> {
-        self.parents.push(line.number);
+        self.blocks.extend(Block::on(&self.blocks, line.number).words());
         None
     }
 
     fn decided(&mut self, block: u32) -> Option<Violation> {
-        if is_ancestor(&self.parents, self.tip, block) {
+        if is_ancestor(&self.blocks, self.tip, block) {
             self.tip = block;
-        } else if !is_ancestor(&self.parents, block, self.tip) {
+        } else if !is_ancestor(&self.blocks, block, self.tip) {
             return Some(Violation::Conflict { first: self.tip, second: block });
         }
         None

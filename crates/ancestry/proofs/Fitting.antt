@@ -3,20 +3,17 @@ use Prim.Native.Nat.{ℕ, _<_}
 use mathlib.Core.Path.{_≡_}
 use mathlib.Core.List.{List}
 use native.Mathlib.Omega.{arith}
-use Rattle.protocol.specs.Memory.{Memory, blockCount}
-use Rattle.protocol.specs.Form.{blockFormed}
-use Rattle.protocol.proofs.Booleans.{tests}
+use Rattle.protocol.specs.Memory.{Memory, blockCount, parent, keptHeight}
+use Rattle.protocol.proofs.Blocks.{root-form}
 use Rattle.protocol.proofs.Formed.{Formed, sizes, falls}
-use Rattle.ancestry.specs.inner.AncestryFits.{AncestryFits, parentIn}
+use Rattle.blocks.specs.inner.Records.{parentIn}
+use Rattle.ancestry.specs.inner.AncestryFits.{AncestryFits}
 
 pub ancestry-fits : (m : Memory) → Formed m → (b : ℕ) → b < blockCount m → AncestryFits (m .blocks) b
-unfolding blockFormed
 ancestry-fits m h b l =
     let s = sizes m h in
-    record { inSlice = omega arith; falls = λ k below n. falls m h k (omega arith) n; root = root-parent m h (omega arith) }
-  where
-    root-parent : (m : Memory) → Formed m → 0 < blockCount m → parentIn (m .blocks) 0 ≡ 0
-    root-parent m h some = let e = h .parents 0 some in omega tests
+    let root = root-form (parent m) (keptHeight m) (h .blocks 0 (omega arith)) in
+    record { inSlice = omega arith; falls = λ k below n. falls m h k (omega arith) n; root = root .0 }
 
 pub parent-fits : (blocks : List ℕ) (b : ℕ) → AncestryFits blocks b → (b ≡ 0 → ⊥)
     → (parentIn blocks b < b) × AncestryFits blocks (parentIn blocks b)

@@ -4,8 +4,8 @@ use mathlib.Core.Path.{_≡_, refl, sym}
 use mathlib.Core.Bool.{true, false, or-false}
 use native.Mathlib.Omega.{arith}
 use lib.Dec.{eqb}
-use Rattle.protocol.specs.Ancestry.{ancestorWithin, Falls, isAncestorBy, stepsToRoot, heightBy}
-use Rattle.protocol.proofs.Booleans.{tests, by-test, by-cond}
+use Rattle.protocol.specs.Ancestry.{ancestorWithin, Falls, isAncestorBy}
+use Rattle.protocol.proofs.Booleans.{tests, by-test}
 
 module _ (p : ℕ → ℕ) (count : ℕ) (falls : Falls p count) (a : ℕ) where
   -- A block that is not above a has a in its line only if it is a.
@@ -41,12 +41,3 @@ module _ (p : ℕ → ℕ) (count : ℕ) (falls : Falls p count) (a : ℕ) where
       let other : eqb a (suc n) ≡ false = omega tests in
       let above : eqb (suc n) 0 ≡ false = omega tests in
       rw (other, above) (walk-same p (λ x y. refl) n (p (suc n)) (p (suc n)) (omega arith) (omega arith) (omega arith))
-
--- A block's height is at most its number.
-pub height-at-most : (p : ℕ → ℕ) (b : ℕ) → heightBy p b ≤ b
-unfolding stepsToRoot
-height-at-most p b = go b b
-  where
-    go : (steps b : ℕ) → stepsToRoot p steps b ≤ steps
-    go zero b = omega arith
-    go (suc steps) b = let rest = go steps (p b) in by-cond (λ (h : ℕ). h ≤ suc steps) (eqb b 0) (λ e. omega arith) (λ e. omega arith)

@@ -1,11 +1,7 @@
-// Lines of parents: which blocks are in a block's line, and how far the block is from block 0.
-ghost use mathlib.Core.Path.{_≡_};
-ghost use Rattle.protocol.specs.Ancestry.{heightBy};
-ghost use Rattle.ancestry.specs.inner.AncestryFits.{AncestryFits, parentIn, Markable, AncestorsMarked, Climbed};
+// Lines of parents: which blocks are in a block's line.
+ghost use Rattle.ancestry.specs.inner.AncestryFits.{Markable, AncestorsMarked, Climbed};
+use blocks::ROOT;
 use constants::MAX_BLOCKS;
-
-// The block that has only itself in its line.
-const ROOT: u32 = 0;
 
 // Marks block b, and gives its parent.
 fn mark_block(blocks: &[u32], b: u32, marks: &mut [bool; MAX_BLOCKS as usize]) -> u32
@@ -13,7 +9,7 @@ fn mark_block(blocks: &[u32], b: u32, marks: &mut [bool; MAX_BLOCKS as usize]) -
     ensures { λ r. ⌜ Climbed (now (blocks .entry)) b r (now (marks .entry)) (now (marks .exit)) ⌝ }
 {
     marks[b as usize] = true;
-    blocks[b as usize]
+    blocks::parent(blocks, b)
 }
 
 // Four blocks of the line, or fewer: block 0 is its own parent.
@@ -42,16 +38,4 @@ pub fn mark_ancestors(blocks: &[u32], b: u32, marks: &mut [bool; MAX_BLOCKS as u
         return;
     }
     mark_ancestors(blocks, top, marks);
-}
-
-// The number of steps from block b up to block 0.
-pub fn height(blocks: &[u32], b: u32) -> u32
-    requires { ⌜ AncestryFits (now blocks) b ⌝ }
-    ensures { λ r. ⌜ r ≡ heightBy (parentIn (now (blocks .entry))) b ⌝ }
-{
-    if b == ROOT {
-        return 0;
-    }
-    let parent = blocks[b as usize];
-    height(blocks, parent) + 1
 }

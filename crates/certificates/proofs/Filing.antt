@@ -12,6 +12,7 @@ use Rattle.protocol.specs.Certificates.{firstBelow, hasWords, numberFor, isFile
 use Rattle.protocol.specs.Certificates.{file}
 use Rattle.protocol.specs.Outcome.{noRoom}
 use Rattle.protocol.proofs.Booleans.{tests, by-test}
+use Rattle.protocol.proofs.Words.{stored, stored-all}
 use Rattle.certificates.specs.declared.Filed.the-variants.{At, Refused}
 use Rattle.certificates.specs.inner.Filing.{countIn, equalFrom, isEqual, filedAt, leaves, filing}
 
@@ -74,22 +75,8 @@ module _ (m : Memory) (ws : List ℕ) where
 
 -- ---- seven words, written one after the other
 
--- Words stored from an offset on.
-abbrev pub stored : List ℕ → ℕ → ℕ → List ℕ → List ℕ
-stored l start k [] = l
-stored l start k (a ∷ ws) = stored (set l (start + k) a) start (suc k) ws
-
-stored-sets : (ws l : List ℕ) (start k : ℕ) → stored l start k ws ≡ sets l (start + k) ws
-stored-sets [] l start k = refl
-stored-sets (a ∷ ws) l start k =
-    let q : start + suc k ≡ suc (start + k) = omega arith in
-    stored-sets ws (set l (start + k) a) start (suc k) ∙ rw q
-
 pub written : (t l b ws : List ℕ)
     → memory (set t certificateCountAt (countIn t + 1)) (stored l (certificateAt (countIn t)) 0 ws) b
     ≡ appendCertificate (memory t l b) ws
 unfolding appendCertificate
-written t l b ws =
-    let start = certificateAt (countIn t) in
-    let q : start + 0 ≡ start = omega arith in
-    rw (stored-sets ws l start 0, q)
+written t l b ws = rw (stored-all ws l (certificateAt (countIn t)))

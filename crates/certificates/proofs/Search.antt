@@ -7,8 +7,8 @@ use native.Mathlib.Numerals.{add-one}
 use lib.Dec.{ltb, eqb}
 use Rattle.protocol.specs.Certificates.{firstBelow}
 use Rattle.protocol.proofs.Booleans.{tests, by-test}
-use Rattle.layout.specs.inner.Parts.{fourOk}
-use Rattle.layout.proofs.Below.{four-steps}
+use Rattle.protocol.specs.inner.Groups.{fourOk}
+use Rattle.protocol.proofs.Below.{four-steps}
 
 module _ (test : ℕ → Bool) where
   -- No number below i passes, and i does not either.

@@ -5,7 +5,7 @@ ghost use Prim.Native.Nat.{ℕ, _+_, _≤_};
 ghost use lib.ListN.{length};
 ghost use Rattle.protocol.specs.Memory.{memory, certificateAt, certificateWords, words, appendCertificate};
 ghost use Rattle.protocol.specs.Certificates.{firstBelow};
-ghost use Rattle.layout.specs.inner.Parts.{fourOk};
+ghost use Rattle.protocol.specs.inner.Groups.{fourOk};
 ghost use Rattle.certificates.specs.inner.Filing.{
   LogFits,
   LogHasRoom,

@@ -123,7 +123,7 @@ pub fn prepare(
     let Judgement::By(justified) = judgement else {
         return refused(judgement.refusal());
     };
-    let parent = layout::parent(blocks, block);
+    let parent = blocks::parent(blocks, block);
     let tested = test_proposal(table[FAULT_BOUND_AT], replica, r, block, parent, justified);
     let Tested::Passed = tested else {
         return refused(tested.refusal());

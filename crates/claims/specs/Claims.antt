@@ -9,10 +9,11 @@ use Rattle.stream.specs.Theorems.{ChunksDoNotMatter, TurnsGiveOutput}
 use Rattle.stream.specs.Cases.{WorkedScript, WorkedScriptTells, WorkedScriptOpens, StepsScript}
 use Rattle.field.specs.Theorems.{CountIsLeast, WrittenReadsBack, ReadWritesBack, ReadIsBounded}
 use Rattle.protocol.specs.Agreement.{Agreement, WordsMatchHistory, OnlyAppended, WouldAgree}
-use Rattle.ledger.specs.Theorems.{PanelShowsHistory, PanelNeverFalls}
+use Rattle.ledger.specs.Theorems.{PanelShowsHistory, PanelNeverFalls, PanelIsKeptHeight}
 use Rattle.protocol.specs.Repeats.{FoundIsFirstEqual, SecondValueTellsRepeat, RepeatAtOnce, RepeatChangesNothing}
 use Rattle.protocol.specs.Repeats.{ProposalsNeverRepeat, CommitsNeverRepeat}
 use Rattle.protocol.specs.Steps.{OpeningReadsNothing, WithoutStepsIsDefault, FirstLimitIsFirstStep, CountersMoveBySteps}
+use Rattle.protocol.specs.Heights.{HeightsKept, HeightsMatchHistory, HeightsStay}
 use Rattle.netting.specs.Theorems.{NettingChangesNothing, RefusedNettingIsZero, NettingLowestWins, NettingPastCountsUnread}
 use Rattle.netting.specs.Theorems.{BalancesAddUp, BalancesBounded, LongerCountsMore, EquallyLongIsOne, ChainLengthIsHeight}
 use Rattle.netting.specs.Theorems.{CountsMatchHistory, LongerNetsMore, NettingMatchesHistory, DecidedCanBeNetted}
@@ -86,6 +87,15 @@ pub record Claims : Type 0 where
   pub workedScriptTells : WorkedScriptTells
   -- the premise of ProgramAgrees holds of it
   pub workedScriptOpens : WorkedScriptOpens
+  -- ---- Heights kept with the blocks (document 02, #105).
+  -- in well-formed memory the height kept with an added block is the number of steps to block 0
+  pub heightsKept : HeightsKept
+  -- after an opening it is the height by the parents given
+  pub heightsMatchHistory : HeightsMatchHistory
+  -- and it stays
+  pub heightsStay : HeightsStay
+  -- in well-formed memory a replica's panel is the height kept with its decided block
+  pub panelIsKeptHeight : PanelIsKeptHeight
   -- ---- A pool's own steps (document 02, #104). (That decisions never conflict with any of them: demand 3.)
   -- opening reads no word: what it answers, and the table it leaves where it is accepted, go by its arguments and the lengths
   pub openingReadsNothing : OpeningReadsNothing

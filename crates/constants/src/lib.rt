@@ -38,6 +38,9 @@ ghost use Rattle.protocol.specs.Memory.{
   subjectAt,
   subjectBootAt,
   maxCertificates,
+  blockWords,
+  parentAt,
+  heightAt,
   maxBlocks,
 };
 ghost use Rattle.protocol.specs.Form.{maxStep, lastKind};
@@ -152,6 +155,12 @@ pub const FOUND: u32 = 1;
 pub const APPENDED: u32 = 0;
 
 // The blocks.
+pub const BLOCK_WORDS: usize = 2;
+
+pub const PARENT_AT: usize = 0;
+
+pub const HEIGHT_AT: usize = 1;
+
 pub const MAX_BLOCKS: u32 = 4096;
 
 // The movements.
@@ -190,15 +199,16 @@ pub fn most() -> [usize; 2]
     [MAX_REPLICAS, MAX_MOVEMENTS]
 }
 
-// The words of the header, the steps, a replica, a certificate and a movement.
-pub fn widths() -> [usize; 5]
-    ensures { λ r. ⌜ r ≡ headerWords ∷ stepCount ∷ replicaWords ∷ certificateWords ∷ movementWords ∷ [] ⌝ }
+// The words of the header, the steps, a replica, a certificate, a block and a movement.
+pub fn widths() -> [usize; 6]
+    ensures { λ r. ⌜ r ≡ headerWords ∷ stepCount ∷ replicaWords ∷ certificateWords ∷ blockWords ∷ movementWords ∷ [] ⌝ }
 {
     [
         HEADER_WORDS,
         STEP_COUNT,
         REPLICA_WORDS,
         CERTIFICATE_WORDS,
+        BLOCK_WORDS,
         MOVEMENT_WORDS,
     ]
 }
@@ -251,6 +261,12 @@ pub fn certificate_offsets() -> [usize; CERTIFICATE_WORDS]
         SUBJECT_AT,
         SUBJECT_BOOT_AT,
     ]
+}
+
+pub fn block_offsets() -> [usize; BLOCK_WORDS]
+    ensures { λ r. ⌜ r ≡ parentAt ∷ heightAt ∷ [] ⌝ }
+{
+    [PARENT_AT, HEIGHT_AT]
 }
 
 pub fn movement_offsets() -> [usize; MOVEMENT_WORDS]

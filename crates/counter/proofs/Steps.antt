@@ -14,7 +14,7 @@ use Rattle.protocol.specs.Counter.{defaultSteps, stepsFrom, stepsAllowed, count
 use Rattle.protocol.proofs.Booleans.{tests, each}
 use Rattle.protocol.proofs.Formed.{Formed, StepBounds, step-bounds, steps-same}
 use Rattle.layout.specs.inner.Parts.{stepIn}
-use Rattle.layout.proofs.Joined.{joined-all}
+use Rattle.protocol.proofs.Joined.{joined-all}
 
 pub counter-step-bounds : (m : Memory) (boot : ℕ) → Formed m → StepBounds (counterStep m boot)
 unfolding counterStep

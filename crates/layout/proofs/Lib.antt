@@ -1,6 +1,4 @@
 -- Laws that belong to no one function.
-pub mod Joined
-pub mod Below
 pub mod Order
 pub mod Rising
 pub mod Whole

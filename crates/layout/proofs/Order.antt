@@ -4,7 +4,7 @@ use mathlib.Core.Bool.{Bool}
 use mathlib.Core.List.{[], _∷_}
 use borrow.Author.Needs.{needs}
 use Rattle.protocol.specs.Form.{allHold}
-use Rattle.layout.proofs.Joined.{joined, joined-all, reordered}
+use Rattle.protocol.proofs.Joined.{joined, joined-all, reordered}
 
 pub certificate-order : (kindLow kindHigh signer view block ofView subject boot : Bool)
     → joined kindLow (kindHigh ∷ signer ∷ view ∷ block ∷ ofView ∷ subject ∷ boot ∷ [])

@@ -8,7 +8,7 @@ use Rattle.protocol.specs.Memory.{stepCount, lastStep}
 use Rattle.protocol.specs.Form.{maxStep, stepsFormed}
 use Rattle.protocol.proofs.Booleans.{tests, by-test, and-true, true-and, each, all-hold, at-below, all-below}
 use Rattle.layout.specs.inner.Parts.{leastStep, stepsRise}
-use Rattle.layout.proofs.Joined.{same-test}
+use Rattle.protocol.proofs.Joined.{same-test}
 
 module _ (step : ℕ → ℕ) where
   -- What the loop knows after a count of steps: each is at least 1, at most the last, and not below the one before.

@@ -1,15 +1,13 @@
 -- What the form tells the code: the words that the accessors read are there, and how large they are.
 use Prim.Native.Nat.{ℕ, _+_, _≤_, _<_}
-use mathlib.Core.Path.{_≡_}
-use mathlib.Core.Bool.{false}
 use native.Mathlib.Omega.{arith}
 use lib.ListN.{length}
-use lib.Dec.{eqb}
 use Rattle.protocol.specs.Memory.{Memory, replicaCount, ceiling, faultBound, certificateCount, blockCount, rowStart}
 use Rattle.protocol.specs.Memory.{replicaWords, rowAt, retired, raised, replica, certificateWords, certificateAt, certificate}
-use Rattle.protocol.specs.Memory.{maxCertificates, maxBlocks, blockAt, parent}
-use Rattle.protocol.specs.Form.{lastKind, lengthsFit, blockFormed, replicaFormed, certificateFormed}
+use Rattle.protocol.specs.Memory.{maxCertificates, blockWords, blockAt, parent, keptHeight, maxBlocks}
+use Rattle.protocol.specs.Form.{lastKind, lengthsFit, replicaFormed, certificateFormed}
 use Rattle.protocol.proofs.Booleans.{tests, each}
+use Rattle.protocol.proofs.Blocks.{height-bounded}
 use Rattle.protocol.proofs.Formed.{Formed, Sizes, sizes}
 
 -- ---- what the accessors require
@@ -24,8 +22,8 @@ module _ (m : Memory) (s : Sizes m) where
   pub certificate-within : (c k : ℕ) → c < certificateCount m → k < certificateWords → certificateAt c + k < length (m .log)
   certificate-within c k h l = omega arith
 
-  pub parent-within : (b : ℕ) → b < blockCount m → blockAt b < length (m .blocks)
-  parent-within b h = omega arith
+  pub block-within : (b : ℕ) → b < blockCount m → blockAt b + blockWords ≤ length (m .blocks)
+  block-within b h = omega arith
 
 -- ---- how large the words are
 
@@ -68,7 +66,5 @@ module _ (m : Memory) (w : Formed m) where
   unfolding certificateFormed
   certificate-bounds c l = let h = each _ (w .log c l) in omega tests
 
-  -- Block 0 alone has a parent that is not below it.
-  pub parent-below : (b : ℕ) → b < blockCount m → 1 ≤ b → parent m b < b
-  unfolding blockFormed
-  parent-below b l h = let n : eqb b 0 ≡ false = omega tests in let e = rw n at (w .parents b l) in omega tests
+  pub height-below : (b : ℕ) → b < blockCount m → keptHeight m b ≤ b
+  height-below = height-bounded (parent m) (keptHeight m) (blockCount m) (w .blocks)

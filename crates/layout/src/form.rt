@@ -14,11 +14,11 @@ ghost use Rattle.protocol.specs.Memory.{
   tableLength,
   certificateWords,
   certificateAt,
-  blockAt,
 };
 ghost use Rattle.protocol.specs.Form.{allBelow, isFaultBound, lengthsFit, countsFit, stepsFormed, wellFormed};
 ghost use Rattle.protocol.proofs.Formed.{Sizes};
-ghost use Rattle.layout.specs.inner.Parts.{stepIn, blockOk, replicaOk, certificateOk, fourOk, wordsOk};
+ghost use Rattle.protocol.specs.inner.Groups.{fourOk};
+ghost use Rattle.layout.specs.inner.Parts.{stepIn, replicaOk, certificateOk, wordsOk};
 
 // f is 1 to 30.
 pub fn is_fault_bound(f: u32) -> bool
@@ -35,8 +35,9 @@ pub fn lengths_fit(table: &[u32], log: &[u32], blocks: &[u32], f: u32) -> bool
     (table.len() == row_at(replica_count(f)))
         & (log.len() % CERTIFICATE_WORDS == 0)
         & (log.len() <= certificate_at(MAX_CERTIFICATES))
-        & (block_at(0) < blocks.len())
-        & (blocks.len() <= block_at(MAX_BLOCKS))
+        & (blocks.len() % BLOCK_WORDS == 0)
+        & (blocks::block_at(1) <= blocks.len())
+        & (blocks.len() <= blocks::block_at(MAX_BLOCKS))
 }
 
 // The counts are within the slots, and there is a block.
@@ -45,7 +46,7 @@ fn counts_fit(table: &[u32], log: &[u32], blocks: &[u32]) -> bool
     ensures { λ r. ⌜ r ≡ countsFit (memory (now (table .entry)) (now (log .entry)) (now (blocks .entry))) ⌝ }
 {
     (certificate_at(table[CERTIFICATE_COUNT_AT]) <= log.len())
-        & (block_at(table[BLOCK_COUNT_AT]) <= blocks.len())
+        & (blocks::block_at(table[BLOCK_COUNT_AT]) <= blocks.len())
         & (1 <= table[BLOCK_COUNT_AT])
 }
 
@@ -65,22 +66,6 @@ pub fn steps_formed(words: &[u32], start: usize) -> bool
         k += 1;
     }
     formed & (least <= MAX_STEP)
-}
-
-// Each parent is below its block, but for block 0's.
-fn parents_formed(blocks: &[u32], added: u32) -> bool
-    requires { ⌜ (1 ≤ added) × (blockAt added ≤ length (now blocks)) ⌝ }
-    ensures { λ r. ⌜ r ≡ allBelow added (blockOk (now (blocks .entry))) ⌝ }
-{
-    let mut formed = blocks[0] == 0;
-    let mut block: u32 = 1;
-    let mut at: usize = 1;
-    while block < added {
-        formed = formed & (blocks[at] < block);
-        block += 1;
-        at += 1;
-    }
-    formed
 }
 
 // The tests of a replica's row, in the order of its words.
@@ -185,7 +170,7 @@ fn words_formed(table: &[u32], log: &[u32], blocks: &[u32]) -> bool
     let replicas = row_count(table);
     let added = table[BLOCK_COUNT_AT];
     steps_formed(table, STEPS_AT)
-        & parents_formed(blocks, added)
+        & blocks::blocks_formed(blocks, added)
         & replicas_formed(table, replicas, added)
         & certificates_formed(log, table[CERTIFICATE_COUNT_AT], replicas, added)
 }

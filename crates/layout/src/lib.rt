@@ -2,7 +2,7 @@
 ghost use mathlib.Core.Path.{_≡_};
 ghost use Prim.Native.Nat.{_+_, _≤_, _<_};
 ghost use lib.ListN.{length, getD, set};
-ghost use Rattle.protocol.specs.Memory.{maxFaultBound, replicaCount, rowAt, certificateAt, blockAt};
+ghost use Rattle.protocol.specs.Memory.{maxFaultBound, replicaCount, rowAt, certificateAt};
 use constants::CERTIFICATE_WORDS;
 use constants::REPLICA_WORDS;
 use constants::ROW_START;
@@ -31,13 +31,6 @@ pub fn certificate_at(number: u32) -> usize
     CERTIFICATE_WORDS * (number as usize)
 }
 
-// Where a block's parent stands.
-pub fn block_at(block: u32) -> usize
-    ensures { λ r. ⌜ r ≡ blockAt block ⌝ }
-{
-    block as usize
-}
-
 // A word of a replica, by its index in the row.
 pub fn replica_word(table: &[u32], replica: u32, at: usize) -> u32
     requires { ⌜ rowAt replica + at < length (now table) ⌝ }
@@ -59,11 +52,4 @@ pub fn certificate_word(log: &[u32], number: u32, at: usize) -> u32
     ensures { λ r. ⌜ r ≡ getD (now (log .entry)) (certificateAt number + at) 0 ⌝ }
 {
     log[certificate_at(number) + at]
-}
-
-pub fn parent(blocks: &[u32], block: u32) -> u32
-    requires { ⌜ blockAt block < length (now blocks) ⌝ }
-    ensures { λ r. ⌜ r ≡ getD (now (blocks .entry)) (blockAt block) 0 ⌝ }
-{
-    blocks[block_at(block)]
 }

@@ -1,20 +1,21 @@
 -- What specs/Theorems.antt states.
 use Prim.Native.Nat.{ℕ, _≤_}
-use mathlib.Core.Path.{_≡_, ap, _∙_}
+use mathlib.Core.Path.{_≡_, sym, ap, _∙_}
 use mathlib.Core.Bool.{true, false}
 use mathlib.Core.List.{List, _++_}
 use lib.Dec.{ltb}
 use Rattle.protocol.specs.declared.Answer.{Answer}
-use Rattle.protocol.specs.Memory.{Memory, replicaCount}
+use Rattle.protocol.specs.Memory.{Memory, replicaCount, replica}
+use Rattle.protocol.specs.Form.{replicaFormed}
 use Rattle.protocol.specs.FirstNeeds.{isReplica}
 use Rattle.protocol.specs.Runs.{Invocation}
 use Rattle.protocol.specs.Agreement.{Execution, endOf}
-use Rattle.protocol.proofs.Booleans.{tests, by-test}
-use Rattle.protocol.proofs.Formed.{form}
+use Rattle.protocol.proofs.Booleans.{tests, by-test, each}
+use Rattle.protocol.proofs.Formed.{formed, form, height-kept}
 use Rattle.protocol.proofs.Reached.{panel-height}
 use Rattle.protocol.proofs.Agreement.{reached-by, begins, panel-stays-up}
 use Rattle.ledger.specs.Panel.{panelAnswer}
-use Rattle.ledger.specs.Theorems.{PanelShowsHistory, PanelNeverFalls}
+use Rattle.ledger.specs.Theorems.{PanelShowsHistory, PanelNeverFalls, PanelIsKeptHeight}
 use Rattle.ledger.proofs.Panels.{shown, panel-refused, panel-shown}
 
 pub panel-shows-history : PanelShowsHistory
@@ -45,3 +46,10 @@ panel-never-falls m f list calls more execution i =
     rw (panel-shows-history m f list calls before i (omega tests), panel-shows-history m f list (calls ++ more) execution i (omega tests))
     (panel-stays-up m f list calls more execution i))
     (λ e. rw (no-panel m f list calls before i (omega tests)) (omega tests))
+
+pub panel-is-kept-height : PanelIsKeptHeight
+unfolding PanelIsKeptHeight replicaFormed
+panel-is-kept-height m i form own =
+    let z = formed m form in
+    let r = each _ (z .rows i (omega tests)) in
+    panel-shown m i form own ∙ ap shown (sym (height-kept m z (replica m i .decidedBlock) (omega tests)))

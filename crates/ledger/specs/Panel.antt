@@ -1,4 +1,5 @@
--- What the front panel shows (document 01: "the height of its shown block"), read from the words.
+-- What the front panel shows (document 01: "the height of its shown block"): the steps to block 0, by the parents in the words. The code
+-- reads the height that is kept with the block; PanelIsKeptHeight says that it is the same.
 use Prim.Native.Nat.{ℕ}
 use Rattle.protocol.specs.declared.Answer.{Answer}
 use Rattle.protocol.specs.Memory.{Memory, replica}

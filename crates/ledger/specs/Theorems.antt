@@ -1,9 +1,12 @@
--- What holds of the front panel, as `panelAnswer` reads it from the words. Proved in proofs/ under the same name in lower case with
+-- What holds of the front panel, `panelAnswer`. Proved in proofs/ under the same name in lower case with
 -- hyphens.
 use Prim.Native.Nat.{ℕ, _≤_, _<_}
 use mathlib.Core.Path.{_≡_}
+use mathlib.Core.Bool.{true}
 use mathlib.Core.List.{List, _++_}
-use Rattle.protocol.specs.Memory.{Memory, replicaCount}
+use Rattle.protocol.specs.Memory.{Memory, replicaCount, replica, keptHeight}
+use Rattle.protocol.specs.Form.{wellFormed}
+use Rattle.protocol.specs.FirstNeeds.{isReplica}
 use Rattle.protocol.specs.Runs.{Invocation}
 use Rattle.protocol.specs.History.{panel}
 use Rattle.protocol.specs.Agreement.{Execution, eventsOf, endOf}
@@ -22,3 +25,9 @@ unfoldable pub PanelNeverFalls : Type 0
 PanelNeverFalls =
     (m : Memory) (f : ℕ) (list : List ℕ) (calls more : List Invocation) → Execution m f list (calls ++ more) → (i : ℕ)
     → panelAnswer (endOf m f list calls) i .first ≤ panelAnswer (endOf m f list (calls ++ more)) i .first
+
+-- Document 02, #105: the height of the decided block is kept with it, so that in well-formed memory a panel is one word of one record.
+unfoldable pub PanelIsKeptHeight : Type 0
+PanelIsKeptHeight =
+    (m : Memory) (i : ℕ) → wellFormed m ≡ true → isReplica m i ≡ true
+    → panelAnswer m i ≡ record { number = 0; first = keptHeight m (replica m i .decidedBlock); second = 0 }

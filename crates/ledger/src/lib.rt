@@ -75,5 +75,5 @@ pub fn panel(table: &[u32], log: &[u32], blocks: &[u32], replica: u32) -> Answer
     let FoundReplica::Found(r) = found else {
         return refused(found.refusal());
     };
-    accepted(ancestry::height(blocks, r.decided_block), 0)
+    accepted(blocks::height(blocks, r.decided_block), 0)
 }

@@ -15,7 +15,8 @@ use Rattle.protocol.specs.Memory.{maxFaultBound, replicaCount, maxBlocks}
 use Rattle.protocol.specs.Outcome.{firstRefusal, wrongMovement}
 use Rattle.protocol.specs.Movements.{movement, movementCount}
 use Rattle.protocol.proofs.Booleans.{tests, by-test, at-below}
-use Rattle.ancestry.specs.inner.AncestryFits.{parentIn, AncestorsMarked}
+use Rattle.blocks.specs.inner.Records.{parentIn}
+use Rattle.ancestry.specs.inner.AncestryFits.{AncestorsMarked}
 use Rattle.netting.specs.declared.Netted.{Netted}
 use Rattle.netting.specs.Netting.{countsBy, balanceAfter, balanceBy, nettingAnswer}
 use Rattle.netting.specs.inner.Tallies.{marked, Talliable, Tallied, Nettable, balanceAnswer}

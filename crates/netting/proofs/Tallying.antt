@@ -12,7 +12,7 @@ use Rattle.protocol.specs.declared.Movement.{Movement}
 use Rattle.protocol.specs.Form.{allBelow}
 use Rattle.protocol.specs.Movements.{movement, movementCount, movementAllowed, maxPallets, maxMovements}
 use Rattle.protocol.proofs.Booleans.{tests, by-test, by-cond, true-and, at-below}
-use Rattle.layout.proofs.Below.{refuted-one}
+use Rattle.protocol.proofs.Below.{refuted-one}
 use Rattle.netting.specs.Netting.{sumBelow, palletsOf, received, given}
 use Rattle.netting.specs.Theorems.{maxBalance}
 use Rattle.netting.specs.inner.Tallies.{marked, Movable, Talliable, Tallied}

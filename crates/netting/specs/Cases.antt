@@ -1,12 +1,12 @@
 -- Worked nettings, in one table: a list of movements, a chosen block, a firm, and the answer expected.
-use Prim.Native.Nat.{ℕ}
+use Prim.Native.Nat.{ℕ, _+_}
 use mathlib.Core.Path.{_≡_}
 use mathlib.Core.List.{List, [], _∷_, _++_, map}
-use lib.ListN.{replicate}
+use lib.ListN.{replicate, set}
 use lib.IntN.{ℤ, pos, negℤ}
 use Rattle.protocol.specs.declared.Call.{Call}
 use Rattle.protocol.specs.declared.Call.the-variants.{Open, Block}
-use Rattle.protocol.specs.Memory.{Memory, memory, tableLength, blockAt}
+use Rattle.protocol.specs.Memory.{Memory, memory, tableLength, blockAt, heightAt}
 use Rattle.protocol.specs.Outcome.{wrongForm, outOfRange, unknownNumber, wrongMovement}
 use Rattle.protocol.specs.Runs.{Invocation, run}
 use Rattle.protocol.specs.Movements.{movementAt}
@@ -112,6 +112,7 @@ refusals =
     ∷ refuses (replicate (movementAt 2048) 0) 2 0 wrongMovement
     ∷ refuses (replicate (movementAt 2049) 0) 2 0 wrongForm
     ∷ row unopened day 6 3 wrongForm (pos 0)
+    ∷ row (memory (forked .table) (forked .log) (set (forked .blocks) (blockAt 5 + heightAt) 3)) day 2 0 wrongForm (pos 0)
     ∷ []
 
 -- Every row's netting gets the answer expected.

@@ -1,5 +1,5 @@
 -- The ways that an opening goes.
-use Prim.Native.Nat.{ℕ, zero, suc, _≤_, _<_}
+use Prim.Native.Nat.{ℕ, zero, suc, _≤_}
 use mathlib.Core.Path.{_≡_, refl, sym, ap, _∙_}
 use mathlib.Core.Bool.{true, false}
 use mathlib.Core.List.{List}
@@ -48,7 +48,7 @@ module _ (m : Memory) (f : ℕ) (list : List ℕ) where
 pub record Fitting (m : Memory) (f : ℕ) : Type 0 where
   pub bound : f ≤ maxFaultBound
   pub table : rowAt (replicaCount f) ≡ length (m .table)
-  pub blocks : blockAt 0 < length (m .blocks)
+  pub blocks : blockAt 1 ≤ length (m .blocks)
 
 pub fitting : (m : Memory) (f : ℕ) → isFaultBound f ≡ true → lengthsFit m f ≡ true → Fitting m f
 unfolding lengthsFit

@@ -7,6 +7,7 @@ ghost use Rattle.protocol.specs.Memory.{memory, rowStart, rowAt, replicaWords, 
 ghost use Rattle.protocol.specs.Outcome.{outcome, outcomeBy};
 ghost use Rattle.protocol.specs.Calls.{freshReplica, freshHeader, opening as openingRule, block as blockRule};
 ghost use Rattle.opening.specs.inner.Fresh.{freshRows};
+use blocks::ROOT;
 use checks::accepted;
 use checks::refused;
 use constants::BLOCK_COUNT_AT;
@@ -64,14 +65,14 @@ fn fresh_rows(table: &mut [u32], replicas: u32, limit: u32)
 
 // f, no certificates, and block 0.
 fn fresh_header(table: &mut [u32], blocks: &mut [u32], f: u32)
-    requires { ⌜ (rowStart ≤ length (now table)) × (blockAt 0 < length (now blocks)) ⌝ }
+    requires { ⌜ (rowStart ≤ length (now table)) × (blockAt 1 ≤ length (now blocks)) ⌝ }
     ensures { λ _. ⌜ ((l : List ℕ) → memory (now (table .exit)) l (now (blocks .exit))
         ≡ freshHeader (memory (now (table .entry)) l (now (blocks .entry))) f) ⌝ }
 {
     table[FAULT_BOUND_AT] = f;
     table[CERTIFICATE_COUNT_AT] = 0;
     table[BLOCK_COUNT_AT] = 1;
-    blocks[0] = 0;
+    blocks::set_block(blocks, ROOT, ROOT, 0);
 }
 
 // A ledger for f, with the steps of the list or document 01's, whatever the memory held.
@@ -111,12 +112,12 @@ pub fn block(table: &mut [u32], log: &mut [u32], blocks: &mut [u32], parent: u32
         if count <= parent {
             return refused(UNKNOWN_NUMBER);
         }
-        let at = layout::block_at(count);
-        if blocks.len() <= at {
+        if blocks.len() <= blocks::block_at(count) {
             return refused(NO_ROOM);
         }
+        let height = blocks::height(blocks, parent) + 1;
         table[BLOCK_COUNT_AT] = count + 1;
-        blocks[at] = parent;
+        blocks::set_block(blocks, count, parent, height);
         return accepted(count, 0);
     }
     refused(WRONG_FORM)

@@ -5,7 +5,6 @@ use mathlib.Core.Bool.{true}
 use mathlib.Core.Logic.{_≢_}
 use mathlib.Core.List.{List}
 use native.Mathlib.Omega.{arith}
-use lib.ListN.{getD}
 use lib.Dec.{ltb, eqb}
 use Rattle.protocol.specs.Memory.{Memory, Replica, Certificate, Assignment, faultBoundAt, certificateCountAt, blockCountAt}
 use Rattle.protocol.specs.Memory.{faultBound, certificateCount, blockCount, replica, certificate, words, parent, raised, update}
@@ -18,7 +17,7 @@ use Rattle.protocol.specs.Agreement.{Extends}
 use Rattle.protocol.proofs.Booleans.{tests, by-test, each}
 use Rattle.protocol.proofs.Needs.{Holds}
 use Rattle.protocol.proofs.Words.{withinRow}
-use Rattle.protocol.proofs.Changes.{changed, update-header, update-other, update-own, append-count, append-old}
+use Rattle.protocol.proofs.Changes.{same-parent, changed, update-header, update-other, update-own, append-count, append-old}
 use Rattle.protocol.proofs.Changes.{append-new}
 use Rattle.protocol.proofs.Formed.{Formed, sizes}
 use Rattle.protocol.proofs.Filing.{file-cases, file-blocks, file-table, file-replica, file-lengths, must-have-room}
@@ -137,7 +136,7 @@ module _ (m m′ : Memory) (i : ℕ) (r′ : Replica) (c : Certificate) (acts : 
         certificates = acts .files .grows;
         certificate = acts .files .old;
         blocks = omega arith;
-        parent = λ b l. ap (λ (bs : List ℕ). getD bs b 0) (acts .parents);
+        parent = λ b l. same-parent m m′ (acts .parents) b;
       }
 
   pub moves : Advances (replica m i) r′ → (c .kind ≡ COMMIT → CommitsNow i (replica m i) r′ c) → Moves m m′
@@ -212,7 +211,7 @@ module _ (m m′ : Memory) (i : ℕ) (r′ : Replica) (c : Certificate) (acts : 
   quiet-after v b =
       record {
         blocks = acts .blocks;
-        parents = λ x. ap (λ (bs : List ℕ). getD bs x 0) (acts .parents);
+        parents = same-parent m m′ (acts .parents);
         decidedView = each-replica (λ r s. s .decidedView ≡ r .decidedView) v (λ r. refl);
         decidedBlock = each-replica (λ r s. s .decidedBlock ≡ r .decidedBlock) b (λ r. refl);
       }

@@ -110,7 +110,7 @@ kept m [] w = w
 kept m (q ∷ qs) w = kept (step m (q .call) (q .list) .memory) qs (List·Memᴰ·tail w)
 
 -- The history may begin anywhere: only that no opening is in it is asked.
-runs : (f : ℕ) (past since : List Event) (m : Memory) (calls : List Invocation) → Reached f past m
+pub runs : (f : ℕ) (past since : List Event) (m : Memory) (calls : List Invocation) → Reached f past m
     → (List·Memᴰ reopened (history since m calls) → ⊥) → Follows f (history past m calls) m (run m calls)
 unfolding history run
 runs f past since m [] h once = record { reached = h; extends = idle m (h .safe) .moves .extends }

@@ -4,19 +4,20 @@ use mathlib.Core.Path.{_≡_, refl, sym, ap, _∙_}
 use mathlib.Core.Bool.{Bool, true, false, cond}
 use mathlib.Core.List.{List}
 use native.Mathlib.Omega.{arith}
-use lib.ListN.{length, getD, length-set}
+use lib.ListN.{length, getD}
 use lib.Seq.{length-sets}
 use lib.Dec.{ltb, eqb}
 use Rattle.protocol.specs.Memory.{Memory, Assignment, replicaCount, certificateCountAt, blockCountAt, faultBound, certificateCount}
-use Rattle.protocol.specs.Memory.{blockCount, rowAt, certificateWords, certificateAt, certificateWord, certificate, blockAt, parent}
-use Rattle.protocol.specs.Memory.{assign, update, appendCertificate, appendBlock}
+use Rattle.protocol.specs.Memory.{blockCount, rowAt, certificateWords, certificateAt, certificateWord, certificate, blockWords, blockAt}
+use Rattle.protocol.specs.Memory.{parentAt, heightAt, parent, keptHeight, assign, update, appendCertificate, appendBlock}
 use Rattle.protocol.specs.Form.{countsFit, blockFormed, certificateFormed, wellFormed}
 use Rattle.protocol.specs.Certificates.{firstBelow, hasWords, numberFor, isFiled, canFile, file}
 use Rattle.protocol.specs.Quorum.{isIssued, allIssued, certificatesOf}
 use Rattle.protocol.specs.FirstNeeds.{isBlock}
 use Rattle.protocol.specs.Theorems.{SameLengths, Alike}
 use Rattle.protocol.proofs.Booleans.{tests, by-test, same-below}
-use Rattle.protocol.proofs.Words.{withinRow, set-alike, sets-alike}
+use Rattle.protocol.proofs.Words.{withinRow, sets-alike}
+use Rattle.protocol.proofs.Blocks.{forms-same}
 use Rattle.protocol.proofs.Changes.{certificate-same, update-header, append-table, append-count, block-table}
 use Rattle.protocol.proofs.Changes.{block-count}
 use Rattle.protocol.proofs.Formed.{Formed, sizes}
@@ -41,7 +42,10 @@ module _ (m : Memory) (l b : List ℕ) (a : Alike m (twin m l b)) where
   word-same c k h j = a .log (certificateAt c + k) (omega tests)
 
   pub parent-same : (x : ℕ) → isBlock m x ≡ true → parent m x ≡ parent (twin m l b) x
-  parent-same x h = a .blocks (blockAt x) (omega tests)
+  parent-same x h = a .blocks (blockAt x + parentAt) (omega tests)
+
+  pub kept-same : (x : ℕ) → isBlock m x ≡ true → keptHeight m x ≡ keptHeight (twin m l b) x
+  kept-same x h = a .blocks (blockAt x + heightAt) (omega tests)
 
   pub named-same : (list : List ℕ) → allIssued m list ≡ true → certificatesOf m list ≡ certificatesOf (twin m l b) list
   named-same list e =
@@ -53,14 +57,15 @@ module _ (m : Memory) (l b : List ℕ) (a : Alike m (twin m l b)) where
   unfolding wellFormed countsFit
   form-same =
       let fit = lengths-same m (twin m l b) (faultBound m) lengths-alike in
-      let parents =
-      same-below (blockCount m) (λ x. blockFormed x (parent m x)) (λ x. blockFormed x (parent (twin m l b) x))
-      (λ x h. ap (blockFormed x) (parent-same x (omega tests))) in
+      let blocks =
+      same-below (blockCount m) (blockFormed (parent m) (keptHeight m)) (blockFormed (parent (twin m l b)) (keptHeight (twin m l b)))
+      (forms-same (parent m) (keptHeight m) (parent (twin m l b)) (keptHeight (twin m l b)) (blockCount m) (λ x h. parent-same x (omega tests))
+      (λ x h. kept-same x (omega tests))) in
       let log =
       same-below (certificateCount m) (λ c. certificateFormed (replicaCount (faultBound m)) (blockCount m) (certificate m c))
       (λ c. certificateFormed (replicaCount (faultBound m)) (blockCount m) (certificate (twin m l b) c))
       (λ c h. ap (certificateFormed _ _) (certificate-same m (twin m l b) c (λ k j. word-same c k (omega tests) (omega tests)))) in
-      rw (fit, a .logLength, a .blocksLength, parents, log) refl
+      rw (fit, a .logLength, a .blocksLength, blocks, log) refl
 
   pub number-same : (ws : List ℕ) → numberFor m ws ≡ numberFor (twin m l b) ws
   unfolding numberFor hasWords
@@ -105,19 +110,24 @@ module _ (m : Memory) (l b : List ℕ) (a : Alike m (twin m l b)) where
       go true = a
       go false = append-alike ws whole formed
 
-  pub block-alike : (p : ℕ) → Formed m → Alike (appendBlock m p) (appendBlock (twin m l b) p)
+  pub block-alike : (ws : List ℕ) → length ws ≡ blockWords → Formed m → Alike (appendBlock m ws) (appendBlock (twin m l b) ws)
   unfolding appendBlock
-  block-alike p formed =
+  block-alike ws whole formed =
       let z = sizes m formed in
-      let more = block-count m p (omega arith) in
-      let same = block-table m p certificateCountAt (omega arith) in
+      let more = block-count m ws whole (omega arith) in
+      let same = block-table m ws whole certificateCountAt (omega arith) in
       let at = blockAt (blockCount m) in
       record {
         table = refl;
         logLength = a .logLength;
-        blocksLength = length-set (m .blocks) at p ∙ a .blocksLength ∙ sym (length-set b at p);
+        blocksLength = length-sets (m .blocks) at ws ∙ a .blocksLength ∙ sym (length-sets b at ws);
         log = λ k h. a .log k (omega arith);
-        blocks = λ k h. set-alike (m .blocks) b at p k (a .blocksLength) (λ q. a .blocks k (omega arith));
+        blocks =
+            λ k h.
+            sets-alike ws (m .blocks) b at k (a .blocksLength)
+            (λ far.
+            by-test (ltb k at) (λ e. a .blocks k (omega tests))
+            (λ e. let beyond = far (omega tests) in absurd (omega arith)));
       }
 
 pub update-alike : (m m′ : Memory) (i : ℕ) (cs : List Assignment) → withinRow cs ≡ true → Alike m m′

@@ -5,7 +5,7 @@ use mathlib.Core.Bool.{true, false, or-true}
 use native.Mathlib.Omega.{arith}
 use lib.Dec.{eqb}
 use Rattle.protocol.specs.Ancestry.{ancestorWithin, Falls, isAncestorBy, stepsToRoot, heightBy}
-use Rattle.protocol.proofs.Booleans.{tests, by-test}
+use Rattle.protocol.proofs.Booleans.{tests, by-test, by-cond}
 
 -- Block a is block b, or is in the line of b's parent, for b not 0.
 pub data IsAncestor (parentOf : ℕ → ℕ) (a : ℕ) : ℕ → Type 0 where
@@ -73,3 +73,12 @@ ancestor-height p count falls {a} {b} l (up n w) =
     let e = height-up p count falls b l n in
     let h = ancestor-height p count falls (omega arith) w in
     omega arith
+
+-- A block's height is at most its number.
+pub height-at-most : (p : ℕ → ℕ) (b : ℕ) → heightBy p b ≤ b
+unfolding stepsToRoot
+height-at-most p b = go b b
+  where
+    go : (steps b : ℕ) → stepsToRoot p steps b ≤ steps
+    go zero b = omega arith
+    go (suc steps) b = let rest = go steps (p b) in by-cond (λ (h : ℕ). h ≤ suc steps) (eqb b 0) (λ e. omega arith) (λ e. omega arith)

@@ -1,22 +1,8 @@
 -- The table of cases, by computation: a lemma for each row, and one for the broken tables, so that the check names what is wrong.
-use Prim.Native.Nat.{ℕ}
 use mathlib.Core.Path.{_≡_, refl}
-use mathlib.Core.Bool.{Bool, true, false, _&&_}
-use mathlib.Core.List.{List, [], _∷_, map}
-use lib.Dec.{eqb}
-use Rattle.protocol.specs.declared.Answer.{Answer}
-use Rattle.protocol.specs.Memory.{update, appendCertificate, appendBlock}
-use Rattle.protocol.specs.Form.{allHold, allBelow, blockFormed, replicaFormed, certificateFormed, lengthsFit, countsFit}
-use Rattle.protocol.specs.Form.{stepsFormed, wellFormed}
-use Rattle.protocol.specs.Certificates.{firstBelow, hasWords, numberFor, isFiled, canFile, file}
-use Rattle.protocol.specs.Leader.{leads}
-use Rattle.protocol.specs.Counter.{stepsFrom, stepsAllowed, counterStep}
-use Rattle.protocol.specs.Quorum.{every, contains, distinct, greatestFrom, isQuorum}
-use Rattle.protocol.specs.Outcome.{firstRefusal, answered, follow}
-use Rattle.protocol.specs.Calls.{issuing, freshReplicas, opening, block, prepare, store, view, accumulate, decide, reboot}
-use Rattle.protocol.specs.Calls.{reserve, request, reply, recover}
-use Rattle.protocol.specs.Runs.{ruleOf, step, run, answers}
-use Rattle.protocol.specs.Rows.{Case}
+use mathlib.Core.Bool.{true}
+use mathlib.Core.List.{map}
+use Rattle.protocol.specs.Form.{allHold}
 use Rattle.protocol.specs.LeaderCases.{holding, leaderCases, turnGoesRound, viewZeroAtStore, viewZeroAtPrepare, commitsOfViewZero}
 use Rattle.protocol.specs.LeaderCases.{turnOfFive, lastViews}
 use Rattle.protocol.specs.RepeatCases.{repeatCases, viewsRepeated, accsAndBlocksRepeated, requestsAndRepliesRepeated, nothingStored}
@@ -29,56 +15,9 @@ use Rattle.protocol.specs.TableCases.{tableCases, stepsAfterTheHeader, n
 use Rattle.protocol.specs.Cases.{cases, CasesHold, workedScript, recoveryAfterIt, repliesOfAnEarlierBoot, noFaults}
 use Rattle.protocol.specs.Cases.{faultsAboveTheMost, faultsBeforeLengths, oneFault, thirtyFaults, freshView63, freshView64}
 use Rattle.protocol.specs.Cases.{oneCommitTwice, commitsJustify, blockZeroProposed, secondProposalInAView, fullLog, counterEnds}
-use Rattle.protocol.proofs.Booleans.{tests, and-true}
-
-isAnswer : Answer → Answer → Bool
-isAnswer a b = eqb (a .number) (b .number) && (eqb (a .first) (b .first) && eqb (a .second) (b .second))
-
-alike : {n n′ f f′ s s′ : ℕ} → n ≡ n′ → f ≡ f′ → s ≡ s′
-    → _≡_ {A = Answer} (record { number = n; first = f; second = s }) (record { number = n′; first = f′; second = s′ })
-alike n f s = rw (n, f, s) refl
-
-same-answer : (a b : Answer) → isAnswer a b ≡ true → a ≡ b
-unfolding isAnswer
-same-answer a b e =
-    let number = and-true (eqb (a .number) (b .number)) _ e in
-    let values = and-true (eqb (a .first) (b .first)) _ (number .1) in
-    alike (omega tests) (omega tests) (omega tests)
-
-areAnswers : List Answer → List Answer → Bool
-areAnswers [] [] = true
-areAnswers [] (b ∷ wanted) = false
-areAnswers (a ∷ given) [] = false
-areAnswers (a ∷ given) (b ∷ wanted) = isAnswer a b && areAnswers given wanted
-
-same-answers : (given wanted : List Answer) → areAnswers given wanted ≡ true → given ≡ wanted
-unfolding areAnswers
-same-answers [] [] e = refl
-same-answers [] (b ∷ wanted) e = cc
-same-answers (a ∷ given) [] e = cc
-same-answers (a ∷ given) (b ∷ wanted) e =
-    let both = and-true (isAnswer a b) (areAnswers given wanted) e in
-    rw (same-answer a b (both .0), same-answers given wanted (both .1)) refl
-
--- A row's calls get the answers expected. Everything that the rules are made of opens with it.
-unfoldable holds : Case → Bool
-unfolding update appendCertificate appendBlock allHold allBelow blockFormed replicaFormed certificateFormed lengthsFit countsFit stepsFormed
-    wellFormed firstBelow hasWords numberFor isFiled canFile file leads stepsFrom stepsAllowed counterStep every contains distinct isQuorum
-    greatestFrom firstRefusal answered follow issuing freshReplicas opening block prepare store view accumulate decide
-    reboot reserve request reply recover ruleOf step run answers isAnswer areAnswers
-holds c = areAnswers (answers (c .start) (c .calls)) (c .expected)
-
-row : (c : Case) → holds c ≡ true → answers (c .start) (c .calls) ≡ c .expected
-unfolding holds
-row c e = same-answers _ _ e
-
-rows : (cs : List Case) → allHold (map holds cs) ≡ true
-    → map (λ (c : Case). answers (c .start) (c .calls)) cs ≡ map (λ (c : Case). c .expected) cs
-unfolding allHold
-rows [] e = refl
-rows (c ∷ cs) e = let both = and-true (holds c) (allHold (map holds cs)) e in rw (row c (both .0), rows cs (both .1)) refl
-
--- ---- the rows
+use Rattle.protocol.specs.HeightCases.{heightCases}
+use Rattle.protocol.proofs.Rows.{holds, row, AnswersAre, rows, both}
+use Rattle.protocol.proofs.HeightCases.{height-cases}
 
 worked-script : holds workedScript ≡ true
 unfolding holds workedScript
@@ -272,8 +211,18 @@ broken-tables : allHold (map holds brokenTables) ≡ true
 unfolding holds brokenTables
 broken-tables = refl
 
+table-cases : AnswersAre tableCases
+unfolding tableCases
+table-cases =
+    rw (
+      row stepsAfterTheHeader steps-after-the-header,
+      row noStepIsZero no-step-is-zero,
+      row equalStepsDoNotFall equal-steps-do-not-fall,
+      rows brokenTables broken-tables,
+    ) refl
+
 pub cases-hold : CasesHold
-unfolding CasesHold cases leaderCases repeatCases stepCases tableCases
+unfolding CasesHold cases leaderCases repeatCases stepCases
 cases-hold =
     rw (
       row workedScript worked-script,
@@ -320,8 +269,5 @@ cases-hold =
       row stepsBetweenFaultsAndLengths steps-between-faults-and-lengths,
       row refusedOpeningLeavesSteps refused-opening-leaves-steps,
       row openedAgainWithoutSteps opened-again-without-steps,
-      row stepsAfterTheHeader steps-after-the-header,
-      row noStepIsZero no-step-is-zero,
-      row equalStepsDoNotFall equal-steps-do-not-fall,
-      rows brokenTables broken-tables,
+      both tableCases heightCases table-cases height-cases,
     ) refl

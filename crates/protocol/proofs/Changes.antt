@@ -1,6 +1,6 @@
 -- Reading the memory after each of the three changes: words of a replica, a certificate more, a block more.
 use Prim.Native.Nat.{ℕ, _+_, _≤_, _<_}
-use mathlib.Core.Path.{_≡_, refl}
+use mathlib.Core.Path.{_≡_, refl, ap}
 use mathlib.Core.Bool.{true}
 use mathlib.Core.Logic.{_≢_}
 use mathlib.Core.List.{List}
@@ -11,8 +11,8 @@ use Rattle.protocol.specs.Memory.{Memory, Replica, Certificate, Assignme
 use Rattle.protocol.specs.Memory.{certificateCount, blockCount, rowStart, rowAt, replicaWords, replicaWord, replica, statusAt}
 use Rattle.protocol.specs.Memory.{bootAt, minViewAt, viewLimitAt, flagAt, storedViewAt, storedBlockAt, decidedViewAt}
 use Rattle.protocol.specs.Memory.{decidedBlockAt, certificateWords, certificateAt, certificateWord, certificate, kindAt}
-use Rattle.protocol.specs.Memory.{signerAt, viewAt, proposedBlockAt, ofViewAt, subjectAt, subjectBootAt, blockAt, parent}
-use Rattle.protocol.specs.Memory.{update, appendCertificate, appendBlock}
+use Rattle.protocol.specs.Memory.{signerAt, viewAt, proposedBlockAt, ofViewAt, subjectAt, subjectBootAt, blockWords, blockAt}
+use Rattle.protocol.specs.Memory.{parentAt, parent, update, appendCertificate, appendBlock}
 use Rattle.protocol.specs.Theorems.{SameLengths}
 use Rattle.protocol.proofs.Words.{assigned, withinRow, avoids-row, length-assign, assign-elsewhere, assign-at}
 use Rattle.protocol.proofs.Words.{sets-elsewhere, sets-at}
@@ -52,6 +52,10 @@ replica-same m m′ i h = λ d. replicaBy (λ k l. h k l d)
 pub certificate-same : (m m′ : Memory) (c : ℕ) → ((k : ℕ) → k < certificateWords → certificateWord m c k ≡ certificateWord m′ c k)
     → certificate m c ≡ certificate m′ c
 certificate-same m m′ c h = λ d. certificateBy (λ k l. h k l d)
+
+-- A parent is as before where the blocks are.
+pub same-parent : (m m′ : Memory) → m′ .blocks ≡ m .blocks → (b : ℕ) → parent m′ b ≡ parent m b
+same-parent m m′ e b = ap (λ (bs : List ℕ). getD bs (blockAt b + parentAt) 0) e
 
 -- ---- words of a replica
 
@@ -136,31 +140,33 @@ module _ (m : Memory) (ws : List ℕ) (whole : length ws ≡ certificateWords) w
 
 -- ---- a block more
 
-module _ (m : Memory) (p : ℕ) where
-  pub block-lengths : SameLengths (appendBlock m p) m
+module _ (m : Memory) (ws : List ℕ) (whole : length ws ≡ blockWords) where
+  pub block-lengths : SameLengths (appendBlock m ws) m
   unfolding appendBlock
   block-lengths =
       record {
         table = length-set (m .table) blockCountAt (blockCount m + 1);
         log = refl;
-        blocks = length-set (m .blocks) (blockAt (blockCount m)) p;
+        blocks = length-sets (m .blocks) (blockAt (blockCount m)) ws;
       }
 
-  pub block-table : (k : ℕ) → k ≢ blockCountAt → getD (appendBlock m p .table) k 0 ≡ getD (m .table) k 0
+  pub block-table : (k : ℕ) → k ≢ blockCountAt → getD (appendBlock m ws .table) k 0 ≡ getD (m .table) k 0
   unfolding appendBlock
   block-table k q = getD-set-other (m .table) blockCountAt k (blockCount m + 1) 0 q
 
-  pub block-count : blockCountAt < length (m .table) → blockCount (appendBlock m p) ≡ blockCount m + 1
+  pub block-count : blockCountAt < length (m .table) → blockCount (appendBlock m ws) ≡ blockCount m + 1
   unfolding appendBlock
   block-count h = getD-set-same (m .table) blockCountAt (blockCount m + 1) 0 h
 
-  pub block-replica : (i : ℕ) → replica (appendBlock m p) i ≡ replica m i
-  block-replica i = replica-same (appendBlock m p) m i (λ k h. block-table (rowAt i + k) (omega arith))
+  pub block-replica : (i : ℕ) → replica (appendBlock m ws) i ≡ replica m i
+  block-replica i = replica-same (appendBlock m ws) m i (λ k h. block-table (rowAt i + k) (omega arith))
 
-  pub block-old : (b : ℕ) → b < blockCount m → parent (appendBlock m p) b ≡ parent m b
+  -- A word of a record.
+  pub block-old : (b k : ℕ) → b < blockCount m → k < blockWords → getD (appendBlock m ws .blocks) (blockAt b + k) 0 ≡ getD (m .blocks) (blockAt b + k) 0
   unfolding appendBlock
-  block-old b h = getD-set-other (m .blocks) (blockAt (blockCount m)) (blockAt b) p 0 (omega arith)
+  block-old b k h l = sets-elsewhere ws (m .blocks) (blockAt (blockCount m)) (blockAt b + k) (λ le. omega arith)
 
-  pub block-new : blockAt (blockCount m) < length (m .blocks) → parent (appendBlock m p) (blockCount m) ≡ p
+  pub block-new : (k : ℕ) → k < blockWords → blockAt (blockCount m) + blockWords ≤ length (m .blocks)
+      → getD (appendBlock m ws .blocks) (blockAt (blockCount m) + k) 0 ≡ getD ws k 0
   unfolding appendBlock
-  block-new room = getD-set-same (m .blocks) (blockAt (blockCount m)) p 0 room
+  block-new k l room = sets-at ws (m .blocks) (blockAt (blockCount m)) k (omega arith) (omega arith)

@@ -1,25 +1,27 @@
--- The form, both ways: what it tells, and what shows it; how large steps are, that parents fall, and the numbers that it tells.
+-- The form, both ways: what it tells, and what shows it; how large steps are, that parents fall and heights are kept, and the numbers that it
+-- tells.
 use Prim.Native.Nat.{ℕ, suc, _≤_, _<_, _%_}
 use mathlib.Core.Path.{_≡_, refl}
-use mathlib.Core.Bool.{true, false}
+use mathlib.Core.Bool.{true}
 use mathlib.Core.List.{[], _∷_}
 use native.Mathlib.Omega.{arith}
 use lib.ListN.{length}
-use lib.Dec.{leb, eqb}
+use lib.Dec.{leb}
 use Rattle.protocol.specs.Memory.{Memory, maxFaultBound, replicaCount, faultBound, certificateCount, blockCount, stepCount}
 use Rattle.protocol.specs.Memory.{lastStep, keptStep, tableLength, replica, certificateWords, certificateAt, certificate, blockAt}
-use Rattle.protocol.specs.Memory.{parent}
-use Rattle.protocol.specs.Ancestry.{Falls}
+use Rattle.protocol.specs.Memory.{blockWords, parent, keptHeight, maxBlocks}
+use Rattle.protocol.specs.Ancestry.{Falls, height}
 use Rattle.protocol.specs.Form.{allHold, isFaultBound, lengthsFit, countsFit, maxStep, stepsFormed, blockFormed, replicaFormed}
 use Rattle.protocol.specs.Form.{certificateFormed, wellFormed}
 use Rattle.protocol.proofs.Booleans.{tests, each, all-hold, at-below, all-below, same-below}
+use Rattle.protocol.proofs.Blocks.{parents-fall, kept-height}
 
 pub record Formed (m : Memory) : Type 0 where
   pub faults : isFaultBound (faultBound m) ≡ true
   pub lengths : lengthsFit m (faultBound m) ≡ true
   pub counts : countsFit m ≡ true
   pub steps : stepsFormed (keptStep m) ≡ true
-  pub parents : (b : ℕ) → b < blockCount m → blockFormed b (parent m b) ≡ true
+  pub blocks : (b : ℕ) → b < blockCount m → blockFormed (parent m) (keptHeight m) b ≡ true
   pub rows : (i : ℕ) → i < replicaCount (faultBound m) → replicaFormed (blockCount m) (replica m i) ≡ true
   pub log : (c : ℕ) → c < certificateCount m
       → certificateFormed (replicaCount (faultBound m)) (blockCount m) (certificate m c) ≡ true
@@ -33,7 +35,7 @@ formed m e =
       lengths = h .1 .0;
       counts = h .1 .1 .0;
       steps = h .1 .1 .1 .0;
-      parents = at-below _ _ (h .1 .1 .1 .1 .0);
+      blocks = at-below _ _ (h .1 .1 .1 .1 .0);
       rows = at-below _ _ (h .1 .1 .1 .1 .1 .0);
       log = at-below _ _ (h .1 .1 .1 .1 .1 .1 .0);
     }
@@ -47,7 +49,7 @@ form m h =
         h .lengths,
         (
           h .counts,
-          (h .steps, (all-below _ _ (h .parents), (all-below _ _ (h .rows), (all-below _ _ (h .log), tt)))),
+          (h .steps, (all-below _ _ (h .blocks), (all-below _ _ (h .rows), (all-below _ _ (h .log), tt)))),
         ),
       ),
     )
@@ -73,13 +75,12 @@ steps-same s t h =
     (λ k l. rw (h k (omega arith), h (suc k) (omega arith)) refl) in
     rw (ranges, order) refl
 
--- Well-formed parents fall.
+-- Well-formed parents fall, and heights are kept.
 pub falls : (m : Memory) → Formed m → Falls (parent m) (blockCount m)
-unfolding blockFormed
-falls m h b l n =
-    let z : eqb b 0 ≡ false = omega tests in
-    let e = rw z at (h .parents b l) in
-    omega tests
+falls m h = parents-fall (parent m) (keptHeight m) (blockCount m) (h .blocks)
+
+pub height-kept : (m : Memory) → Formed m → (b : ℕ) → b < blockCount m → keptHeight m b ≡ height m b
+height-kept m h = kept-height (parent m) (keptHeight m) (blockCount m) (h .blocks)
 
 -- The numbers that the form tells.
 pub record Sizes (m : Memory) : Type 0 where
@@ -88,6 +89,8 @@ pub record Sizes (m : Memory) : Type 0 where
   pub table : length (m .table) ≡ tableLength (faultBound m)
   pub logWhole : length (m .log) % certificateWords ≡ 0
   pub certificatesFit : certificateAt (certificateCount m) ≤ length (m .log)
+  pub blocksWhole : length (m .blocks) % blockWords ≡ 0
+  pub blocksMost : length (m .blocks) ≤ blockAt maxBlocks
   pub blocksFit : blockAt (blockCount m) ≤ length (m .blocks)
   pub blocksSome : 1 ≤ blockCount m
 

@@ -5,14 +5,14 @@ use mathlib.Core.List.{List, [], _∷_, map, List·Memᴰ, List·Memᴰ·head, L
 use native.Mathlib.Nat.{zero-add}
 use native.Mathlib.Omega.{arith}
 use lib.ListN.{length, getD, List·getD-eq-default}
-use lib.Seq.{getD-set-other}
+use lib.Seq.{sets}
 use lib.Dec.{ltb}
 use Rattle.protocol.specs.declared.Call.{Call}
 use Rattle.protocol.specs.declared.Call.the-variants.{Open, Block, Prepare, Store, View, Accumulate, Decide, Reboot}
 use Rattle.protocol.specs.declared.Call.the-variants.{Reserve, Request, Reply, Recover}
 use Rattle.protocol.specs.Memory.{Memory, Certificate, Assignment, _becomes_, replicaCount, certificateCount, rowAt}
 use Rattle.protocol.specs.Memory.{certificateWords, certificateAt, certificate, words, replica, update, appendCertificate}
-use Rattle.protocol.specs.Memory.{appendBlock}
+use Rattle.protocol.specs.Memory.{blockCount, blockWords, blockAt, blockRecord, appendBlock}
 use Rattle.protocol.specs.Certificates.{file}
 use Rattle.protocol.specs.Counter.{stepsFrom}
 use Rattle.protocol.specs.Quorum.{certificatesOf, firstOf}
@@ -21,7 +21,7 @@ use Rattle.protocol.specs.Calls.{issuing, freshHeader, keepSteps, openin
 use Rattle.protocol.specs.Calls.{accumulate, decide, reboot, reserve, request, reply, recover}
 use Rattle.protocol.specs.Runs.{ruleOf, step}
 use Rattle.protocol.specs.Theorems.{Address, tableWord, logWord, blockWord, wordAt, below, certificateAddresses, blockAddresses}
-use Rattle.protocol.specs.Theorems.{named, SameLengths, OnlyNamedChange, LengthsStay}
+use Rattle.protocol.specs.Theorems.{recordAddresses, named, SameLengths, OnlyNamedChange, LengthsStay}
 use Rattle.protocol.proofs.LeavesForm.{reboot-retires}
 use Rattle.protocol.proofs.Booleans.{by-cond}
 use Rattle.protocol.proofs.Needs.{outcome-memory}
@@ -80,17 +80,24 @@ issuing-frame m needs i cs c a away new =
     update-frame (file m (words c)) i cs a away
     ∙ file-cases (λ x. wordAt x a ≡ wordAt m a) m (words c) (λ e. refl) (λ e. append-frame m (words c) refl a new)
 
-block-frame : (m : Memory) (b : ℕ) (a : Address) → Apart a (blockAddresses m) → wordAt (appendBlock m b) a ≡ wordAt m a
+-- A word of the blocks that is none of a record's.
+record-frame : (blocks ws : List ℕ) → length ws ≡ blockWords → (b j : ℕ) → Apart (blockWord j) (recordAddresses b)
+    → getD (sets blocks (blockAt b) ws) j 0 ≡ getD blocks j 0
+record-frame blocks ws whole b j h =
+    sets-elsewhere ws blocks (blockAt b) j (λ le. let far = past-run blockWord blockWords (blockAt b) j h le in omega arith)
+
+block-frame : (m : Memory) (ws : List ℕ) → length ws ≡ blockWords → (a : Address) → Apart a (blockAddresses m)
+    → wordAt (appendBlock m ws) a ≡ wordAt m a
 unfolding wordAt appendBlock
-block-frame m b (tableWord j) h = block-table m b j (λ e. h .0 (ap tableWord e))
-block-frame m b (logWord j) h = refl
-block-frame m b (blockWord j) h = getD-set-other (m .blocks) _ j b 0 (λ e. h .1 .0 (ap blockWord e))
+block-frame m ws whole (tableWord j) h = block-table m ws whole j (λ e. h .0 (ap tableWord e))
+block-frame m ws whole (logWord j) h = refl
+block-frame m ws whole (blockWord j) h = record-frame (m .blocks) ws whole (blockCount m) j (h .1)
 
 opening-frame : (m : Memory) (f : ℕ) (list : List ℕ) (a : Address) → Apart a (named m (Open f))
     → wordAt (opening m f list .after) a ≡ wordAt m a
 unfolding opening wordAt named
 opening-frame m f list (tableWord j) h =
-    let far = past-run tableWord (length (m .table)) 0 j (simp zero-add (h .1)) (omega arith) in
+    let far = past-run tableWord (length (m .table)) 0 j (simp zero-add (h .1 .1)) (omega arith) in
     let s = opening-lengths m f list in
     List·getD-eq-default (opening m f list .after .table) 0 {n = j} (omega arith)
     ∙ sym (List·getD-eq-default (m .table) 0 {n = j} (omega arith))
@@ -98,7 +105,7 @@ opening-frame m f list (logWord j) h =
     ap (λ (l : List ℕ). getD l j 0) (fresh-log (keepSteps (freshHeader m f) (stepsFrom list)) _ (replicaCount f))
 opening-frame m f list (blockWord j) h =
     ap (λ (l : List ℕ). getD l j 0) (fresh-blocks (keepSteps (freshHeader m f) (stepsFrom list)) _ (replicaCount f))
-    ∙ getD-set-other (m .blocks) _ j 0 0 (λ e. h .0 (ap blockWord e))
+    ∙ record-frame (m .blocks) (blockRecord 0 0) refl 0 j (h .0, (h .1 .0, tt))
 
 -- ---- the calls
 
@@ -106,7 +113,7 @@ frame : (m : Memory) (call : Call) (list : List ℕ) (a : Address) → Apart a (
     → wordAt (ruleOf m call list .after) a ≡ wordAt m a
 unfolding ruleOf named opening block prepare store view accumulate decide reboot reserve request reply recover
 frame m (Open f) list a h = opening-frame m f list a h
-frame m (Block b) list a h = block-frame m b a h
+frame m (Block p) list a h = block-frame m _ refl a h
 frame m (Prepare i b justification) list a h = issuing-frame m _ i _ _ a (h .0, tt) (h .1)
 frame m (Store i number) list a h = issuing-frame m _ i _ _ a (h .0, (h .1 .0, (h .1 .1 .0, (h .1 .1 .1 .0, tt)))) (h .1 .1 .1 .1)
 frame m (View i w) list a h = issuing-frame m _ i _ _ a (h .0, (h .1 .0, tt)) (h .1 .1)
@@ -139,7 +146,7 @@ issuing-lengths m needs i cs c =
 lengths-after : (m : Memory) (call : Call) (list : List ℕ) → SameLengths (ruleOf m call list .after) m
 unfolding ruleOf opening block prepare store view accumulate decide reboot reserve request reply recover
 lengths-after m (Open f) list = opening-lengths m f list
-lengths-after m (Block b) list = block-lengths m b
+lengths-after m (Block p) list = block-lengths m _ refl
 lengths-after m (Prepare i b justification) list = issuing-lengths m _ i _ _
 lengths-after m (Store i number) list = issuing-lengths m _ i _ _
 lengths-after m (View i w) list = issuing-lengths m _ i _ _

@@ -1,15 +1,16 @@
 -- What keeps the form: words of a replica that stay in their ranges, a certificate in its ranges, a block on an added one.
 use Prim.Native.Nat.{ℕ, _+_, _≤_, _<_}
-use mathlib.Core.Path.{_≡_, refl, ap, _∙_}
-use mathlib.Core.Bool.{true, false}
+use mathlib.Core.Path.{_≡_, refl, sym, ap, _∙_}
+use mathlib.Core.Bool.{true}
 use mathlib.Core.List.{List, [], _∷_}
 use native.Mathlib.Omega.{arith}
 use lib.ListN.{length}
 use lib.Dec.{eqb}
 use Rattle.protocol.specs.Memory.{Memory, Replica, Certificate, Assignment, replicaCount, faultBoundAt, certificateCountAt}
 use Rattle.protocol.specs.Memory.{blockCountAt, faultBound, certificateCount, blockCount, stepAt, keptStep, replica, certificateWords}
-use Rattle.protocol.specs.Memory.{certificateAt, certificate, words, blockAt, update, appendCertificate, appendBlock}
-use Rattle.protocol.specs.Form.{lengthsFit, countsFit, blockFormed, replicaFormed, certificateFormed}
+use Rattle.protocol.specs.Memory.{certificateAt, certificate, words, blockAt, parentAt, heightAt, parent, keptHeight, blockRecord}
+use Rattle.protocol.specs.Memory.{update, appendCertificate, appendBlock}
+use Rattle.protocol.specs.Form.{lengthsFit, countsFit, replicaFormed, certificateFormed}
 use Rattle.protocol.specs.Certificates.{canFile, file, logHasRoom}
 use Rattle.protocol.specs.Outcome.{Need, _else_, noRoom}
 use Rattle.protocol.specs.FirstNeeds.{isReplica}
@@ -18,6 +19,7 @@ use Rattle.protocol.specs.Theorems.{SameLengths}
 use Rattle.protocol.proofs.Booleans.{tests, by-test, each, all-hold}
 use Rattle.protocol.proofs.Needs.{Holds, holds-both}
 use Rattle.protocol.proofs.Words.{withinRow}
+use Rattle.protocol.proofs.Blocks.{child-formed, forms-same}
 use Rattle.protocol.proofs.Formed.{Formed, steps-same, sizes}
 use Rattle.protocol.proofs.Filing.{file-cases, must-have-room, file-table, file-replica}
 use Rattle.protocol.proofs.Changes.{changed, certificateFrom, update-lengths, update-header, update-other, update-own}
@@ -43,11 +45,6 @@ pub certificate-grows : (n a b : ℕ) (c : Certificate) → a ≤ b → certific
 unfolding certificateFormed
 certificate-grows n a b c le e = let h = each _ e in all-hold _ (omega tests)
 
--- A block above its parent.
-on-lower : (b p : ℕ) → p < b → blockFormed b p ≡ true
-unfolding blockFormed
-on-lower b p l = let q : eqb b 0 ≡ false = omega tests in rw q (omega tests)
-
 -- ---- words of a replica
 
 -- Assignments within the row that leave the replica in its ranges.
@@ -70,7 +67,7 @@ update-keeps m i cs h own suits =
       lengths = rw f (same ∙ h .lengths);
       counts = counts-fit (update m i cs) (omega arith) (omega arith) (omega arith);
       steps = steps-same _ (keptStep m) (λ k l. update-header m i cs within (stepAt k) (omega arith)) ∙ h .steps;
-      parents = λ x l. h .parents x (omega arith);
+      blocks = λ x l. h .blocks x (omega arith);
       rows =
           λ j l.
           rw b
@@ -99,7 +96,7 @@ append-keeps m ws whole h room good =
       lengths = rw f (lengths-same (appendCertificate m ws) m (faultBound m) s ∙ h .lengths);
       counts = counts-fit (appendCertificate m ws) (omega arith) (omega arith) (omega arith);
       steps = steps-same _ (keptStep m) (λ k l. append-table m ws whole (stepAt k) (omega arith)) ∙ h .steps;
-      parents = λ x l. h .parents x (omega arith);
+      blocks = λ x l. h .blocks x (omega arith);
       rows = λ j l. rw b (ap (replicaFormed (blockCount m)) (append-replica m ws whole j) ∙ h .rows j (omega arith));
       log =
           λ x l.
@@ -120,34 +117,43 @@ file-keeps m c h can good =
 -- ---- a block more
 
 pub block-keeps : (m : Memory) (p : ℕ) → Formed m → p < blockCount m → blockAt (blockCount m) < length (m .blocks)
-    → Formed (appendBlock m p)
+    → Formed (appendBlock m (blockRecord p (keptHeight m p + 1)))
 unfolding appendBlock
 block-keeps m p h known room =
+    let ws = blockRecord p (keptHeight m p + 1) in
+    let m′ = appendBlock m ws in
     let z = sizes m h in
-    let f = block-table m p faultBoundAt (omega arith) in
-    let c = block-table m p certificateCountAt (omega arith) in
-    let b = block-count m p (omega arith) in
-    let s = block-lengths m p in
+    let f = block-table m ws refl faultBoundAt (omega arith) in
+    let c = block-table m ws refl certificateCountAt (omega arith) in
+    let b = block-count m ws refl (omega arith) in
+    let s = block-lengths m ws refl in
+    let height-old : (x : ℕ) → x < blockCount m → keptHeight m′ x ≡ keptHeight m x = λ x l. block-old m ws refl x heightAt l (omega arith) in
     record {
       faults = rw f (h .faults);
-      lengths = rw f (lengths-same (appendBlock m p) m (faultBound m) s ∙ h .lengths);
-      counts = counts-fit (appendBlock m p) (omega arith) (omega arith) (omega arith);
-      steps = steps-same _ (keptStep m) (λ k l. block-table m p (stepAt k) (omega arith)) ∙ h .steps;
-      parents =
+      lengths = rw f (lengths-same m′ m (faultBound m) s ∙ h .lengths);
+      counts = counts-fit m′ (omega arith) (omega arith) (omega arith);
+      steps = steps-same _ (keptStep m) (λ k l. block-table m ws refl (stepAt k) (omega arith)) ∙ h .steps;
+      blocks =
           λ x l.
           by-test (eqb x (blockCount m))
           (λ e.
           let q : x ≡ blockCount m = omega tests in
-          rw q (ap (blockFormed (blockCount m)) (block-new m p room) ∙ on-lower (blockCount m) p known))
-          (λ e. ap (blockFormed x) (block-old m p x (omega tests)) ∙ h .parents x (omega tests));
+          let parent-is = block-new m ws refl parentAt (omega arith) (omega arith) in
+          let height-is = block-new m ws refl heightAt (omega arith) (omega arith) in
+          rw q
+          (child-formed (parent m′) (keptHeight m′) (blockCount m) (omega arith) (omega arith)
+          (height-is ∙ ap (λ (y : ℕ). y + 1) (sym (ap (keptHeight m′) parent-is ∙ height-old p known)))))
+          (λ e.
+          forms-same (parent m′) (keptHeight m′) (parent m) (keptHeight m) (blockCount m)
+          (λ y l. block-old m ws refl y parentAt l (omega arith)) height-old x (omega tests)
+          ∙ h .blocks x (omega tests));
       rows =
           λ j l.
-          row-grows (blockCount m) (blockCount (appendBlock m p)) (replica (appendBlock m p) j) (omega arith)
-          (ap (replicaFormed (blockCount m)) (block-replica m p j) ∙ h .rows j (omega arith));
+          row-grows (blockCount m) (blockCount m′) (replica m′ j) (omega arith)
+          (ap (replicaFormed (blockCount m)) (block-replica m ws refl j) ∙ h .rows j (omega arith));
       log =
           λ x l.
-          rw f
-          (certificate-grows _ (blockCount m) (blockCount (appendBlock m p)) (certificate m x) (omega arith) (h .log x (omega arith)));
+          rw f (certificate-grows _ (blockCount m) (blockCount m′) (certificate m x) (omega arith) (h .log x (omega arith)));
     }
 
 -- ---- an issuing call: the certificate filed, words of the replica changed

@@ -1,9 +1,13 @@
 -- What follows from the definitions: laws of their parts, then the theorems that specs/Theorems.antt and specs/Agreement.antt state, and
 -- the table of cases.
 pub mod Booleans
+pub mod Joined
+pub mod Below
 pub mod Needs
 pub mod Rules
 pub mod Words
+pub mod Ancestors
+pub mod Blocks
 pub mod Formed
 pub mod Changes
 pub mod Filing
@@ -15,7 +19,6 @@ pub mod Frame
 pub mod Alike
 pub mod Unread
 pub mod Values
-pub mod Ancestors
 pub mod Meeting
 pub mod Safety
 pub mod Moves
@@ -30,5 +33,8 @@ pub mod Agreement
 pub mod Repeats
 pub mod MadeAgain
 pub mod Steps
+pub mod Heights
 pub mod Leaders
+pub mod Rows
+pub mod HeightCases
 pub mod Cases

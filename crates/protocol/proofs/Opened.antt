@@ -1,5 +1,5 @@
 -- What opening leaves: a header, the steps, fresh replicas, one block; so the form, whatever the memory held.
-use Prim.Native.Nat.{ℕ, zero, suc, _≤_, _<_}
+use Prim.Native.Nat.{ℕ, zero, suc, _+_, _≤_, _<_}
 use mathlib.Core.Path.{_≡_, refl, ap, _∙_}
 use mathlib.Core.Bool.{true}
 use mathlib.Core.List.{List}
@@ -8,14 +8,15 @@ use lib.ListN.{length, getD, set, length-set}
 use lib.Seq.{getD-set-same, getD-set-other, length-sets}
 use lib.Dec.{eqb}
 use Rattle.protocol.specs.Memory.{Memory, Replica, replicaCount, headerWords, faultBoundAt, certificateCountAt, blockCountAt, faultBound}
-use Rattle.protocol.specs.Memory.{certificateCount, blockCount, stepCount, stepAt, keptStep, rowStart, rowAt, replica, parent}
-use Rattle.protocol.specs.Memory.{live, lowered, update}
-use Rattle.protocol.specs.Form.{isFaultBound, lengthsFit, blockFormed, replicaFormed}
+use Rattle.protocol.specs.Memory.{certificateCount, blockCount, stepCount, stepAt, keptStep, rowStart, rowAt, replica, live, lowered}
+use Rattle.protocol.specs.Memory.{blockWords, blockAt, parentAt, heightAt, parent, keptHeight, blockRecord, update}
+use Rattle.protocol.specs.Form.{isFaultBound, lengthsFit, replicaFormed}
 use Rattle.protocol.specs.Counter.{stepsFrom, stepsAllowed}
 use Rattle.protocol.specs.Calls.{freshReplica, freshReplicas, freshHeader, keepSteps, opening}
 use Rattle.protocol.specs.Theorems.{SameLengths}
 use Rattle.protocol.proofs.Booleans.{tests, by-test, each, all-hold}
 use Rattle.protocol.proofs.Words.{sets-elsewhere, sets-at}
+use Rattle.protocol.proofs.Blocks.{root-formed}
 use Rattle.protocol.proofs.Changes.{update-lengths, update-header, update-other, update-own}
 use Rattle.protocol.proofs.Formed.{Formed, step-bounds, steps-same}
 use Rattle.protocol.proofs.Keeps.{lengths-same, counts-fit}
@@ -71,7 +72,7 @@ module _ (m : Memory) (limit : ℕ) where
 -- ---- the header
 
 pub header-lengths : (m : Memory) (f : ℕ) → SameLengths (freshHeader m f) m
-header-lengths m f = record { table = simp length-set; log = refl; blocks = simp length-set }
+header-lengths m f = record { table = simp length-set; log = refl; blocks = length-sets (m .blocks) (blockAt 0) (blockRecord 0 0) }
 
 pub record Header (m : Memory) (f : ℕ) : Type 0 where
   pub faults : faultBound m ≡ f
@@ -126,6 +127,7 @@ pub record Opened (m : Memory) (f : ℕ) (given : List ℕ) (o : Memory) : Type 
   pub header : Header o f
   pub steps : (k : ℕ) → k < stepCount → keptStep o k ≡ getD given k 0
   pub root : parent o 0 ≡ 0
+  pub rootHeight : keptHeight o 0 ≡ 0
   pub rows : (i : ℕ) → i < replicaCount f → replica o i ≡ fresh (getD given 0 0)
 
 pub opened : (m : Memory) (f : ℕ) (list : List ℕ) → stepsAllowed list ≡ true → lengthsFit m f ≡ true
@@ -141,6 +143,8 @@ opened m f list allowed fit =
     let s = header-lengths m f in
     let head = header m f fit in
     let rows = fresh-header kept limit (replicaCount f) in
+    let record-word : (k : ℕ) → k < blockWords → getD (opening m f list .after .blocks) (blockAt 0 + k) 0 ≡ getD (blockRecord 0 0) k 0 =
+    λ k inside. rw (fresh-blocks kept limit (replicaCount f)) (sets-at (blockRecord 0 0) (m .blocks) (blockAt 0) k (omega arith) (omega tests)) in
     let same : (k : ℕ) → k < headerWords → getD (opening m f list .after .table) k 0 ≡ getD (freshHeader m f .table) k 0 =
     λ k h. rows k (omega arith) ∙ keep-header (freshHeader m f) steps k h in
     record {
@@ -152,13 +156,14 @@ opened m f list allowed fit =
             blocks = same blockCountAt (omega arith) ∙ head .blocks;
           };
       steps = λ k l. rows (stepAt k) (omega arith) ∙ sets-at steps _ (stepAt 0) k (omega tests) (simp length-set (omega tests));
-      root = rw (fresh-blocks kept limit (replicaCount f)) (getD-set-same (m .blocks) 0 0 0 (omega tests));
+      root = record-word parentAt (omega arith);
+      rootHeight = record-word heightAt (omega arith);
       rows = λ i own. fresh-row kept limit (replicaCount f) i own (omega tests);
     }
 
 pub opened-formed : (m : Memory) (f : ℕ) (list : List ℕ) (o : Memory) → isFaultBound f ≡ true → stepsAllowed list ≡ true
     → lengthsFit m f ≡ true → Opened m f (stepsFrom list) o → Formed o
-unfolding lengthsFit stepsAllowed blockFormed replicaFormed
+unfolding lengthsFit stepsAllowed replicaFormed
 opened-formed m f list o bound allowed fit h =
     let a = each _ fit in
     let formed = each _ allowed .1 .0 in
@@ -170,7 +175,7 @@ opened-formed m f list o bound allowed fit h =
       lengths = rw (head .faults) (lengths-same o m f s ∙ fit);
       counts = counts-fit o (omega tests) (omega tests) (omega tests);
       steps = steps-same _ _ (h .steps) ∙ formed;
-      parents = λ x l. let q : x ≡ 0 = omega arith in rw q (let r = h .root in omega tests);
+      blocks = λ x l. let q : x ≡ 0 = omega arith in rw q (root-formed (parent o) (keptHeight o) (h .root) (h .rootHeight));
       rows = λ i l. ap (replicaFormed (blockCount o)) (h .rows i (omega arith)) ∙ all-hold _ (omega tests);
       log = λ x l. absurd (omega arith);
     }

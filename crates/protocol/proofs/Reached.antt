@@ -1,14 +1,13 @@
 -- What every list of calls after an opening keeps: the invariant, and that the words are what the calls and answers told.
-use Prim.Native.Nat.{ℕ, _≤_, _<_}
+use Prim.Native.Nat.{ℕ, _+_, _≤_, _<_}
 use mathlib.Core.Path.{_≡_, refl, sym, ap, _∙_, subst}
 use mathlib.Core.Bool.{true, false, cond}
 use mathlib.Core.Logic.{inl, inr, ⊎-elim}
 use mathlib.Core.List.{List, [], _∷_, List·Memᴰ, List·Memᴰ·cases-cons}
 use native.Mathlib.Omega.{arith}
-use lib.ListN.{getD}
 use lib.Dec.{ltb, leb, eqb}
 use Rattle.protocol.specs.Memory.{Memory, Replica, _becomes_, decidedViewAt, decidedBlockAt, replicaCount, faultBound}
-use Rattle.protocol.specs.Memory.{blockCount, replica, parent, appendBlock}
+use Rattle.protocol.specs.Memory.{blockCount, replica, parentAt, parent, keptHeight, blockRecord, appendBlock}
 use Rattle.protocol.specs.Ancestry.{Falls, stepsToRoot, heightBy, height, isAncestorBy}
 use Rattle.protocol.specs.Form.{replicaFormed, certificateFormed}
 use Rattle.protocol.specs.Quorum.{certificatesOf, firstOf}
@@ -18,7 +17,7 @@ use Rattle.protocol.specs.History.{decisionBlock, decisionView, panel}
 use Rattle.protocol.specs.Agreement.{OneChain, PanelsRise, Told, Extends}
 use Rattle.protocol.proofs.Booleans.{tests, by-test, by-cond, each}
 use Rattle.protocol.proofs.Needs.{Holds}
-use Rattle.protocol.proofs.Changes.{changed, block-new, block-old, block-count}
+use Rattle.protocol.proofs.Changes.{same-parent, changed, block-new, block-old, block-count}
 use Rattle.protocol.proofs.Formed.{sizes, falls}
 use Rattle.protocol.proofs.Keeps.{block-keeps}
 use Rattle.protocol.proofs.Ancestors.{IsAncestor, ancestor-same, is-ancestor, height-same, ancestor-height}
@@ -135,25 +134,26 @@ module _ (f : ℕ) (past : List Event) (m : Memory) (h : Reached f past m) where
 
   -- ---- a block is added
 
-  pub added-block : (p : ℕ) → Holds (block m p .needs) → Follows f (added (blockCount m) p ∷ past) m (appendBlock m p)
+  pub added-block : (p : ℕ) → Holds (block m p .needs) → Follows f (added (blockCount m) p ∷ past) m (block m p .after)
   unfolding block givenParent highest panel
   added-block p needs =
       let z = sizes m (h .safe .formed) in
-      let adds = block-adds m p (h .safe .formed) in
-      let mv = adds-moves m (appendBlock m p) adds in
-      let more = block-count m p (omega arith) in
+      let ws = blockRecord p (keptHeight m p + 1) in
+      let adds = block-adds m ws refl (h .safe .formed) in
+      let mv = adds-moves m (appendBlock m ws) adds in
+      let more = block-count m ws refl (omega arith) in
       record {
         reached =
             record {
-              safe = adds-safe m (appendBlock m p) adds (block-keeps m p (h .safe .formed) (omega tests) (omega tests)) (h .safe);
+              safe = adds-safe m (appendBlock m ws) adds (block-keeps m p (h .safe .formed) (omega tests) (omega tests)) (h .safe);
               faults = adds .faults ∙ h .faults;
               told =
                   record {
                     parents =
                         λ b l.
                         by-test (eqb b (blockCount m))
-                        (λ e. let q : b ≡ blockCount m = omega tests in rw e (rw q (block-new m p (omega tests))))
-                        (λ e. rw e (block-old m p b (omega tests) ∙ h .told .parents b (omega tests)));
+                        (λ e. let q : b ≡ blockCount m = omega tests in rw e (rw q (block-new m ws refl parentAt (omega arith) (omega tests))))
+                        (λ e. rw e (block-old m ws refl b parentAt (omega tests) (omega arith) ∙ h .told .parents b (omega tests)));
                     views = λ i l. ap (λ (r : Replica). r .decidedView) (adds .replica i) ∙ h .told .views i l;
                     blocks = λ i l. ap (λ (r : Replica). r .decidedBlock) (adds .replica i) ∙ h .told .blocks i l;
                   };
@@ -229,8 +229,7 @@ module _ (f : ℕ) (past : List Event) (m : Memory) (h : Reached f past m) where
               faults = u .moves .faults ∙ faults;
               told =
                   record {
-                    parents =
-                        λ y l. ap (λ (bs : List ℕ). getD bs y 0) (u .acts .parents) ∙ h .told .parents y (omega arith);
+                    parents = λ y l. same-parent m (decide m i list .after) (u .acts .parents) y ∙ h .told .parents y (omega arith);
                     views = λ j l. rows j l .view;
                     blocks = λ j l. rows j l .block;
                   };

@@ -5,9 +5,10 @@ use mathlib.Core.Bool.{true}
 use mathlib.Core.Logic.{inl}
 use mathlib.Core.List.{List, [], _∷_}
 use native.Mathlib.Omega.{arith}
+use lib.ListN.{length}
 use lib.Dec.{eqb}
 use Rattle.protocol.specs.Memory.{Memory, Replica, faultBoundAt, certificateCountAt, faultBound, certificateCount, blockCount}
-use Rattle.protocol.specs.Memory.{replica, certificate, parent, appendBlock}
+use Rattle.protocol.specs.Memory.{replica, certificate, blockWords, parentAt, parent, appendBlock}
 use Rattle.protocol.specs.Form.{isFaultBound, lengthsFit, certificateFormed}
 use Rattle.protocol.specs.Certificates.{PROP, COMMIT}
 use Rattle.protocol.specs.Counter.{stepsFrom, stepsAllowed}
@@ -87,18 +88,18 @@ adds-safe m m′ h formed safe =
           subst₂ OneProposal (sym (h .certificate c)) (sym (h .certificate d)) (safe .onePerView c d (omega arith) (omega arith));
     }
 
-pub block-adds : (m : Memory) (p : ℕ) → Formed m → AddsBlocks m (appendBlock m p)
+pub block-adds : (m : Memory) (ws : List ℕ) → length ws ≡ blockWords → Formed m → AddsBlocks m (appendBlock m ws)
 unfolding appendBlock
-block-adds m p h =
+block-adds m ws whole h =
     let z = sizes m h in
-    let more = block-count m p (omega arith) in
+    let more = block-count m ws whole (omega arith) in
     record {
-      faults = block-table m p faultBoundAt (omega arith);
-      certificates = block-table m p certificateCountAt (omega arith);
+      faults = block-table m ws whole faultBoundAt (omega arith);
+      certificates = block-table m ws whole certificateCountAt (omega arith);
       certificate = λ c. refl;
-      replica = λ i. block-replica m p i;
+      replica = λ i. block-replica m ws whole i;
       blocks = omega arith;
-      parent = λ b l. block-old m p b l;
+      parent = λ b l. block-old m ws whole b parentAt l (omega arith);
     }
 
 -- ---- two chosen blocks are of one line

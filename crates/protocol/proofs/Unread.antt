@@ -1,15 +1,16 @@
 -- Words past the counts are not read.
-use Prim.Native.Nat.{ℕ, zero, suc}
+use Prim.Native.Nat.{ℕ, zero, suc, _+_}
 use mathlib.Core.Path.{_≡_, refl, ap, subst}
 use mathlib.Core.Bool.{Bool, true, cond}
 use mathlib.Core.List.{List, [], _∷_}
 use native.Mathlib.Omega.{arith}
-use lib.ListN.{length-set}
+use lib.Seq.{length-sets}
 use lib.Dec.{ltb}
 use Rattle.protocol.specs.declared.Call.{Call}
 use Rattle.protocol.specs.declared.Call.the-variants.{Open, Block, Prepare, Store, View, Accumulate, Decide, Reboot}
 use Rattle.protocol.specs.declared.Call.the-variants.{Reserve, Request, Reply, Recover}
-use Rattle.protocol.specs.Memory.{Memory, memory, Certificate, Assignment, replicaCount, certificate, replica, words, update, certificateCountAt, blockCountAt}
+use Rattle.protocol.specs.Memory.{Memory, memory, Certificate, Assignment, replicaCount, certificateCountAt, blockCountAt, replica}
+use Rattle.protocol.specs.Memory.{certificate, words, blockAt, keptHeight, blockRecord, update}
 use Rattle.protocol.specs.declared.Justification.{Justification}
 use Rattle.protocol.specs.declared.Justification.the-variants.{Acc, Commits}
 use Rattle.protocol.specs.Counter.{stepsFrom, counterStep}
@@ -17,6 +18,7 @@ use Rattle.protocol.specs.Form.{wellFormed, lengthsFit}
 use Rattle.protocol.specs.Certificates.{found, appended, file}
 use Rattle.protocol.specs.Quorum.{certificatesOf, firstOf}
 use Rattle.protocol.specs.Outcome.{Need, _else_, Rule, firstRefusal, answered, follow}
+use Rattle.protocol.specs.FirstNeeds.{isBlock}
 use Rattle.protocol.specs.Calls.{issuing, isSized, numbersOf, freshReplica, freshReplicas, freshHeader, keepSteps, opening}
 use Rattle.protocol.specs.Calls.{block, prepare, store, view, accumulate, decide, reboot, reserve, request, reply}
 use Rattle.protocol.specs.Calls.{recover}
@@ -26,11 +28,11 @@ use Rattle.protocol.proofs.LeavesForm.{reboot-retires}
 use Rattle.protocol.proofs.Booleans.{by-test, by-cond}
 use Rattle.protocol.proofs.Needs.{Holds}
 use Rattle.protocol.proofs.Rules.{needs-hold}
-use Rattle.protocol.proofs.Words.{withinRow, set-alike}
-use Rattle.protocol.proofs.Formed.{formed}
+use Rattle.protocol.proofs.Words.{withinRow, sets-alike}
+use Rattle.protocol.proofs.Formed.{Formed, formed}
 use Rattle.protocol.proofs.Keeps.{lengths-same, issuing-needs}
 use Rattle.protocol.proofs.Opened.{header, keep-header}
-use Rattle.protocol.proofs.Alike.{twin, lengths-alike, word-same, parent-same, named-same, form-same, number-same}
+use Rattle.protocol.proofs.Alike.{twin, lengths-alike, word-same, parent-same, kept-same, named-same, form-same, number-same}
 use Rattle.protocol.proofs.Alike.{filed-same, can-same, file-alike, block-alike, update-alike}
 
 -- Two lists of needs that agree as far as the first one that fails.
@@ -100,12 +102,16 @@ module _ (m : Memory) (l b : List ℕ) (a : Alike m (twin m l b)) where
   updated-same : (i : ℕ) (cs : List Assignment) → Within cs → Alike (update m i cs) (update (twin m l b) i cs)
   updated-same i cs within = update-alike m (twin m l b) i cs (within .row) a
 
+  adds-alike : (p : ℕ) → isBlock m p ≡ true → Formed m → Alike (block m p .after) (block (twin m l b) p .after)
+  unfolding block
+  adds-alike p known form = rw (← kept-same m l b a p known) (block-alike m l b a (blockRecord p (keptHeight m p + 1)) refl form)
+
   block-same : (p : ℕ) → SameRule (block m p) (block (twin m l b) p)
   unfolding block
   block-same p =
       record {
         needs = next (form-same m l b a) (λ _. next refl (λ _. next (ap (ltb _) (a .blocksLength)) (λ _. agree-end)));
-        results = λ h. record { first = refl; second = refl; after = block-alike m l b a p (formed m (h .0)) };
+        results = λ h. record { first = refl; second = refl; after = adds-alike p (h .1 .0) (formed m (h .0)) };
       }
 
   sized-same : (j : Justification) (list : List ℕ) → isSized m j list ≡ isSized (twin m l b) j list
@@ -243,9 +249,10 @@ module _ (m : Memory) (l b : List ℕ) (a : Alike m (twin m l b)) where
       record {
         table = refl;
         logLength = a .logLength;
-        blocksLength = simp length-set (a .blocksLength);
+        blocksLength = simp length-sets (a .blocksLength);
         log = λ k j. absurd (omega arith);
-        blocks = λ k j. set-alike (m .blocks) b 0 0 k (a .blocksLength) (λ q. absurd (omega arith));
+        blocks =
+            λ k j. sets-alike (blockRecord 0 0) (m .blocks) b (blockAt 0) k (a .blocksLength) (λ far. let beyond = far (omega arith) in absurd (omega arith));
       }
   fresh-alike f steps limit (suc k) fit = update-alike _ _ k (freshReplica limit) refl (fresh-alike f steps limit k fit)
 

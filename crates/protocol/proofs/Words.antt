@@ -79,6 +79,20 @@ sets-at (a ∷ ws) l at (suc k) h room =
     let e : at + suc k ≡ suc at + k = omega arith in
     rw e (sets-at ws (set l at a) (suc at) k (omega arith) (simp length-set (omega arith)))
 
+-- Words stored one by one, by their offsets, are a run of words.
+abbrev pub stored : List ℕ → ℕ → ℕ → List ℕ → List ℕ
+stored l start k [] = l
+stored l start k (a ∷ ws) = stored (set l (start + k) a) start (suc k) ws
+
+stored-from : (ws l : List ℕ) (start k : ℕ) → stored l start k ws ≡ sets l (start + k) ws
+stored-from [] l start k = refl
+stored-from (a ∷ ws) l start k =
+    let q : start + suc k ≡ suc (start + k) = omega arith in
+    stored-from ws (set l (start + k) a) start (suc k) ∙ rw q
+
+pub stored-all : (ws l : List ℕ) (start : ℕ) → stored l start 0 ws ≡ sets l start ws
+stored-all ws l start = let q : start + 0 ≡ start = omega arith in stored-from ws l start 0 ∙ rw q
+
 -- ---- the same write in two lists
 
 pub set-alike : (l l′ : List ℕ) (at a j : ℕ) → length l ≡ length l′ → (j ≢ at → getD l j 0 ≡ getD l′ j 0)

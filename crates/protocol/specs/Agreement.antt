@@ -58,7 +58,8 @@ WordsMatchHistory =
     (m : Memory) (f : ℕ) (list : List ℕ) (calls : List Invocation) → Execution m f list calls
     → Told f (eventsOf m f list calls) (endOf m f list calls)
 
--- ---- Certificates and blocks are only ever appended between two openings: those of a memory stand in every later one.
+-- ---- Certificates and blocks are only ever appended between two openings: those of a memory stand in every later one. Of a block this is
+-- its parent; that its height stays follows, and is stated in Heights.antt.
 
 pub record Extends (m m′ : Memory) : Type 0 where
   pub certificates : certificateCount m ≤ certificateCount m′

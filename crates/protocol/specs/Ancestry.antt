@@ -16,8 +16,8 @@ ancestorWithin parentOf (suc steps) a b = eqb a b || (not (eqb b 0) && ancestorW
 abbrev pub Falls : (ℕ → ℕ) → ℕ → Type 0
 Falls parentOf count = (b : ℕ) → b < count → (b ≡ 0 → ⊥) → parentOf b < b
 
--- In well-formed memory the parents fall, so block b is at most b steps above block 0 and the steps never run out: the code recurses on
--- the block number itself.
+-- In well-formed memory the parents fall, so block b is at most b steps above block 0 and the steps never run out: the code that goes up a
+-- line recurses on the block number itself.
 abbrev pub isAncestorBy : (ℕ → ℕ) → ℕ → ℕ → Bool
 isAncestorBy parentOf a b = ancestorWithin parentOf b a b
 

@@ -14,7 +14,7 @@ use Rattle.protocol.specs.Memory.{Memory, Replica, Certificate, Assignme
 use Rattle.protocol.specs.Memory.{faultBoundAt, certificateCountAt, blockCountAt, faultBound, blockCount, stepAt}
 use Rattle.protocol.specs.Memory.{statusAt, bootAt, minViewAt, viewLimitAt, flagAt, storedViewAt, storedBlockAt, decidedViewAt}
 use Rattle.protocol.specs.Memory.{decidedBlockAt, live, recovering, retired, lowered, raised, replica, certificate, words}
-use Rattle.protocol.specs.Memory.{blockAt, parent, update, appendBlock}
+use Rattle.protocol.specs.Memory.{blockAt, parent, keptHeight, blockRecord, update, appendBlock}
 use Rattle.protocol.specs.Form.{allHold, isFaultBound, lengthsFit, wellFormed}
 use Rattle.protocol.specs.Certificates.{PROP, ACC, REQ, isKind, propOf, commitOf, newViewOf, accOf, reqOf, replyOf}
 use Rattle.protocol.specs.Certificates.{numberFor, foundOrAppended, canFile, file}
@@ -59,13 +59,14 @@ unfoldable pub freshReplicas : Memory → ℕ → ℕ → Memory
 freshReplicas m limit zero = m
 freshReplicas m limit (suc i) = update (freshReplicas m limit i) i (freshReplica limit)
 
--- "one block, number 0, whose parent word becomes 0; no certificates. [..] The book and the other block words aren't touched."
+-- "one block, number 0, whose parent word becomes 0; no certificates. [..] The book and the other block words aren't touched." Document 02,
+-- #105: "opening writes both words of block 0."
 abbrev pub freshHeader : Memory → ℕ → Memory
 freshHeader m f =
     record {
       table = set (set (set (m .table) faultBoundAt f) certificateCountAt 0) blockCountAt 1;
       log = m .log;
-      blocks = set (m .blocks) (blockAt 0) 0;
+      blocks = sets (m .blocks) (blockAt 0) (blockRecord 0 0);
     }
 
 -- Document 02, #104: "The steps are kept after the header in the table".
@@ -83,7 +84,7 @@ opening m f list =
       after = freshReplicas (keepSteps (freshHeader m f) steps) (getD steps 0 0) (replicaCount f);
     }
 
--- "Block(parent): values new number, 0."
+-- "Block(parent): values new number, 0." The new block is one higher than its parent (document 02, #105).
 unfoldable pub block : Memory → ℕ → Rule
 block m p =
     record {
@@ -94,7 +95,7 @@ block m p =
           ∷ [];
       first = blockCount m;
       second = 0;
-      after = appendBlock m p;
+      after = appendBlock m (blockRecord p (keptHeight m p + 1));
     }
 
 -- "the ground is either one ACC or matching commits." The certificate numbers of a justification.

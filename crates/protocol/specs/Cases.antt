@@ -1,5 +1,5 @@
 -- The table of cases: those that document 01 marks P ("Edges"), some beside them, those on whose turn it is, those of issuing calls made
--- again, and those on a pool's own steps.
+-- again, those on a pool's own steps and those on the records of blocks.
 use mathlib.Core.List.{List, [], _∷_, _++_, map}
 use mathlib.Core.Path.{_≡_}
 use Rattle.protocol.specs.declared.Call.the-variants.{Open, Block, Prepare, Store, View, Decide, Reboot, Reserve, Request}
@@ -15,6 +15,7 @@ use Rattle.protocol.specs.LeaderCases.{leaderCases}
 use Rattle.protocol.specs.RepeatCases.{repeatCases}
 use Rattle.protocol.specs.StepCases.{stepCases}
 use Rattle.protocol.specs.TableCases.{tableCases}
+use Rattle.protocol.specs.HeightCases.{heightCases}
 
 -- "P: the script above."
 unfoldable pub workedScript : Case
@@ -165,7 +166,7 @@ cases =
     ∷ secondProposalInAView
     ∷ fullLog
     ∷ counterEnds
-    ∷ leaderCases ++ (repeatCases ++ (stepCases ++ tableCases))
+    ∷ leaderCases ++ (repeatCases ++ (stepCases ++ (tableCases ++ heightCases)))
 
 -- Every row's calls get the answers expected.
 unfoldable pub CasesHold : Type 0

@@ -1,13 +1,13 @@
 -- The form that every call but opening tests (document 01, "Memory", the paragraph "Form").
-use Prim.Native.Nat.{ℕ, zero, suc, _%_}
+use Prim.Native.Nat.{ℕ, zero, suc, _+_, _%_}
 use mathlib.Core.Bool.{Bool, true, cond, _&&_}
 use mathlib.Core.List.{List, [], _∷_}
 use lib.ListN.{length}
 use lib.Dec.{ltb, leb, eqb}
 use Rattle.protocol.specs.Memory.{Memory, Replica, Certificate, maxFaultBound, replicaCount, ceiling, faultBound}
 use Rattle.protocol.specs.Memory.{certificateCount, blockCount, stepCount, lastStep, keptStep, tableLength, retired, raised}
-use Rattle.protocol.specs.Memory.{replica, certificateWords, certificateAt, certificate, maxCertificates, maxBlocks, blockAt}
-use Rattle.protocol.specs.Memory.{parent}
+use Rattle.protocol.specs.Memory.{replica, certificateWords, certificateAt, certificate, maxCertificates, blockWords, blockAt}
+use Rattle.protocol.specs.Memory.{parent, keptHeight, maxBlocks}
 
 -- All tests of a list hold.
 unfoldable pub allHold : List Bool → Bool
@@ -23,14 +23,15 @@ allBelow (suc k) test = allBelow k test && test k
 abbrev pub isFaultBound : ℕ → Bool
 isFaultBound f = allHold (leb 1 f ∷ leb f maxFaultBound ∷ [])
 
--- "lengths as above": the table for f, the log whole certificates and at most 4,096, the blocks 1 to 4,096.
+-- "lengths as above": the table for f, the log whole certificates and at most 4,096, the blocks whole records and 1 to 4,096.
 unfoldable pub lengthsFit : Memory → ℕ → Bool
 lengthsFit m f =
     allHold
     (eqb (length (m .table)) (tableLength f)
     ∷ eqb (length (m .log) % certificateWords) 0
     ∷ leb (length (m .log)) (certificateAt maxCertificates)
-    ∷ ltb (blockAt 0) (length (m .blocks))
+    ∷ eqb (length (m .blocks) % blockWords) 0
+    ∷ leb (blockAt 1) (length (m .blocks))
     ∷ leb (length (m .blocks)) (blockAt maxBlocks)
     ∷ [])
 
@@ -54,9 +55,12 @@ stepsFormed step =
     ∷ allBelow lastStep (λ k. leb (step k) (step (suc k)))
     ∷ [])
 
--- "block 0's parent is 0 and every other added block's parent is below it"
-unfoldable pub blockFormed : ℕ → ℕ → Bool
-blockFormed b p = cond (eqb b 0) (eqb p 0) (ltb p b)
+-- "block 0's parent is 0 and every other added block's parent is below it"; document 02, #105: "Block 0 has height 0 and any other one more
+-- than its parent; the form test checks this for each block". Of the parents and heights by block number.
+unfoldable pub blockFormed : (ℕ → ℕ) → (ℕ → ℕ) → ℕ → Bool
+blockFormed parentOf heightOf b =
+    cond (eqb b 0) (allHold (eqb (parentOf b) 0 ∷ eqb (heightOf b) 0 ∷ []))
+    (allHold (ltb (parentOf b) b ∷ eqb (heightOf b) (heightOf (parentOf b) + 1) ∷ []))
 
 -- "status ≤ 2, flag ≤ 1; 1 ≤ low ≤ bound ≤ 1,000,000; stored view < low; shown view and boot ≤ 1,000,000; named blocks added"
 unfoldable pub replicaFormed : ℕ → Replica → Bool
@@ -100,7 +104,7 @@ wellFormed m =
     ∷ lengthsFit m (faultBound m)
     ∷ countsFit m
     ∷ stepsFormed (keptStep m)
-    ∷ allBelow (blockCount m) (λ b. blockFormed b (parent m b))
+    ∷ allBelow (blockCount m) (blockFormed (parent m) (keptHeight m))
     ∷ allBelow (replicaCount (faultBound m)) (λ i. replicaFormed (blockCount m) (replica m i))
     ∷ allBelow (certificateCount m) (λ c. certificateFormed (replicaCount (faultBound m)) (blockCount m) (certificate m c))
     ∷ [])

@@ -218,17 +218,34 @@ maxCertificates = 4096
 
 -- ---- the blocks
 
--- "Blocks: the parent of each, 1 to 4,096 places."
-abbrev pub maxBlocks : ℕ
-maxBlocks = 4096
+-- "Blocks: the parent of each, 1 to 4,096 places." For that, document 02, #105: "Each block record becomes two words, parent and height, in
+-- a slice of even length, and the places stay 4,096."
+abbrev pub blockWords : ℕ
+blockWords = 2
 
 abbrev pub blockAt : ℕ → ℕ
-blockAt b = b
+blockAt b = blockWords * b
 
--- "Block 0 has parent 0; any other has a parent below its own number." The form tests it.
+abbrev pub parentAt : ℕ
+parentAt = 0
 
+abbrev pub heightAt : ℕ
+heightAt = 1
+
+-- "Block 0 has parent 0; any other has a parent below its own number." Document 02, #105: "Block 0 has height 0 and any other one more than
+-- its parent". The form tests both.
 abbrev pub parent : Memory → ℕ → ℕ
-parent m b = getD (m .blocks) (blockAt b) 0
+parent m b = getD (m .blocks) (blockAt b + parentAt) 0
+
+abbrev pub keptHeight : Memory → ℕ → ℕ
+keptHeight m b = getD (m .blocks) (blockAt b + heightAt) 0
+
+-- The words of a block's record, as they stand in the slice.
+abbrev pub blockRecord : ℕ → ℕ → List ℕ
+blockRecord parent height = parent ∷ height ∷ []
+
+abbrev pub maxBlocks : ℕ
+maxBlocks = 4096
 
 -- ---- changes
 
@@ -255,11 +272,11 @@ appendCertificate m ws =
       blocks = m .blocks;
     }
 
--- The memory with one block more, of the given parent.
-unfoldable pub appendBlock : Memory → ℕ → Memory
-appendBlock m p =
+-- The memory with one block more, its record at the next place.
+unfoldable pub appendBlock : Memory → List ℕ → Memory
+appendBlock m ws =
     record {
       table = set (m .table) blockCountAt (blockCount m + 1);
       log = m .log;
-      blocks = set (m .blocks) (blockAt (blockCount m)) p;
+      blocks = sets (m .blocks) (blockAt (blockCount m)) ws;
     }

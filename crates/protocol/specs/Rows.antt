@@ -5,7 +5,8 @@ use lib.ListN.{replicate}
 use Rattle.protocol.specs.declared.Answer.{Answer}
 use Rattle.protocol.specs.declared.Call.{Call}
 use Rattle.protocol.specs.declared.Call.the-variants.{Open, Block, Prepare, Store, View, Accumulate, Decide, Reboot}
-use Rattle.protocol.specs.declared.Justification.the-variants.{Acc}
+use Rattle.protocol.specs.declared.Call.the-variants.{Reserve, Request, Reply, Recover}
+use Rattle.protocol.specs.declared.Justification.the-variants.{Acc, Commits}
 use Rattle.protocol.specs.Memory.{Memory, tableLength, certificateAt, blockAt}
 use Rattle.protocol.specs.Outcome.{wrongStatus}
 use Rattle.protocol.specs.Runs.{Invocation, run}
@@ -21,9 +22,9 @@ abbrev pub zeros : ℕ → ℕ → ℕ → Memory
 zeros f certificates blocks =
     record { table = replicate (tableLength f) 0; log = replicate (certificateAt certificates) 0; blocks = replicate (blockAt blocks) 0 }
 
--- The slots of the script program.
+-- More slots than any row uses: a row that is about the last slot has its own.
 abbrev pub blank : ℕ → Memory
-blank f = zeros f 2048 1024
+blank f = zeros f 32 16
 
 -- A call without a list, and one with a list beside it.
 abbrev pub plain : Call → Invocation
@@ -87,3 +88,20 @@ accumulated =
 -- Then block 1 is proposed, PROP 3, and stored by replicas 0 and 1, COMMITs 4 and 5; replica 1 leads the next view.
 abbrev pub committed : Memory
 committed = run accumulated (plain (Prepare 0 1 (Acc 2)) ∷ plain (Store 0 3) ∷ plain (Store 1 3) ∷ [])
+
+-- Every call but opening, with numbers that a fresh ledger for f = 1 refuses or takes; where the form is broken, each gives 1.
+abbrev pub everyCall : List Invocation
+everyCall =
+    plain (Block 0)
+    ∷ plain (Prepare 0 0 (Acc 0))
+    ∷ plain (Prepare 0 0 (Commits 0 0))
+    ∷ plain (Store 0 0)
+    ∷ plain (View 0 1)
+    ∷ plain (Accumulate 0)
+    ∷ plain (Decide 0)
+    ∷ plain (Reboot 0)
+    ∷ plain (Reserve 0)
+    ∷ plain (Request 0)
+    ∷ plain (Reply 0 0)
+    ∷ plain (Recover 0)
+    ∷ []

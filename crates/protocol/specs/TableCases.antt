@@ -2,12 +2,10 @@
 use Prim.Native.Nat.{ℕ}
 use mathlib.Core.List.{List, [], _∷_, _++_}
 use lib.ListN.{replicate, set}
-use Rattle.protocol.specs.declared.Call.the-variants.{Open, Block, Prepare, Store, View, Accumulate, Decide, Reboot}
-use Rattle.protocol.specs.declared.Call.the-variants.{Reserve, Request, Reply, Recover}
-use Rattle.protocol.specs.declared.Justification.the-variants.{Acc, Commits}
+use Rattle.protocol.specs.declared.Call.the-variants.{Open, View, Reboot, Reserve}
 use Rattle.protocol.specs.Memory.{Memory, memory, stepAt}
 use Rattle.protocol.specs.Outcome.{wrongForm}
-use Rattle.protocol.specs.Rows.{Case, blank, plain, accepted, refused, opened}
+use Rattle.protocol.specs.Rows.{Case, blank, plain, accepted, refused, opened, everyCall}
 
 -- Word by word: three of the header, eight steps, nine words a replica.
 abbrev pub wordByWord : List ℕ
@@ -37,22 +35,7 @@ unfoldable pub noStepIsZero : Case
 noStepIsZero =
     record {
       start = steppedBy 0 0;
-      calls =
-          plain (Block 0)
-          ∷ plain (Prepare 0 0 (Acc 0))
-          ∷ plain (Prepare 0 0 (Commits 0 0))
-          ∷ plain (Store 0 0)
-          ∷ plain (View 0 1)
-          ∷ plain (Accumulate 0)
-          ∷ plain (Decide 0)
-          ∷ plain (Reboot 0)
-          ∷ plain (Reserve 0)
-          ∷ plain (Request 0)
-          ∷ plain (Reply 0 0)
-          ∷ plain (Recover 0)
-          ∷ plain (Open 1)
-          ∷ plain (Reserve 0)
-          ∷ [];
+      calls = everyCall ++ (plain (Open 1) ∷ plain (Reserve 0) ∷ []);
       expected = replicate 12 (refused wrongForm) ++ (accepted 3 0 ∷ accepted 128 0 ∷ []);
     }
 

@@ -15,7 +15,7 @@ use Rattle.protocol.specs.declared.Justification.the-variants.{Acc, Comm
 use Rattle.protocol.specs.Memory.{Memory, certificateCountAt, blockCountAt, faultBound, certificateCount, blockCount}
 use Rattle.protocol.specs.Memory.{replicaCount, rowAt, statusAt, bootAt, minViewAt, viewLimitAt, flagAt, storedViewAt}
 use Rattle.protocol.specs.Memory.{storedBlockAt, decidedViewAt, decidedBlockAt, live, replica, certificateWords}
-use Rattle.protocol.specs.Memory.{certificateAt, certificate, blockAt, ceiling}
+use Rattle.protocol.specs.Memory.{certificateAt, certificate, blockWords, blockAt, ceiling}
 use Rattle.protocol.specs.Form.{isFaultBound, lengthsFit, wellFormed}
 use Rattle.protocol.specs.Counter.{stepsAllowed}
 use Rattle.protocol.specs.Quorum.{isIssued}
@@ -70,12 +70,15 @@ abbrev pub certificateAddresses : Memory → List Address
 certificateAddresses m =
     tableWord certificateCountAt ∷ map (λ k. logWord (certificateAt (certificateCount m) + k)) (below certificateWords)
 
+abbrev pub recordAddresses : ℕ → List Address
+recordAddresses b = map (λ k. blockWord (blockAt b + k)) (below blockWords)
+
 abbrev pub blockAddresses : Memory → List Address
-blockAddresses m = tableWord blockCountAt ∷ blockWord (blockAt (blockCount m)) ∷ []
+blockAddresses m = tableWord blockCountAt ∷ recordAddresses (blockCount m)
 
 -- The words named for each call: those that it may change where it is accepted.
 unfoldable pub named : Memory → Call → List Address
-named m (Open f) = blockWord (blockAt 0) ∷ map tableWord (below (length (m .table)))
+named m (Open f) = recordAddresses 0 ++ map tableWord (below (length (m .table)))
 named m (Block p) = blockAddresses m
 named m (Prepare i b justification) = replicaAddresses i (flagAt ∷ []) ++ certificateAddresses m
 named m (Store i number) = replicaAddresses i (storedViewAt ∷ storedBlockAt ∷ minViewAt ∷ flagAt ∷ []) ++ certificateAddresses m

@@ -25,11 +25,13 @@ const CERTIFICATES: usize = 2048;
 
 const BLOCKS: usize = 1024;
 
-// The words that are lent; a block has one.
+// The words that are lent.
 const TABLE_WORDS: usize = constants::ROW_START
     + constants::MAX_REPLICAS * constants::REPLICA_WORDS;
 
 const LOG_WORDS: usize = CERTIFICATES * constants::CERTIFICATE_WORDS;
+
+const BLOCKS_WORDS: usize = BLOCKS * constants::BLOCK_WORDS;
 
 // Reads once, and again where that fails. Gives how many bytes came, 0 at the end of the input, or -1.
 fn read_chunk(chunk: &mut [u8; CHUNK_BYTES]) -> isize {
@@ -48,7 +50,7 @@ fn read_chunk(chunk: &mut [u8; CHUNK_BYTES]) -> isize {
 fn take_read(
     table: &mut [u32; TABLE_WORDS],
     log: &mut [u32; LOG_WORDS],
-    blocks: &mut [u32; BLOCKS],
+    blocks: &mut [u32; BLOCKS_WORDS],
     line: &mut [u8; stream::HELD_PLACES],
     text: &mut [u8; TEXT_BYTES],
     chunk: &[u8],
@@ -115,7 +117,7 @@ fn write_pending(text: &[u8], p: Progress) -> Written
 fn run(
     table: &mut [u32; TABLE_WORDS],
     log: &mut [u32; LOG_WORDS],
-    blocks: &mut [u32; BLOCKS],
+    blocks: &mut [u32; BLOCKS_WORDS],
     line: &mut [u8; stream::HELD_PLACES],
     text: &mut [u8; TEXT_BYTES],
     chunk: &mut [u8; CHUNK_BYTES],
@@ -151,7 +153,7 @@ fn run(
 fn starts(
     table: &mut [u32; TABLE_WORDS],
     log: &mut [u32; LOG_WORDS],
-    blocks: &mut [u32; BLOCKS],
+    blocks: &mut [u32; BLOCKS_WORDS],
     line: &mut [u8; stream::HELD_PLACES],
     text: &mut [u8; TEXT_BYTES],
     chunk: &mut [u8; CHUNK_BYTES],
@@ -167,7 +169,7 @@ fn starts(
 fn main() {
     let mut table = [0u32; TABLE_WORDS];
     let mut log = [0u32; LOG_WORDS];
-    let mut blocks = [0u32; BLOCKS];
+    let mut blocks = [0u32; BLOCKS_WORDS];
     let mut line = [0u8; stream::HELD_PLACES];
     let mut text = [0u8; TEXT_BYTES];
     let mut chunk = [0u8; CHUNK_BYTES];

@@ -4,9 +4,7 @@ use Rattle.ancestry.proofs.mark_block.Statement.{statement}
 use Rattle.ancestry.proofs.mark_block.Tie as tie
 
 returns : tie.Need-returns
-returns c = block-marked _ _ _ (c .before .pre)
+returns c = rw (c .parent .ensures) (block-marked _ _ _ (c .before .before .pre))
 
 pub mark-block-spec : {M : Type 1} → statement M
-mark-block-spec =
-    tie.close
-    (tie.spec (λ c. search needs) (λ c. search needs) (λ c. search needs) returns)
+mark-block-spec = tie.close (tie.spec (λ c. search needs) (λ c κs. search needs) returns)

@@ -1,18 +1,15 @@
 -- What a walk up the parents asks: the block is in the slice, and the numbers fall on the way up to block 0, its own parent.
-use Prim.Native.Nat.{ℕ, suc, _<_}
+use Prim.Native.Nat.{ℕ, suc, _+_, _≤_, _<_}
 use mathlib.Core.Path.{_≡_}
 use mathlib.Core.Bool.{Bool, false, _||_}
 use mathlib.Core.List.{List}
 use lib.ListN.{length, getD}
-use Rattle.protocol.specs.Memory.{blockAt, maxBlocks}
+use Rattle.protocol.specs.Memory.{blockWords, blockAt, maxBlocks}
 use Rattle.protocol.specs.Ancestry.{Falls, isAncestorBy}
-
--- The parent of a block, in the blocks' words.
-abbrev pub parentIn : List ℕ → ℕ → ℕ
-parentIn blocks b = getD blocks (blockAt b) 0
+use Rattle.blocks.specs.inner.Records.{parentIn}
 
 pub record AncestryFits (blocks : List ℕ) (b : ℕ) : Type 0 where
-  pub inSlice : blockAt b < length blocks
+  pub inSlice : blockAt b + blockWords ≤ length blocks
   pub falls : Falls (parentIn blocks) (suc b)
   pub root : parentIn blocks 0 ≡ 0
 

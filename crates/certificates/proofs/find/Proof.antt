@@ -5,7 +5,7 @@ use native.Mathlib.Omega.{arith}
 use borrow.Author.Needs.{needs}
 use Rattle.protocol.specs.Memory.{words}
 use Rattle.protocol.specs.Certificates.{firstBelow}
-use Rattle.layout.proofs.Joined.{granted}
+use Rattle.protocol.proofs.Joined.{granted}
 use Rattle.certificates.specs.inner.Filing.{certificateOf, isEqual}
 use Rattle.certificates.proofs.Equal.{of-other-view}
 use Rattle.certificates.proofs.Search.{none-yet, none-of-four, found, none}

@@ -5,8 +5,9 @@ use mathlib.Core.List.{List, [], _∷_}
 use lib.ListN.{getD}
 use lib.Dec.{leb}
 use Rattle.protocol.specs.Memory.{Memory, memory, replicaCount, faultBound, certificateCount, blockCount, stepsAt, replica}
-use Rattle.protocol.specs.Memory.{certificate, parent}
-use Rattle.protocol.specs.Form.{allHold, allBelow, stepsFormed, blockFormed, replicaFormed, certificateFormed}
+use Rattle.protocol.specs.Memory.{certificate}
+use Rattle.protocol.specs.Form.{allHold, allBelow, stepsFormed, replicaFormed, certificateFormed}
+use Rattle.blocks.specs.inner.Records.{blockOk}
 
 -- Steps by their number, from an index on.
 abbrev pub stepIn : List ℕ → ℕ → ℕ → ℕ
@@ -22,10 +23,6 @@ unfoldable pub stepsRise : (ℕ → ℕ) → ℕ → Bool
 stepsRise step zero = true
 stepsRise step (suc k) = stepsRise step k && leb (leastStep step k) (step k)
 
--- The test of one block: its number, its parent.
-abbrev pub blockOk : List ℕ → ℕ → Bool
-blockOk blocks b = blockFormed b (parent (memory [] [] blocks) b)
-
 -- The test of one replica, where so many blocks are added.
 abbrev pub replicaOk : List ℕ → ℕ → ℕ → Bool
 replicaOk table added i = replicaFormed added (replica (memory table [] []) i)
@@ -33,10 +30,6 @@ replicaOk table added i = replicaFormed added (replica (memory table [] []) i)
 -- The test of one certificate, of so many replicas and blocks.
 abbrev pub certificateOk : List ℕ → ℕ → ℕ → ℕ → Bool
 certificateOk log replicas added c = certificateFormed replicas added (certificate (memory [] log []) c)
-
--- A test of four numbers one after the other.
-abbrev pub fourOk : (ℕ → Bool) → ℕ → Bool
-fourOk test k = allHold (test k ∷ test (k + 1) ∷ test (k + 2) ∷ test (k + 3) ∷ [])
 
 -- All of them, as in the form whole.
 abbrev pub wordsOk : Memory → Bool

@@ -1,12 +1,11 @@
--- A replica that is there has a decided block that is there too, so its height can be walked.
+-- A replica that is there has a decided block that is there too, and the height kept with it is the number of steps to block 0.
 use mathlib.Core.Path.{refl, ap}
-use native.Mathlib.Omega.{arith}
 use borrow.Author.Needs.{needs}
 use Rattle.protocol.specs.Memory.{memory}
 use Rattle.protocol.specs.Outcome.{Outcome}
 use Rattle.protocol.proofs.Booleans.{tests}
-use Rattle.layout.proofs.Within.{replica-bounds}
-use Rattle.ancestry.proofs.Fitting.{ancestry-fits}
+use Rattle.protocol.proofs.Formed.{sizes, height-kept}
+use Rattle.layout.proofs.Within.{block-within, replica-bounds}
 use Rattle.checks.proofs.Passing.{start, accepts, no-replica, replica-known, found-replica}
 use Rattle.ledger.specs.Panel.{panelRule, panelAnswer}
 use Rattle.ledger.proofs.panel.Statement.{statement}
@@ -33,7 +32,7 @@ height-requires c κs =
     let entry = at-find-replica .before .before .before .before in
     let known = replica-known _ _ (at-find-replica .find-replica .ensures) (at-found .found .given .1) in
     let b = replica-bounds _ (known .ready .formed) (entry .args .replica) (omega (tests, known .ready .own)) in
-    ancestry-fits _ (known .ready .formed) _ (rw (known .read) (omega (arith, b .decidedBlock)))
+    rw (known .read) (block-within _ (sizes _ (known .ready .formed)) _ (b .decidedBlock))
 
 returns-2 : tie.Need-returns-2
 unfolding panelAnswer
@@ -46,8 +45,10 @@ returns-2 c =
     let m = memory (a .table .now) (a .log .now) (a .blocks .now) in
     let found = found-replica m (a .replica) _ (start (panelRule m (a .replica))) (at-find-replica .find-replica .ensures)
     (at-found .found .given .1) in
+    let b = replica-bounds m (found .ready .formed) (a .replica) (omega (tests, found .ready .own)) in
+    let kept = height-kept m (found .ready .formed) _ (b .decidedBlock) in
     ap (λ (o : Outcome). o .answer)
-    (accepts m {m′ = m} (found .at) (rw (at-height .height .ensures, found .read) at (c .accepted .ensures)) refl)
+    (accepts m {m′ = m} (found .at) (rw (at-height .height .ensures, found .read, kept) at (c .accepted .ensures)) refl)
 
 pub panel-spec : {M : Type 1} → statement M
 panel-spec =

@@ -1,6 +1,6 @@
 use mathlib.Core.List.{[], _∷_}
 use Rattle.protocol.specs.Movements.{movementAllowed}
-use Rattle.layout.proofs.Joined.{joined-all}
+use Rattle.protocol.proofs.Joined.{joined-all}
 use Rattle.netting.proofs.is_allowed.Statement.{statement}
 use Rattle.netting.proofs.is_allowed.Tie as tie
 

@@ -1,7 +1,7 @@
 use mathlib.Core.List.{[], _∷_}
 use borrow.Author.Needs.{needs}
 use Rattle.protocol.specs.Movements.{isMovementList}
-use Rattle.layout.proofs.Joined.{joined-all}
+use Rattle.protocol.proofs.Joined.{joined-all}
 use Rattle.netting.proofs.is_movement_list.Statement.{statement}
 use Rattle.netting.proofs.is_movement_list.Tie as tie
 

@@ -3,7 +3,7 @@ use native.Mathlib.Omega.{arith}
 use borrow.Author.Needs.{needs}
 use Rattle.protocol.proofs.Booleans.{tests}
 use Rattle.checks.proofs.Passing.{replica-known}
-use Rattle.layout.proofs.Joined.{denied, granted}
+use Rattle.protocol.proofs.Joined.{denied, granted}
 use Rattle.netting.proofs.Refusing.{no-list, no-replica, no-block, nettable, answers-balance}
 use Rattle.netting.proofs.net.Statement.{statement}
 use Rattle.netting.proofs.net.Tie as tie

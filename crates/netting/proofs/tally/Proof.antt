@@ -4,7 +4,7 @@ use mathlib.Core.Path.{_≡_}
 use native.Mathlib.Omega.{arith}
 use borrow.Author.Needs.{needs}
 use Rattle.protocol.specs.Movements.{movementCount}
-use Rattle.layout.proofs.Joined.{denied, granted}
+use Rattle.protocol.proofs.Joined.{denied, granted}
 use Rattle.netting.proofs.Tallying.{Passed, starts, step, goes-on, block-there, stops, ends, giver-movable, taker-movable}
 use Rattle.netting.proofs.tally.Statement.{statement}
 use Rattle.netting.proofs.tally.Tie as tie

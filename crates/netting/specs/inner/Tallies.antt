@@ -10,7 +10,8 @@ use Rattle.protocol.specs.Form.{allBelow}
 use Rattle.protocol.specs.Outcome.{_else_, firstRefusal, wrongMovement}
 use Rattle.protocol.specs.declared.Movement.{Movement}
 use Rattle.protocol.specs.Movements.{movement, movementCount, movementAllowed, isMovementList, maxPallets}
-use Rattle.ancestry.specs.inner.AncestryFits.{AncestryFits, parentIn}
+use Rattle.blocks.specs.inner.Records.{parentIn}
+use Rattle.ancestry.specs.inner.AncestryFits.{AncestryFits}
 use Rattle.netting.specs.declared.Netted.{Netted}
 use Rattle.netting.specs.Netting.{balanceAfter, balanceBy, nettingAnswer}
 use Rattle.netting.specs.Theorems.{maxBalance}

@@ -6,8 +6,8 @@ use borrow.Author.Needs.{needs}
 use native.Mathlib.Omega.{arith}
 use Rattle.protocol.specs.Form.{allBelow}
 use Rattle.layout.specs.inner.Parts.{certificateOk}
-use Rattle.layout.proofs.Below.{next, next-four, at-end, refuted-one, refuted-four}
-use Rattle.layout.proofs.Joined.{denied, granted}
+use Rattle.protocol.proofs.Below.{next, next-four, at-end, refuted-one, refuted-four}
+use Rattle.protocol.proofs.Joined.{denied, granted}
 use Rattle.layout.proofs.form.certificates_formed.Statement.{statement}
 use Rattle.layout.proofs.form.certificates_formed.Tie as tie
 

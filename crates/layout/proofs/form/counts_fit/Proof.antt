@@ -1,6 +1,6 @@
 use mathlib.Core.List.{[], _∷_}
 use Rattle.protocol.specs.Form.{countsFit}
-use Rattle.layout.proofs.Joined.{joined-all}
+use Rattle.protocol.proofs.Joined.{joined-all}
 use borrow.Author.Needs.{needs}
 use Rattle.layout.proofs.form.counts_fit.Statement.{statement}
 use Rattle.layout.proofs.form.counts_fit.Tie as tie

@@ -1,5 +1,5 @@
 use mathlib.Core.List.{[], _∷_}
-use Rattle.layout.proofs.Joined.{joined-all}
+use Rattle.protocol.proofs.Joined.{joined-all}
 use borrow.Author.Needs.{needs}
 use Rattle.layout.proofs.form.four_formed.Statement.{statement}
 use Rattle.layout.proofs.form.four_formed.Tie as tie

@@ -1,5 +1,5 @@
 use mathlib.Core.List.{[], _∷_}
-use Rattle.layout.proofs.Joined.{joined-all}
+use Rattle.protocol.proofs.Joined.{joined-all}
 use Rattle.layout.proofs.form.is_fault_bound.Statement.{statement}
 use Rattle.layout.proofs.form.is_fault_bound.Tie as tie
 

@@ -1,6 +1,6 @@
 use mathlib.Core.List.{[], _∷_}
 use Rattle.protocol.specs.Form.{lengthsFit}
-use Rattle.layout.proofs.Joined.{joined-all}
+use Rattle.protocol.proofs.Joined.{joined-all}
 use borrow.Author.Needs.{needs}
 use Rattle.layout.proofs.form.lengths_fit.Statement.{statement}
 use Rattle.layout.proofs.form.lengths_fit.Tie as tie
@@ -11,7 +11,7 @@ returns c =
     let b = c .before .before in
     rw (b .before .row-at .ensures, b .before .before .replica-count .ensures, b .certificate-at .ensures)
     (rw (c .before .block-at .ensures, c .block-at2 .ensures)
-    (joined-all _ (_ ∷ _ ∷ _ ∷ _ ∷ [])))
+    (joined-all _ (_ ∷ _ ∷ _ ∷ _ ∷ _ ∷ [])))
 
 pub lengths-fit-spec : {M : Type 1} → statement M
 lengths-fit-spec =

@@ -5,7 +5,7 @@ use borrow.Author.Needs.{needs}
 use native.Mathlib.Omega.{arith}
 use Rattle.protocol.specs.Form.{allBelow}
 use Rattle.layout.specs.inner.Parts.{replicaOk}
-use Rattle.layout.proofs.Below.{one-more, at-end}
+use Rattle.protocol.proofs.Below.{one-more, at-end}
 use Rattle.layout.proofs.form.replicas_formed.Statement.{statement}
 use Rattle.layout.proofs.form.replicas_formed.Tie as tie
 

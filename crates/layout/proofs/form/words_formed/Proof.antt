@@ -3,7 +3,7 @@ use mathlib.Core.List.{[], _∷_}
 use native.Mathlib.Omega.{arith}
 use lib.ListN.{getD}
 use Rattle.protocol.specs.Memory.{replicaCount, faultBoundAt}
-use Rattle.layout.proofs.Joined.{joined-all}
+use Rattle.protocol.proofs.Joined.{joined-all}
 use borrow.Author.Needs.{needs}
 use Rattle.layout.proofs.form.words_formed.Statement.{statement}
 use Rattle.layout.proofs.form.words_formed.Tie as tie
@@ -11,11 +11,11 @@ use Rattle.layout.proofs.form.words_formed.Tie as tie
 returns : tie.Need-returns
 returns c =
     let replicas = c .before .before in
-    let parents = replicas .before in
-    let steps = parents .before in
+    let blocks = replicas .before in
+    let steps = blocks .before in
     let t = steps .before .before .before .before .before .before .args .table .now in
     let n : steps .before .before .row-count .result ≡ replicaCount (getD t faultBoundAt 0) = omega arith in
-    rw (c .certificates-formed .ensures, replicas .replicas-formed .ensures, parents .parents-formed .ensures)
+    rw (c .certificates-formed .ensures, replicas .replicas-formed .ensures, blocks .blocks-formed .ensures)
     (rw (steps .steps-formed .ensures, n) (joined-all _ (_ ∷ _ ∷ _ ∷ [])))
 
 pub words-formed-spec : {M : Type 1} → statement M

@@ -2,32 +2,50 @@
 use Prim.Native.Nat.{ℕ, _+_, _≤_, _<_}
 use mathlib.Core.Path.{_≡_, refl, sym, subst, _∙_}
 use mathlib.Core.Bool.{Bool, true, false, _&&_}
+use mathlib.Core.List.{[], _∷_}
 use native.Mathlib.Numerals.{add-one}
 use native.Mathlib.Omega.{arith}
-use Rattle.protocol.specs.Form.{allBelow}
-use Rattle.protocol.proofs.Booleans.{by-test, true-and, each, all-hold, at-below}
-use Rattle.layout.specs.inner.Parts.{fourOk}
+use Rattle.protocol.specs.Form.{allHold, allBelow}
+use Rattle.protocol.proofs.Booleans.{by-test, and-true, true-and, all-hold, at-below}
+use Rattle.protocol.specs.inner.Groups.{twoOk, fourOk}
+
+twos : (a b c d : Bool) → (a && b) && (c && d) ≡ allHold (a ∷ b ∷ c ∷ d ∷ [])
+unfolding allHold
+twos false b c d = refl
+twos true false c d = refl
+twos true true false d = refl
+twos true true true false = refl
+twos true true true true = refl
 
 module _ (test : ℕ → Bool) where
-  -- What one test takes on by one, four tests take on by four.
+  -- Four are two and two.
+  pub two-twos : (k : ℕ) → twoOk test k && twoOk test (k + 2) ≡ fourOk test k
+  two-twos k = let e : k + 2 + 1 ≡ k + 3 = omega arith in rw e (twos (test k) (test (k + 1)) (test (k + 2)) (test (k + 3)))
+
+  -- What one test takes on by one, two tests take on by two, and four by four.
+  pub two-steps : (P : ℕ → Type 0) → ((k : ℕ) → P k → test k ≡ true → P (k + 1)) → (k : ℕ) → P k → twoOk test k ≡ true → P (k + 2)
+  two-steps P step k p e =
+      let both = and-true (test k) (test (k + 1)) e in
+      let q : k + 1 + 1 ≡ k + 2 = omega arith in
+      subst P q (step (k + 1) (step k p (both .0)) (both .1))
+
   pub four-steps : (P : ℕ → Type 0) → ((k : ℕ) → P k → test k ≡ true → P (k + 1)) → (k : ℕ) → P k → fourOk test k ≡ true
       → P (k + 4)
   four-steps P step k p e =
-      let h = each _ e in
-      let two = step (k + 1) (step k p (h .0)) (h .1 .0) in
-      let three = step (k + 2) (subst P (plus 1) two) (h .1 .1 .0) in
-      subst P (plus 3) (step (k + 3) (subst P (plus 2) three) (h .1 .1 .1 .0))
-    where
-      plus : (j : ℕ) → k + j + 1 ≡ k + (j + 1)
-      plus j = omega arith
+      let both = and-true (twoOk test k) (twoOk test (k + 2)) (two-twos k ∙ e) in
+      let q : k + 2 + 2 ≡ k + 4 = omega arith in
+      subst P q (two-steps P step (k + 2) (two-steps P step k p (both .0)) (both .1))
 
   pub one-more : (k : ℕ) → allBelow k test && test k ≡ allBelow (k + 1) test
   unfolding allBelow
   one-more k = rw add-one refl
 
-  -- One test more, four tests more.
+  -- One test more, two tests more, four tests more.
   pub next : (k : ℕ) → allBelow k test ≡ true → test k ≡ true → allBelow (k + 1) test ≡ true
   next k all e = sym (one-more k) ∙ true-and all e
+
+  pub next-two : (k : ℕ) → allBelow k test ≡ true → twoOk test k ≡ true → allBelow (k + 2) test ≡ true
+  next-two = two-steps (λ k. allBelow k test ≡ true) next
 
   pub next-four : (k : ℕ) → allBelow k test ≡ true → fourOk test k ≡ true → allBelow (k + 4) test ≡ true
   next-four = four-steps (λ k. allBelow k test ≡ true) next

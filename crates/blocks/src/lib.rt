@@ -1,0 +1,106 @@
+// The blocks (document 02, #105): where a block's record stands, how it is read and written, and the form of all that are added.
+ghost use mathlib.Core.Path.{_≡_};
+ghost use Prim.Native.Nat.{_+_, _≤_};
+ghost use lib.ListN.{length};
+ghost use lib.Seq.{sets};
+ghost use Rattle.protocol.specs.Memory.{blockWords, blockAt, blockRecord, maxBlocks};
+ghost use Rattle.protocol.specs.Form.{allBelow};
+ghost use Rattle.protocol.specs.inner.Groups.{twoOk, fourOk};
+ghost use Rattle.blocks.specs.inner.Records.{parentIn, heightIn, blockOk, Testable};
+use constants::BLOCK_WORDS;
+use constants::HEIGHT_AT;
+use constants::PARENT_AT;
+
+// The block that has only itself in its line.
+pub const ROOT: u32 = 0;
+
+// Where a block's record starts.
+pub fn block_at(block: u32) -> usize
+    ensures { λ r. ⌜ r ≡ blockAt block ⌝ }
+{
+    BLOCK_WORDS * (block as usize)
+}
+
+pub fn parent(blocks: &[u32], block: u32) -> u32
+    requires { ⌜ blockAt block + blockWords ≤ length (now blocks) ⌝ }
+    ensures { λ r. ⌜ r ≡ parentIn (now (blocks .entry)) block ⌝ }
+{
+    blocks[block_at(block) + PARENT_AT]
+}
+
+pub fn height(blocks: &[u32], block: u32) -> u32
+    requires { ⌜ blockAt block + blockWords ≤ length (now blocks) ⌝ }
+    ensures { λ r. ⌜ r ≡ heightIn (now (blocks .entry)) block ⌝ }
+{
+    blocks[block_at(block) + HEIGHT_AT]
+}
+
+// Writes the record of a block.
+pub fn set_block(blocks: &mut [u32], block: u32, parent: u32, height: u32)
+    requires { ⌜ blockAt block + blockWords ≤ length (now blocks) ⌝ }
+    ensures { λ _. ⌜ now (blocks .exit) ≡ sets (now (blocks .entry)) (blockAt block) (blockRecord parent height) ⌝ }
+{
+    let at = block_at(block);
+    blocks[at + PARENT_AT] = parent;
+    blocks[at + HEIGHT_AT] = height;
+}
+
+// A block other than block 0: its parent is below it, and it is one higher than its parent. The parent's height is read once it is known
+// that the parent was tested before: it is at most the parent's number then.
+fn block_formed(blocks: &[u32], block: usize) -> bool
+    requires { ⌜ Testable (now blocks) block 1 ⌝ }
+    ensures { λ r. ⌜ r ≡ blockOk (now (blocks .entry)) block ⌝ }
+{
+    let at = BLOCK_WORDS * block;
+    let above = blocks[at + PARENT_AT] as usize;
+    if block <= above {
+        return false;
+    }
+    blocks[at + HEIGHT_AT] == blocks[BLOCK_WORDS * above + HEIGHT_AT] + 1
+}
+
+// Two blocks, one after the other, and four: the compiler inlines them. They leave at the first that fails.
+fn two_formed(blocks: &[u32], block: usize) -> bool
+    requires { ⌜ Testable (now blocks) block 2 ⌝ }
+    ensures { λ r. ⌜ r ≡ twoOk (blockOk (now (blocks .entry))) block ⌝ }
+{
+    if !block_formed(blocks, block) {
+        return false;
+    }
+    block_formed(blocks, block + 1)
+}
+
+fn four_formed(blocks: &[u32], block: usize) -> bool
+    requires { ⌜ Testable (now blocks) block 4 ⌝ }
+    ensures { λ r. ⌜ r ≡ fourOk (blockOk (now (blocks .entry))) block ⌝ }
+{
+    if !two_formed(blocks, block) {
+        return false;
+    }
+    two_formed(blocks, block + 2)
+}
+
+// Every added block, up to the first that fails.
+pub fn blocks_formed(blocks: &[u32], added: u32) -> bool
+    requires { ⌜ (1 ≤ added) × (added ≤ maxBlocks) × (blockAt added ≤ length (now blocks)) ⌝ }
+    ensures { λ r. ⌜ r ≡ allBelow added (blockOk (now (blocks .entry))) ⌝ }
+{
+    if !((parent(blocks, ROOT) == 0) & (height(blocks, ROOT) == 0)) {
+        return false;
+    }
+    let end = added as usize;
+    let mut block: usize = 1;
+    while block + 4 <= end {
+        if !four_formed(blocks, block) {
+            return false;
+        }
+        block += 4;
+    }
+    while block < end {
+        if !block_formed(blocks, block) {
+            return false;
+        }
+        block += 1;
+    }
+    true
+}

@@ -45,6 +45,16 @@ pub fn set_block(blocks: &mut [u32], block: u32, parent: u32, height: u32)
     blocks[at + HEIGHT_AT] = height;
 }
 
+// Block 0 is its own parent, of height 0.
+fn root_formed(blocks: &[u32]) -> bool
+    requires { ⌜ blockAt 1 ≤ length (now blocks) ⌝ }
+    ensures { λ r. ⌜ r ≡ blockOk (now (blocks .entry)) 0 ⌝ }
+{
+    let parent = parent(blocks, ROOT);
+    let height = height(blocks, ROOT);
+    (parent == ROOT) & (height == 0)
+}
+
 // A block other than block 0: its parent is below it, and it is one higher than its parent. The parent's height is read once it is known
 // that the parent was tested before: it is at most the parent's number then.
 fn block_formed(blocks: &[u32], block: usize) -> bool
@@ -85,7 +95,7 @@ pub fn blocks_formed(blocks: &[u32], added: u32) -> bool
     requires { ⌜ (1 ≤ added) × (added ≤ maxBlocks) × (blockAt added ≤ length (now blocks)) ⌝ }
     ensures { λ r. ⌜ r ≡ allBelow added (blockOk (now (blocks .entry))) ⌝ }
 {
-    if !((parent(blocks, ROOT) == 0) & (height(blocks, ROOT) == 0)) {
+    if !root_formed(blocks) {
         return false;
     }
     let end = added as usize;

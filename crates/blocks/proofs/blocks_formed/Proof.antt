@@ -1,14 +1,12 @@
 -- Block 0 first; then all blocks passed so far have their form, and a group with one that has not ends the test.
 use Prim.Native.Nat.{_-_, _≤_}
 use mathlib.Core.Path.{_≡_, refl, sym}
-use mathlib.Core.Bool.{true, _&&_}
+use mathlib.Core.Bool.{true}
 use native.Mathlib.Omega.{arith}
 use borrow.Author.Needs.{needs}
-use lib.Dec.{eqb}
 use Rattle.protocol.specs.Form.{allBelow}
 use Rattle.protocol.proofs.Below.{next, next-four, at-end, refuted-one, refuted-four}
 use Rattle.protocol.proofs.Joined.{denied, granted}
-use Rattle.protocol.proofs.Blocks.{root-test}
 use Rattle.blocks.specs.inner.Records.{blockOk}
 use Rattle.blocks.proofs.blocks_formed.Statement.{statement}
 use Rattle.blocks.proofs.blocks_formed.Tie as tie
@@ -25,19 +23,14 @@ Inv-loop2 blocks added end block₀ block = (1 ≤ block) × ((block ≤ added) 
 abbrev μ-loop2 : tie.MeasureT-loop2
 μ-loop2 blocks added end block₀ block = added - block
 
--- The two tests of block 0 are its form.
-root : (c : tie.After-height Inv-loop μ-loop Inv-loop2 μ-loop2)
-    → eqb (c .before .parent .result) 0 && eqb (c .height .result) 0 ≡ blockOk (c .before .before .before .args .blocks .now) 0
-root c = rw (c .before .parent .ensures, c .height .ensures) (root-test _ _)
-
 returns : tie.Need-returns Inv-loop μ-loop Inv-loop2 μ-loop2
-returns c = refuted-one _ 0 _ (omega arith) (denied (root (c .before)) (c .if1 .taken))
+returns c = refuted-one _ 0 _ (omega arith) (denied (c .before .root-formed .ensures) (c .if1 .taken))
 
 loop-holds : tie.Need-loop-holds Inv-loop μ-loop Inv-loop2 μ-loop2
 unfolding allBelow
 loop-holds c =
-    let blocks = c .before .before .before .before .args .blocks .now in
-    (omega arith, (omega arith, next (blockOk blocks) 0 refl (granted (root (c .before)) (c .if1 .left))))
+    let blocks = c .before .before .before .args .blocks .now in
+    (omega arith, (omega arith, next (blockOk blocks) 0 refl (granted (c .before .root-formed .ensures) (c .if1 .left))))
 
 returns-2 : tie.Need-returns-2 Inv-loop μ-loop Inv-loop2 μ-loop2
 returns-2 c =
@@ -65,6 +58,6 @@ returns-4 c = at-end _ (omega arith) (omega arith) (sym (c .before .loop2 .inv .
 pub blocks-formed-spec : {M : Type 1} → statement M
 blocks-formed-spec =
     tie.close
-    (tie.spec Inv-loop μ-loop Inv-loop2 μ-loop2 (λ c κs. search needs) (λ c κs. search needs) returns loop-holds (λ c. search needs)
+    (tie.spec Inv-loop μ-loop Inv-loop2 μ-loop2 (λ c κs. search needs) returns loop-holds (λ c. search needs)
     (λ c κs. search needs) returns-2 (λ c. search needs) (λ c. search needs) loop-again (λ c. search needs) (λ c κs. search needs)
     returns-3 (λ c. search needs) (λ c. search needs) loop2-again returns-4)

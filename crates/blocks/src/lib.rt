@@ -11,7 +11,7 @@ use constants::BLOCK_WORDS;
 use constants::HEIGHT_AT;
 use constants::PARENT_AT;
 
-// The block that has only itself in its line.
+// The block that is there from the opening on: it has only itself in its line, and no leader proposes it.
 pub const ROOT: u32 = 0;
 
 // Where a block's record starts.

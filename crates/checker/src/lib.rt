@@ -18,7 +18,7 @@ ghost use Rattle.records.specs.inner.Replicas.{replicaOf};
 ghost use Rattle.checks.specs.inner.Verdicts.{tested};
 use self::justification::Judgement;
 use self::justification::Justified;
-use self::leader::FIRST_VIEW;
+use blocks::ROOT;
 use certificates::Certificate;
 use checks::FoundCertificate;
 use checks::FoundReplica;
@@ -39,6 +39,7 @@ use constants::RAISED;
 use constants::STORED_BLOCK_AT;
 use constants::STORED_VIEW_AT;
 use issuing::issue;
+use leader::FIRST_VIEW;
 use protocol::Answer;
 use protocol::COUNTER_LIMIT;
 use protocol::Justification;
@@ -51,10 +52,6 @@ use protocol::WRONG_VIEW;
 use records::Replica;
 
 mod justification;
-mod leader;
-
-// The block that no leader proposes: it is there from the opening on.
-const ROOT: u32 = 0;
 
 // A PROP or a COMMIT: they name no earlier view, no subject and no boot.
 fn of_kind(kind: u32, signer: u32, view: u32, block: u32) -> Certificate

@@ -7,8 +7,8 @@ use borrow.Author.Needs.{needs}
 use Rattle.protocol.specs.Memory.{replicaCount}
 use Rattle.protocol.specs.Leader.{leads}
 use Rattle.protocol.proofs.Leaders.{unled}
-use Rattle.checker.proofs.leader.leads.Statement.{statement}
-use Rattle.checker.proofs.leader.leads.Tie as tie
+use Rattle.leader.proofs.leads.Statement.{statement}
+use Rattle.leader.proofs.leads.Tie as tie
 
 led : (f view i n : ℕ) → 1 ≤ view → n ≡ replicaCount f → eqb i ((view - 1) % n) ≡ leads f view i
 unfolding leads

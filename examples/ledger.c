@@ -1,5 +1,5 @@
 /* A ledger of three replicas in C: open it, decide a block, cut one replica's power, recover it; calls whose answers got lost are made
- * again, and a height that a host wrote is refused. Then it is opened anew with steps of the pool's own. Its status is 1 if an answer was
+ * again, and a wrong height is told. Then it is opened anew with steps of the pool's own. Its status is 1 if an answer was
  * wrong. */
 #include "../include/yard.h"
 
@@ -32,6 +32,16 @@ static void panel(uint32_t replica, uint32_t answer, uint32_t height) {
         wrong = 1;
 }
 
+/* Another height in the record of block 1: calls and panel give 1, until the right one stands there again. */
+static void another_height(void) {
+    enum { HEIGHT_OF_1 = YARD_BLOCK_WORDS + 1 };
+    blocks[HEIGHT_OF_1] = 2;
+    panel(0, 1, 0);
+    call(VIEW, 0, 2, NULL, 0, 1, 0, 0);
+    blocks[HEIGHT_OF_1] = 1;
+    panel(0, 0, 1);
+}
+
 int main(void) {
     const uint32_t views[] = {0, 1}, acc[] = {2}, commits[] = {4, 5}, replies[] = {7, 8};
     const uint32_t steps[YARD_STEPS] = {256, 256, 512, 512, 1024, 1024, 2048, YARD_MAX_STEP};
@@ -53,11 +63,7 @@ int main(void) {
     call(DECIDE, 0, 0, commits, 2, 0, 1, 1);
     panel(0, 0, 1);
     panel(1, 0, 0);
-    /* A host that writes another height for block 1, the second word of its record, is shown nothing. */
-    blocks[YARD_BLOCK_WORDS + 1] = 2;
-    panel(0, 1, 0);
-    call(VIEW, 0, 2, NULL, 0, 1, 0, 0);
-    blocks[YARD_BLOCK_WORDS + 1] = 1;
+    another_height();
     call(REQUEST, 1, 0, NULL, 0, 0, 6, YARD_ADDED);
     call(REQUEST, 1, 0, NULL, 0, 0, 6, YARD_FOUND);
     call(REPLY, 0, 6, NULL, 0, 0, 7, YARD_ADDED);

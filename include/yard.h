@@ -11,8 +11,9 @@
 #include <stdint.h>
 
 /* The words that a caller lends: a table for f, from 1 to 30, of three words, the steps of the counter and nine words a replica; room for
- * at most 4096 certificates; and for 1 to 4096 blocks, of a parent and a height each. A length that is no whole number of records gives 1.
- */
+ * at most 4096 certificates; and for 1 to 4096 blocks, of two words each, parent and height, which the calls write. A length that is no
+ * whole number of records gives 1. Whoever lent a word a block before must lend two: the old length, if even, is taken, with half the room.
+ * Blocks kept from then are no records, and calls give 1: open anew, or write each one's parent and height. */
 #define YARD_STEPS 8
 #define YARD_TABLE_WORDS(f) (3 + YARD_STEPS + 9 * (2 * (f) + 1))
 #define YARD_CERTIFICATE_WORDS 7
@@ -27,8 +28,8 @@
 #define YARD_FOUND 1
 
 /* Bytes of stack that a balance takes for the longest line, of 4096 blocks, measured on x86-64 with the arguments, and at most 256 to
- * spare: 32 for every 16 blocks, beside 4.4 KB. examples/stack.c measures it. The other functions do not recurse: 404 bytes were the most.
- */
+ * spare: 32 for every 16 blocks, beside 4.4 KB. examples/stack.c measures it. The other functions do not recurse: of them 404 bytes were
+ * the most, of a panel 196. */
 #define YARD_BALANCE_STACK 12800
 
 /* Lent to yard_balance alone: at most 2048 movements of four words each (block, giver, taker, pallets). */

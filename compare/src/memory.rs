@@ -9,6 +9,7 @@ pub const MAX_REPLICAS: u32 = replica_count(MAX_F);
 pub const MAX_CERTIFICATES: usize = 4096;
 /// Most slots of the blocks.
 pub const MAX_BLOCKS: usize = 4096;
+pub const MAX_BLOCK_WORDS: usize = BLOCK_WORDS * MAX_BLOCKS;
 pub const HEADER_WORDS: usize = 3;
 pub const STEP_WORDS: usize = 8;
 pub const REPLICA_WORDS: usize = 9;

@@ -1,5 +1,5 @@
-//! The form test of a full memory beside a bare sum of the same words, and beside a panel at the greatest height, in one
-//! process.
+//! The form test of a full memory beside a bare sum of the same words, and beside a panel at the height of yard's last block,
+//! in one process.
 
 use super::timing::{best_in_turn, best_own};
 use super::Named;
@@ -14,7 +14,7 @@ use crate::script::{BLOCK_SLOTS, CERTIFICATE_SLOTS};
 use std::hint::black_box;
 
 /// The height of the last block of a chain of all blocks.
-pub const GREATEST_HEIGHT: u32 = BLOCK_SLOTS as u32 - 1;
+pub const LAST_HEIGHT: u32 = BLOCK_SLOTS as u32 - 1;
 
 /// Whose decided block is 0.
 const AT_FIRST: u32 = 0;
@@ -31,7 +31,7 @@ fn full_memory() -> Sample {
         driver.enter(number % MAX_REPLICAS, number / MAX_REPLICAS + 1);
     }
     let mut sample = Sample::left_by(driver);
-    let decided = Replica { decided_block: GREATEST_HEIGHT, ..sample.memory().replica(AT_LAST) };
+    let decided = Replica { decided_block: LAST_HEIGHT, ..sample.memory().replica(AT_LAST) };
     sample.memory().set_replica(AT_LAST, decided);
     sample
 }
@@ -80,8 +80,8 @@ pub fn times(
     Ok(times)
 }
 
-/// Names and microseconds of two panels on the full memory, in turn: at height 0, the form test alone, and at the greatest
-/// height. A panel that shows another height is an error.
+/// Names and microseconds of two panels on the full memory, in turn: at height 0, the form test alone, and at the last
+/// block's. A panel that shows another height is an error.
 pub fn panels(
     firmware: Option<&dyn Checker>,
     calls: usize,
@@ -109,4 +109,4 @@ pub fn panels(
 }
 
 /// Replicas and the heights on their panels.
-const SHOWN: [(u32, u32); 2] = [(AT_FIRST, 0), (AT_LAST, GREATEST_HEIGHT)];
+const SHOWN: [(u32, u32); 2] = [(AT_FIRST, 0), (AT_LAST, LAST_HEIGHT)];

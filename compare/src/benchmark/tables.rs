@@ -99,9 +99,9 @@ impl Bench<'_> {
         Ok(table)
     }
 
-    /// A panel at the greatest height beside the form test alone, on the same memory.
+    /// A panel at the height of yard's last block beside the form test alone, on the same memory.
     pub fn panel(&self, firmware: Option<&dyn Checker>) -> Result<String, String> {
-        let height = thousands(form_test::GREATEST_HEIGHT as usize);
+        let height = thousands(form_test::LAST_HEIGHT as usize);
         let mut table = format!(
             "| Panel | Form test alone, microseconds | At height {height}, microseconds | Ratio |\n|---|---|---|---|\n"
         );

@@ -4,7 +4,7 @@
 //!       [--runs N] [--lines N] [--text-lines N] [--calls N] [--seed N]
 //! Run in compare/. Without paths: ../target/bin/yard, the programs beside this one, ../docs/benchmark.svg, and no page.
 
-use judge::benchmark::form_test::GREATEST_HEIGHT;
+use judge::benchmark::form_test::LAST_HEIGHT;
 use judge::benchmark::inputs::LONG_LINE;
 use judge::benchmark::machine;
 use judge::benchmark::netting::most_steps;
@@ -76,7 +76,7 @@ fn sizes(bench: &Bench) -> [(&'static str, String); 11] {
         ("certificates", thousands(CERTIFICATE_SLOTS)),
         ("blocks", thousands(BLOCK_SLOTS)),
         ("long", thousands(LONG_LINE)),
-        ("greatest height", thousands(GREATEST_HEIGHT as usize)),
+        ("last height", thousands(LAST_HEIGHT as usize)),
     ]
 }
 

@@ -48,7 +48,7 @@ struct Wrong {
 }
 
 impl Wrong {
-    /// The parent is right, so the height is wrong.
+    /// Its parent is below it.
     fn falls(&self) -> bool {
         self.number > 0 && self.block.parent < self.number
     }
@@ -102,21 +102,19 @@ fn height_of(blocks: &[Block], number: u32) -> Option<u32> {
     blocks.get(number as usize).map(|block| block.height)
 }
 
-const MOST: usize = BLOCK_WORDS * MAX_BLOCKS;
-
 /// Lengths of the blocks that are wrong form, at opening too.
 const WRONG_LENGTHS: &[Mark<usize>] = &[
     ("no block words", |words| *words == 0),
     ("one block word", |words| *words == 1),
     ("a record and a word", |words| *words == BLOCK_WORDS + 1),
-    ("an odd number of block words", |words| !words.is_multiple_of(BLOCK_WORDS) && *words < MOST),
-    ("8,191 block words", |words| *words == MOST - 1),
-    ("8,193 block words", |words| *words == MOST + 1),
-    ("8,194 block words", |words| *words == MOST + BLOCK_WORDS),
+    ("an odd number of block words", |words| !words.is_multiple_of(BLOCK_WORDS) && *words < MAX_BLOCK_WORDS),
+    ("8,191 block words", |words| *words == MAX_BLOCK_WORDS - 1),
+    ("8,193 block words", |words| *words == MAX_BLOCK_WORDS + 1),
+    ("8,194 block words", |words| *words == MAX_BLOCK_WORDS + BLOCK_WORDS),
 ];
 
 const LENGTHS: &[Mark<usize>] =
-    &[("one record", |words| *words == BLOCK_WORDS), ("8,192 block words", |words| *words == MOST)];
+    &[("one record", |words| *words == BLOCK_WORDS), ("8,192 block words", |words| *words == MAX_BLOCK_WORDS)];
 
 const MEMORY_MARKS: &[Mark<memory_marks::Seen>] = &[
     ("other heights past the count", |seen| seen.is_sound() && seen.has_other_heights_past()),

@@ -125,7 +125,7 @@ fn own_parent(random: &mut Random, sample: &mut Sample, number: u32) {
 
 /// Less than a record, part of a record too much or too little, and about as many words as there may be.
 pub fn damage_block_lengths(random: &mut Random, sample: &mut Sample) {
-    const MOST: u32 = (BLOCK_WORDS * MAX_BLOCKS) as u32;
+    let most = MAX_BLOCK_WORDS as u32;
     let part = random.within(1, BLOCK_WORDS as u32 - 1);
     let length = sample.blocks.len() as u32;
     let length = match random.below(10) {
@@ -133,7 +133,7 @@ pub fn damage_block_lengths(random: &mut Random, sample: &mut Sample) {
         1 => part,
         2 => length.saturating_sub(part),
         3..=4 => length + part,
-        _ => random.within(MOST - BLOCK_WORDS as u32, MOST + BLOCK_WORDS as u32),
+        _ => random.within(most - BLOCK_WORDS as u32, most + BLOCK_WORDS as u32),
     };
     sample.blocks.resize(length as usize, 0);
 }

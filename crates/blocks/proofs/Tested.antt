@@ -4,30 +4,21 @@ use mathlib.Core.Path.{_≡_, sym}
 use mathlib.Core.Bool.{true, false}
 use mathlib.Core.List.{List}
 use native.Mathlib.Omega.{arith}
-use lib.ListN.{length}
 use lib.Dec.{eqb}
-use Rattle.protocol.specs.Memory.{blockWords, blockAt}
 use Rattle.protocol.specs.Form.{allBelow}
 use Rattle.protocol.proofs.Booleans.{tests, by-test, at-below}
 use Rattle.protocol.proofs.Blocks.{child-formed, child-form, height-bounded}
 use Rattle.blocks.specs.inner.Records.{parentIn, heightIn, blockOk, Testable}
-use Rattle.protocol.proofs.Below.{next}
 use Rattle.protocol.proofs.Joined.{same-test}
 
 module _ (blocks : List ℕ) (b more : ℕ) (t : Testable blocks b more) where
-  -- Fewer blocks, and the blocks after the first.
-  pub fewer : (n : ℕ) → n ≤ more → Testable blocks b n
-  fewer n le = let few = t .few in let within = t .inSlice in record { child = t .child; few = omega arith; inSlice = omega arith; before = t .before }
-
+  -- The blocks after the first.
   pub after : (k n : ℕ) → k + n ≤ more → allBelow (b + k) (blockOk blocks) ≡ true → Testable blocks (b + k) n
   after k n le all =
       let some = t .child in
       let few = t .few in
       let within = t .inSlice in
       record { child = omega arith; few = omega arith; inSlice = omega arith; before = all }
-
-  pub one-more : blockOk blocks b ≡ true → allBelow (b + 1) (blockOk blocks) ≡ true
-  one-more = next (blockOk blocks) b (t .before)
 
   -- The parent is not below the block.
   pub not-below : b ≤ parentIn blocks b → false ≡ blockOk blocks b
@@ -37,14 +28,11 @@ module _ (blocks : List ℕ) (b more : ℕ) (t : Testable blocks b more) where
       (λ e. let form = child-form (parentIn blocks) (heightIn blocks) b (omega arith) e in absurd (omega arith)) sym
 
   module _ (below : parentIn blocks b < b) where
-    pub parent-within : 1 ≤ more → blockAt (parentIn blocks b) + blockWords ≤ length blocks
-    parent-within le = let within = t .inSlice in omega arith
-
     pub parent-height : heightIn blocks (parentIn blocks b) ≤ parentIn blocks b
     parent-height =
         height-bounded (parentIn blocks) (heightIn blocks) b (at-below b (blockOk blocks) (t .before)) (parentIn blocks b) below
 
-    -- It is, so that the height decides.
+    -- The parent is below, so the height decides.
     pub by-height : eqb (heightIn blocks b) (heightIn blocks (parentIn blocks b) + 1) ≡ blockOk blocks b
     by-height =
         let some = t .child in

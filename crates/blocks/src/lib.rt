@@ -56,17 +56,18 @@ fn root_formed(blocks: &[u32]) -> bool
 }
 
 // A block other than block 0: its parent is below it, and it is one higher than its parent. The parent's height is read once it is known
-// that the parent was tested before: it is at most the parent's number then.
+// that the parent was tested before: it is at most the parent's number then, so one more does not wrap. Numbers are `usize` here, which
+// takes fewer instructions.
 fn block_formed(blocks: &[u32], block: usize) -> bool
     requires { ⌜ Testable (now blocks) block 1 ⌝ }
     ensures { λ r. ⌜ r ≡ blockOk (now (blocks .entry)) block ⌝ }
 {
     let at = BLOCK_WORDS * block;
-    let above = blocks[at + PARENT_AT] as usize;
-    if block <= above {
+    let parent = blocks[at + PARENT_AT] as usize;
+    if block <= parent {
         return false;
     }
-    blocks[at + HEIGHT_AT] == blocks[BLOCK_WORDS * above + HEIGHT_AT] + 1
+    blocks[at + HEIGHT_AT] == blocks[BLOCK_WORDS * parent + HEIGHT_AT] + 1
 }
 
 // Two blocks, one after the other, and four: the compiler inlines them. They leave at the first that fails.

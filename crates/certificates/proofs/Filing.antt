@@ -1,11 +1,10 @@
 -- What filing a certificate gives, and what that tells; and its words, written.
-use Prim.Native.Nat.{ℕ, suc, _+_, _≤_, _<_}
-use mathlib.Core.Path.{_≡_, refl, sym, _∙_}
+use Prim.Native.Nat.{ℕ, _+_, _≤_, _<_}
+use mathlib.Core.Path.{_≡_, sym}
 use mathlib.Core.Bool.{true, false}
-use mathlib.Core.List.{List, [], _∷_}
+use mathlib.Core.List.{List}
 use native.Mathlib.Omega.{arith}
 use lib.ListN.{length, set}
-use lib.Seq.{sets}
 use lib.Dec.{ltb}
 use Rattle.protocol.specs.Memory.{Memory, memory, certificateCountAt, certificateAt, appendCertificate}
 use Rattle.protocol.specs.Certificates.{firstBelow, hasWords, numberFor, isFiled, found, appended, foundOrAppended, logHasRoom, canFile}

@@ -12,7 +12,7 @@ use Rattle.stream.proofs.Cases.{worked-script, worked-script-tells, worked-scri
 use Rattle.field.proofs.Counts.{count-is-least}
 use Rattle.field.proofs.Theorems.{written-reads-back, read-writes-back, read-is-bounded}
 use Rattle.protocol.proofs.Agreement.{agreement, words-match-history, only-appended, would-agree}
-use Rattle.ledger.proofs.Theorems.{panel-shows-history, panel-never-falls, panel-is-kept-height}
+use Rattle.panel.proofs.Theorems.{panel-shows-history, panel-never-falls, panel-is-kept-height}
 use Rattle.protocol.proofs.Steps.{opening-reads-nothing, without-steps-is-default, first-limit-is-first-step, counters-move-by-steps}
 use Rattle.protocol.proofs.Heights.{heights-kept, heights-match-history, heights-stay}
 use Rattle.protocol.proofs.Leaders.{only-leaders-propose, view-zero-has-no-leader}

@@ -9,7 +9,7 @@ use Rattle.stream.specs.Theorems.{ChunksDoNotMatter, TurnsGiveOutput}
 use Rattle.stream.specs.Cases.{WorkedScript, WorkedScriptTells, WorkedScriptOpens, StepsScript}
 use Rattle.field.specs.Theorems.{CountIsLeast, WrittenReadsBack, ReadWritesBack, ReadIsBounded}
 use Rattle.protocol.specs.Agreement.{Agreement, WordsMatchHistory, OnlyAppended, WouldAgree}
-use Rattle.ledger.specs.Theorems.{PanelShowsHistory, PanelNeverFalls, PanelIsKeptHeight}
+use Rattle.panel.specs.Theorems.{PanelShowsHistory, PanelNeverFalls, PanelIsKeptHeight}
 use Rattle.protocol.specs.Repeats.{FoundIsFirstEqual, SecondValueTellsRepeat, RepeatAtOnce, RepeatChangesNothing}
 use Rattle.protocol.specs.Repeats.{ProposalsNeverRepeat, CommitsNeverRepeat}
 use Rattle.protocol.specs.Steps.{OpeningReadsNothing, WithoutStepsIsDefault, FirstLimitIsFirstStep, CountersMoveBySteps}
@@ -92,7 +92,7 @@ pub record Claims : Type 0 where
   pub heightsKept : HeightsKept
   -- after an opening it is the height by the parents given
   pub heightsMatchHistory : HeightsMatchHistory
-  -- and it stays
+  -- and it stays, up to the next accepted opening
   pub heightsStay : HeightsStay
   -- in well-formed memory a replica's panel is the height kept with its decided block
   pub panelIsKeptHeight : PanelIsKeptHeight

@@ -13,7 +13,7 @@ use Rattle.protocol.specs.Form.{allHold, allBelow, stepsFormed}
 use Rattle.protocol.specs.Counter.{defaultSteps, stepsFrom, stepsAllowed, counterStep}
 use Rattle.protocol.proofs.Booleans.{tests, each}
 use Rattle.protocol.proofs.Formed.{Formed, StepBounds, step-bounds, steps-same}
-use Rattle.layout.specs.inner.Parts.{stepIn}
+use Rattle.counter.specs.inner.Rising.{stepIn}
 use Rattle.protocol.proofs.Joined.{joined-all}
 
 pub counter-step-bounds : (m : Memory) (boot : ℕ) → Formed m → StepBounds (counterStep m boot)

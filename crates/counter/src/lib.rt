@@ -2,11 +2,14 @@
 ghost use mathlib.Core.Path.{_≡_};
 ghost use mathlib.Core.Bool.{true};
 ghost use mathlib.Core.List.{List};
-ghost use Prim.Native.Nat.{ℕ, _≤_};
+ghost use Prim.Native.Nat.{ℕ, _+_, _≤_};
 ghost use lib.ListN.{length, getD};
 ghost use lib.Seq.{sets};
 ghost use Rattle.protocol.specs.Memory.{memory, stepCount, stepAt, rowStart};
+ghost use Rattle.protocol.specs.Form.{stepsFormed};
 ghost use Rattle.protocol.specs.Counter.{stepsFrom, stepsAllowed, counterStep};
+ghost use Rattle.counter.specs.inner.Rising.{stepIn};
+use constants::MAX_STEP;
 use constants::STEP_COUNT;
 use constants::STEPS_AT;
 
@@ -23,6 +26,24 @@ pub fn counter_step(table: &[u32], boot: u32) -> u32
     table[STEPS_AT + (step as usize)]
 }
 
+// Eight steps, from an index on. As none is smaller than the one before, it is enough that the first is at least 1 and the last at most
+// 4,096.
+pub fn steps_formed(words: &[u32], start: usize) -> bool
+    requires { ⌜ start + stepCount ≤ length (now words) ⌝ }
+    ensures { λ r. ⌜ r ≡ stepsFormed (stepIn (now (words .entry)) start) ⌝ }
+{
+    let mut formed = true;
+    let mut least: u32 = 1;
+    let mut k: usize = 0;
+    while k < STEP_COUNT {
+        let step = words[start + k];
+        formed = formed & (least <= step);
+        least = step;
+        k += 1;
+    }
+    formed & (least <= MAX_STEP)
+}
+
 // Whether a ledger may be opened with this list: of no steps, or of eight that have their form.
 pub fn steps_allowed(list: &[u32]) -> bool
     ensures { λ r. ⌜ r ≡ stepsAllowed (now (list .entry)) ⌝ }
@@ -31,7 +52,7 @@ pub fn steps_allowed(list: &[u32]) -> bool
         return true;
     }
     if list.len() == STEP_COUNT {
-        return layout::form::steps_formed(list, 0);
+        return steps_formed(list, 0);
     }
     false
 }

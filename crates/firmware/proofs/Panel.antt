@@ -4,7 +4,7 @@ use mathlib.Core.Path.{_≡_, refl, ap, _∙_}
 use Rattle.protocol.specs.declared.Answer.{Answer}
 use Rattle.protocol.specs.Memory.{Memory}
 use Rattle.protocol.specs.Outcome.{firstRefusal, answered, follow}
-use Rattle.ledger.specs.Panel.{panelRule, panelAnswer}
+use Rattle.panel.specs.Panel.{panelRule, panelAnswer}
 
 abbrev valued : Answer → Answer
 valued a = record { number = a .number; first = a .first; second = 0 }

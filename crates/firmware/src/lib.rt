@@ -3,7 +3,7 @@ ghost use mathlib.Core.Path.{_≡_};
 ghost use Rattle.protocol.specs.Memory.{memory};
 ghost use Rattle.protocol.specs.Outcome.{outcome};
 ghost use Rattle.ledger.specs.Called.{called};
-ghost use Rattle.ledger.specs.Panel.{panelAnswer};
+ghost use Rattle.panel.specs.Panel.{panelAnswer};
 ghost use Rattle.netting.specs.Netting.{nettingOutcome, netting};
 ghost use Rattle.field.specs.Field.{readField, written, writeField};
 
@@ -42,7 +42,7 @@ pub extern "C" fn yard_panel(
     ensures { λ r. ⌜ record { number = r; first = now (height .exit); second = 0 }
         ≡ panelAnswer (memory (now (table .entry)) (now (log .entry)) (now (blocks .entry))) replica ⌝ }
 {
-    let answer = ledger::panel(table, log, blocks, replica);
+    let answer = panel::panel(table, log, blocks, replica);
     *height = answer.first;
     answer.number
 }

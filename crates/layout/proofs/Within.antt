@@ -1,35 +1,16 @@
--- What the form tells the code: the words that the accessors read are there, and how large they are.
+-- What the form tells the code: that a block's record is there, and how large words are.
 use Prim.Native.Nat.{ℕ, _+_, _≤_, _<_}
 use native.Mathlib.Omega.{arith}
 use lib.ListN.{length}
-use Rattle.protocol.specs.Memory.{Memory, replicaCount, ceiling, faultBound, certificateCount, blockCount, rowStart}
-use Rattle.protocol.specs.Memory.{replicaWords, rowAt, retired, raised, replica, certificateWords, certificateAt, certificate}
-use Rattle.protocol.specs.Memory.{maxCertificates, blockWords, blockAt, parent, keptHeight, maxBlocks}
-use Rattle.protocol.specs.Form.{lastKind, lengthsFit, replicaFormed, certificateFormed}
+use Rattle.protocol.specs.Memory.{Memory, replicaCount, ceiling, faultBound, certificateCount, blockCount, retired, raised, replica}
+use Rattle.protocol.specs.Memory.{certificate, blockWords, blockAt, parent, keptHeight}
+use Rattle.protocol.specs.Form.{lastKind, replicaFormed, certificateFormed}
 use Rattle.protocol.proofs.Booleans.{tests, each}
 use Rattle.protocol.proofs.Blocks.{height-bounded}
-use Rattle.protocol.proofs.Formed.{Formed, Sizes, sizes}
+use Rattle.protocol.proofs.Formed.{Formed, Sizes}
 
--- ---- what the accessors require
-
-module _ (m : Memory) (s : Sizes m) where
-  pub header-within : rowStart ≤ length (m .table)
-  header-within = omega arith
-
-  pub replica-within : (i k : ℕ) → i < replicaCount (faultBound m) → k < replicaWords → rowAt i + k < length (m .table)
-  replica-within i k h l = omega arith
-
-  pub certificate-within : (c k : ℕ) → c < certificateCount m → k < certificateWords → certificateAt c + k < length (m .log)
-  certificate-within c k h l = omega arith
-
-  pub block-within : (b : ℕ) → b < blockCount m → blockAt b + blockWords ≤ length (m .blocks)
-  block-within b h = omega arith
-
--- ---- how large the words are
-
-pub record Counts (m : Memory) : Type 0 where
-  pub certificates : certificateCount m ≤ maxCertificates
-  pub blocks : blockCount m ≤ maxBlocks
+pub block-within : (m : Memory) → Sizes m → (b : ℕ) → b < blockCount m → blockAt b + blockWords ≤ length (m .blocks)
+block-within m s b h = omega arith
 
 pub record ReplicaBounds (m : Memory) (i : ℕ) : Type 0 where
   pub status : replica m i .status ≤ retired
@@ -54,10 +35,6 @@ pub record CertificateBounds (m : Memory) (c : ℕ) : Type 0 where
   pub boot : certificate m c .boot ≤ ceiling
 
 module _ (m : Memory) (w : Formed m) where
-  pub counts-within : Counts m
-  unfolding lengthsFit
-  counts-within = let s = sizes m w in let h = each _ (w .lengths) in omega tests
-
   pub replica-bounds : (i : ℕ) → i < replicaCount (faultBound m) → ReplicaBounds m i
   unfolding replicaFormed
   replica-bounds i l = let h = each _ (w .rows i l) in omega tests

@@ -7,7 +7,6 @@ ghost use lib.ListN.{length};
 ghost use Rattle.protocol.specs.Memory.{
   memory,
   maxFaultBound,
-  stepCount,
   rowStart,
   replicaWords,
   rowAt,
@@ -15,10 +14,10 @@ ghost use Rattle.protocol.specs.Memory.{
   certificateWords,
   certificateAt,
 };
-ghost use Rattle.protocol.specs.Form.{allBelow, isFaultBound, lengthsFit, countsFit, stepsFormed, wellFormed};
+ghost use Rattle.protocol.specs.Form.{allBelow, isFaultBound, lengthsFit, countsFit, wellFormed};
 ghost use Rattle.protocol.proofs.Formed.{Sizes};
 ghost use Rattle.protocol.specs.inner.Groups.{fourOk};
-ghost use Rattle.layout.specs.inner.Parts.{stepIn, replicaOk, certificateOk, wordsOk};
+ghost use Rattle.layout.specs.inner.Parts.{replicaOk, certificateOk, wordsOk};
 
 // f is 1 to 30.
 pub fn is_fault_bound(f: u32) -> bool
@@ -48,24 +47,6 @@ fn counts_fit(table: &[u32], log: &[u32], blocks: &[u32]) -> bool
     (certificate_at(table[CERTIFICATE_COUNT_AT]) <= log.len())
         & (blocks::block_at(table[BLOCK_COUNT_AT]) <= blocks.len())
         & (1 <= table[BLOCK_COUNT_AT])
-}
-
-// Eight steps, from an index on. As none is smaller than the one before, it is enough that the first is at least 1 and the last at most
-// 4,096.
-pub fn steps_formed(words: &[u32], start: usize) -> bool
-    requires { ⌜ start + stepCount ≤ length (now words) ⌝ }
-    ensures { λ r. ⌜ r ≡ stepsFormed (stepIn (now (words .entry)) start) ⌝ }
-{
-    let mut formed = true;
-    let mut least: u32 = 1;
-    let mut k: usize = 0;
-    while k < STEP_COUNT {
-        let step = words[start + k];
-        formed = formed & (least <= step);
-        least = step;
-        k += 1;
-    }
-    formed & (least <= MAX_STEP)
 }
 
 // The tests of a replica's row, in the order of its words.
@@ -169,7 +150,7 @@ fn words_formed(table: &[u32], log: &[u32], blocks: &[u32]) -> bool
 {
     let replicas = row_count(table);
     let added = table[BLOCK_COUNT_AT];
-    steps_formed(table, STEPS_AT)
+    counter::steps_formed(table, STEPS_AT)
         & blocks::blocks_formed(blocks, added)
         & replicas_formed(table, replicas, added)
         & certificates_formed(log, table[CERTIFICATE_COUNT_AT], replicas, added)

@@ -1,4 +1,5 @@
-// The words of a ledger's memory (document 01, "Memory"): where each stands, how it is read and written, what form they have.
+// The words of the table and of the log (document 01, "Memory"): where each stands, how it is read and written; and the form of the whole
+// memory.
 ghost use mathlib.Core.Path.{_≡_};
 ghost use Prim.Native.Nat.{_+_, _≤_, _<_};
 ghost use lib.ListN.{length, getD, set};

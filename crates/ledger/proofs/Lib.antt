@@ -1,3 +1,1 @@
 pub mod Calling
-pub mod Panels
-pub mod Theorems

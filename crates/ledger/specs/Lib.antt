@@ -1,3 +1,1 @@
 pub mod Called
-pub mod Panel
-pub mod Theorems

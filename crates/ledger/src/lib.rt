@@ -1,12 +1,9 @@
-// Any call of a ledger, and its front panel.
+// Any call of a ledger.
 ghost use mathlib.Core.Path.{_≡_};
 ghost use Rattle.protocol.specs.Memory.{memory};
 ghost use Rattle.protocol.specs.Outcome.{outcome};
 ghost use Rattle.protocol.specs.Runs.{step};
 ghost use Rattle.ledger.specs.Called.{called};
-ghost use Rattle.ledger.specs.Panel.{panelAnswer};
-use checks::FoundReplica;
-use checks::accepted;
 use checks::refused;
 use codes::Coded;
 use protocol::Answer;
@@ -65,15 +62,4 @@ pub fn call_by_code(
         return refused(coded.refusal());
     };
     invoke(table, log, blocks, call, list)
-}
-
-// What the front panel of a replica's box shows: the height of its decided block.
-pub fn panel(table: &[u32], log: &[u32], blocks: &[u32], replica: u32) -> Answer
-    ensures { λ r. ⌜ r ≡ panelAnswer (memory (now (table .entry)) (now (log .entry)) (now (blocks .entry))) replica ⌝ }
-{
-    let found = checks::find_replica(table, log, blocks, replica);
-    let FoundReplica::Found(r) = found else {
-        return refused(found.refusal());
-    };
-    accepted(blocks::height(blocks, r.decided_block), 0)
 }

@@ -44,7 +44,7 @@ pub record Ready (m : Memory) (p : ℕ) : Type 0 where
   pub height : keptHeight m p < maxBlocks
   pub count : blockCount m < maxBlocks
   pub header : rowStart ≤ length (m .table)
-  pub place : blockAt (blockCount m) + blockWords ≤ length (m .blocks)
+  pub slot : blockAt (blockCount m) + blockWords ≤ length (m .blocks)
 
 pub ready : (m : Memory) (p : ℕ) → wellFormed m ≡ true → isBlock m p ≡ true
     → ltb (blockAt (blockCount m)) (length (m .blocks)) ≡ true → Ready m p

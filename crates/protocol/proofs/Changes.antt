@@ -162,7 +162,8 @@ module _ (m : Memory) (ws : List ℕ) (whole : length ws ≡ blockWords) where
   block-replica i = replica-same (appendBlock m ws) m i (λ k h. block-table (rowAt i + k) (omega arith))
 
   -- A word of a record.
-  pub block-old : (b k : ℕ) → b < blockCount m → k < blockWords → getD (appendBlock m ws .blocks) (blockAt b + k) 0 ≡ getD (m .blocks) (blockAt b + k) 0
+  pub block-old : (b k : ℕ) → b < blockCount m → k < blockWords
+      → getD (appendBlock m ws .blocks) (blockAt b + k) 0 ≡ getD (m .blocks) (blockAt b + k) 0
   unfolding appendBlock
   block-old b k h l = sets-elsewhere ws (m .blocks) (blockAt (blockCount m)) (blockAt b + k) (λ le. omega arith)
 

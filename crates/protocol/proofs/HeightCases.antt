@@ -3,9 +3,9 @@ use mathlib.Core.Path.{_≡_, refl}
 use mathlib.Core.Bool.{true}
 use mathlib.Core.List.{map}
 use Rattle.protocol.specs.Form.{allHold}
-use Rattle.protocol.specs.HeightCases.{heightCases, blocksOnTwoLines, blocksOnNewOnes, parentNotAdded, nextPlaceStands}
-use Rattle.protocol.specs.HeightCases.{heightsAreNoParents, openedOverOldBlocks, otherPlacesStand, otherParentOfTheSameHeight}
-use Rattle.protocol.specs.HeightCases.{everyCallTestsHeights, onePlace, mostPlaces, brokenBlocks}
+use Rattle.protocol.specs.HeightCases.{heightCases, blocksOnTwoLines, blocksOnNewOnes, parentNotAdded, nextSlotStands}
+use Rattle.protocol.specs.HeightCases.{heightsAreNoParents, openedOverOldBlocks, otherSlotsStand, otherParentOfTheSameHeight}
+use Rattle.protocol.specs.HeightCases.{everyCallTestsHeights, oneSlot, mostSlots, brokenBlocks}
 use Rattle.protocol.proofs.Rows.{holds, row, AnswersAre, rows}
 
 blocks-on-two-lines : holds blocksOnTwoLines ≡ true
@@ -20,9 +20,9 @@ parent-not-added : holds parentNotAdded ≡ true
 unfolding holds parentNotAdded
 parent-not-added = refl
 
-next-place-stands : holds nextPlaceStands ≡ true
-unfolding holds nextPlaceStands
-next-place-stands = refl
+next-slot-stands : holds nextSlotStands ≡ true
+unfolding holds nextSlotStands
+next-slot-stands = refl
 
 heights-are-no-parents : holds heightsAreNoParents ≡ true
 unfolding holds heightsAreNoParents
@@ -32,9 +32,9 @@ opened-over-old-blocks : holds openedOverOldBlocks ≡ true
 unfolding holds openedOverOldBlocks
 opened-over-old-blocks = refl
 
-other-places-stand : holds otherPlacesStand ≡ true
-unfolding holds otherPlacesStand
-other-places-stand = refl
+other-slots-stand : holds otherSlotsStand ≡ true
+unfolding holds otherSlotsStand
+other-slots-stand = refl
 
 other-parent-of-the-same-height : holds otherParentOfTheSameHeight ≡ true
 unfolding holds otherParentOfTheSameHeight
@@ -44,13 +44,13 @@ every-call-tests-heights : holds everyCallTestsHeights ≡ true
 unfolding holds everyCallTestsHeights
 every-call-tests-heights = refl
 
-one-place : holds onePlace ≡ true
-unfolding holds onePlace
-one-place = refl
+one-slot : holds oneSlot ≡ true
+unfolding holds oneSlot
+one-slot = refl
 
-most-places : holds mostPlaces ≡ true
-unfolding holds mostPlaces
-most-places = refl
+most-slots : holds mostSlots ≡ true
+unfolding holds mostSlots
+most-slots = refl
 
 broken-blocks : allHold (map holds brokenBlocks) ≡ true
 unfolding holds brokenBlocks
@@ -63,13 +63,13 @@ height-cases =
       row blocksOnTwoLines blocks-on-two-lines,
       row blocksOnNewOnes blocks-on-new-ones,
       row parentNotAdded parent-not-added,
-      row nextPlaceStands next-place-stands,
+      row nextSlotStands next-slot-stands,
       row heightsAreNoParents heights-are-no-parents,
       row openedOverOldBlocks opened-over-old-blocks,
-      row otherPlacesStand other-places-stand,
+      row otherSlotsStand other-slots-stand,
       row otherParentOfTheSameHeight other-parent-of-the-same-height,
       row everyCallTestsHeights every-call-tests-heights,
-      row onePlace one-place,
-      row mostPlaces most-places,
+      row oneSlot one-slot,
+      row mostSlots most-slots,
       rows brokenBlocks broken-blocks,
     ) refl

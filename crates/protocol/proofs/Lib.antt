@@ -1,5 +1,4 @@
--- What follows from the definitions: laws of their parts, then the theorems that specs/Theorems.antt and specs/Agreement.antt state, and
--- the table of cases.
+-- What follows from the definitions: laws of their parts, then the theorems that the statements of specs/ name, and the table of cases.
 pub mod Booleans
 pub mod Joined
 pub mod Below

@@ -1,4 +1,4 @@
--- What a row of the table of cases says, by computation: everything that the rules are made of opens with it.
+-- A row of the table of cases, by computation.
 use Prim.Native.Nat.{ℕ}
 use mathlib.Core.Path.{_≡_, refl}
 use mathlib.Core.Bool.{Bool, true, false, _&&_}

@@ -252,7 +252,9 @@ module _ (m : Memory) (l b : List ℕ) (a : Alike m (twin m l b)) where
         blocksLength = simp length-sets (a .blocksLength);
         log = λ k j. absurd (omega arith);
         blocks =
-            λ k j. sets-alike (blockRecord 0 0) (m .blocks) b (blockAt 0) k (a .blocksLength) (λ far. let beyond = far (omega arith) in absurd (omega arith));
+            λ k j.
+            sets-alike (blockRecord 0 0) (m .blocks) b (blockAt 0) k (a .blocksLength)
+            (λ far. let beyond = far (omega arith) in absurd (omega arith));
       }
   fresh-alike f steps limit (suc k) fit = update-alike _ _ k (freshReplica limit) refl (fresh-alike f steps limit k fit)
 

@@ -95,7 +95,7 @@ stored-all ws l start = let q : start + 0 ≡ start = omega arith in stored-from
 
 -- ---- the same write in two lists
 
-pub set-alike : (l l′ : List ℕ) (at a j : ℕ) → length l ≡ length l′ → (j ≢ at → getD l j 0 ≡ getD l′ j 0)
+set-alike : (l l′ : List ℕ) (at a j : ℕ) → length l ≡ length l′ → (j ≢ at → getD l j 0 ≡ getD l′ j 0)
     → getD (set l at a) j 0 ≡ getD (set l′ at a) j 0
 set-alike l l′ at a j n h =
     by-test (eqb j at)

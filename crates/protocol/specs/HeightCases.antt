@@ -23,7 +23,7 @@ counting added m = memory (set (m .table) blockCountAt added) (m .log) (m .block
 abbrev pub withBlocks : ℕ → List ℕ → Memory
 withBlocks added blocks = let m = openedOver (0 ∷ 0 ∷ []) in counting added (memory (m .table) (m .log) blocks)
 
--- Word by word: the parent and the height of blocks 0 to 5, then two free places. Blocks 1, 2 and 4 are of one line, 3 and 5 of another.
+-- Word by word: the parent and the height of blocks 0 to 5, then two free slots. Blocks 1, 2 and 4 are of one line, 3 and 5 of another.
 abbrev pub twoLines : List ℕ
 twoLines =
     0 ∷ 0
@@ -83,17 +83,17 @@ parentNotAdded =
           ∷ [];
     }
 
--- The place after a new block's is not written: it holds a block on block 3 that is added by hand afterwards.
-unfoldable pub nextPlaceStands : Case
-nextPlaceStands =
+-- The slot after a new block's is not written: it holds a block on block 3 that is added by hand afterwards.
+unfoldable pub nextSlotStands : Case
+nextSlotStands =
     record {
       start = counting 8 (run (withBlocks 6 (recordAt twoLines 7 3 2)) (plain (Block 4) ∷ []));
       calls = plain (View 0 1) ∷ [];
       expected = accepted 0 0 ∷ [];
     }
 
--- "prepare and decide read the new record and answer as they did": the parent must be the justified block, not one of its height, nor one
--- further up; and a decision names the block, not its height.
+-- "prepare and decide read the new record and answer as they did": the parent must be the justified block, not another of its height, nor
+-- its parent, nor its child; and a decision names the block, not its height.
 unfoldable pub heightsAreNoParents : Case
 heightsAreNoParents =
     record {
@@ -126,8 +126,7 @@ heightsAreNoParents =
           ∷ [];
     }
 
--- ---- "opening writes both words of block 0", whatever they were, and no other: places 1 and 2 hold records that are added by hand
--- afterwards.
+-- ---- "opening writes both words of block 0", whatever they were
 unfoldable pub openedOverOldBlocks : Case
 openedOverOldBlocks =
     record {
@@ -136,8 +135,9 @@ openedOverOldBlocks =
       expected = accepted 0 0 ∷ accepted 1 0 ∷ accepted 1 0 ∷ refused noRoom ∷ [];
     }
 
-unfoldable pub otherPlacesStand : Case
-otherPlacesStand =
+-- and no other words: slots 1 and 2 hold records that are added by hand afterwards.
+unfoldable pub otherSlotsStand : Case
+otherSlotsStand =
     record {
       start = counting 3 (openedOver (7 ∷ 7 ∷ 0 ∷ 1 ∷ 1 ∷ 2 ∷ []));
       calls = plain (View 0 1) ∷ [];
@@ -169,11 +169,11 @@ abbrev pub ofLength : ℕ → List Answer → Case
 ofLength words expected =
     record { start = withBlocks 1 (replicate words 0); calls = plain (View 0 1) ∷ plain (Open 1) ∷ []; expected = expected }
 
-unfoldable pub onePlace : Case
-onePlace = ofLength 2 (accepted 0 0 ∷ accepted 3 0 ∷ [])
+unfoldable pub oneSlot : Case
+oneSlot = ofLength 2 (accepted 0 0 ∷ accepted 3 0 ∷ [])
 
-unfoldable pub mostPlaces : Case
-mostPlaces = ofLength 8192 (accepted 0 0 ∷ accepted 3 0 ∷ [])
+unfoldable pub mostSlots : Case
+mostSlots = ofLength 8192 (accepted 0 0 ∷ accepted 3 0 ∷ [])
 
 -- ---- what is refused with 1
 
@@ -195,10 +195,10 @@ withHeight b value = broken 6 (set twoLines (blockAt b + heightAt) value)
 abbrev pub withParent : ℕ → ℕ → Case
 withParent b value = broken 6 (set twoLines (blockAt b + parentAt) value)
 
--- In order: all heights one too many, block 0's too, and block 0's alone; heights of block 1, alone and with others; the parent's height,
--- one more than that of the block before, one too many, one that is right but for its upper half, the largest word. A parent of block 0,
--- and parents of another height. Parents that are not below their block, of heights that fit: block 2, which is added, and block 6, which
--- is not. The last of seven blocks. Lengths.
+-- All heights one too many, block 0's too, and block 0's alone; other heights of blocks 1 to 5, among them the parent's, one more than that
+-- of the block before, one that is right but for its upper half, and the largest word; another parent of block 0; parents of another height;
+-- parents that are not below their block, of heights that fit, block 2, which is added, and block 6, which is not; the last of seven blocks;
+-- lengths.
 unfoldable pub brokenBlocks : List Case
 brokenBlocks =
     broken 6 (0 ∷ 1 ∷ 0 ∷ 2 ∷ 1 ∷ 3 ∷ 0 ∷ 2 ∷ 2 ∷ 4 ∷ 3 ∷ 3 ∷ [])
@@ -229,12 +229,12 @@ heightCases =
     blocksOnTwoLines
     ∷ blocksOnNewOnes
     ∷ parentNotAdded
-    ∷ nextPlaceStands
+    ∷ nextSlotStands
     ∷ heightsAreNoParents
     ∷ openedOverOldBlocks
-    ∷ otherPlacesStand
+    ∷ otherSlotsStand
     ∷ otherParentOfTheSameHeight
     ∷ everyCallTestsHeights
-    ∷ onePlace
-    ∷ mostPlaces
+    ∷ oneSlot
+    ∷ mostSlots
     ∷ brokenBlocks

@@ -89,7 +89,7 @@ accumulated =
 abbrev pub committed : Memory
 committed = run accumulated (plain (Prepare 0 1 (Acc 2)) ∷ plain (Store 0 3) ∷ plain (Store 1 3) ∷ [])
 
--- Every call but opening, with numbers that a fresh ledger for f = 1 refuses or takes; where the form is broken, each gives 1.
+-- Every call but opening, on small numbers: where the form is broken, each gives 1.
 abbrev pub everyCall : List Invocation
 everyCall =
     plain (Block 0)

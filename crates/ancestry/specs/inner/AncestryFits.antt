@@ -13,7 +13,7 @@ pub record AncestryFits (blocks : List ℕ) (b : ℕ) : Type 0 where
   pub falls : Falls (parentIn blocks) (suc b)
   pub root : parentIn blocks 0 ≡ 0
 
--- What the walk that marks asks besides: a mark for each block.
+-- What marking asks besides: a mark for each block.
 pub record Markable (blocks : List ℕ) (b : ℕ) (marks : List Bool) : Type 0 where
   pub walk : AncestryFits blocks b
   pub below : b < maxBlocks

@@ -8,8 +8,8 @@ use Rattle.blocks.proofs.Tested.{not-below, parent-height, by-height}
 use Rattle.blocks.proofs.block_formed.Statement.{statement}
 use Rattle.blocks.proofs.block_formed.Tie as tie
 
-cast-above : tie.Need-cast-above
-cast-above c = omega (arith, c .shared-slice-known .given (blockAt (c .before .args .block) + parentAt))
+cast-parent : tie.Need-cast-parent
+cast-parent c = omega (arith, c .shared-slice-known .given (blockAt (c .before .args .block) + parentAt))
 
 returns : tie.Need-returns
 returns c = not-below _ _ _ (c .before .before .pre) (omega (arith, c .if1 .taken))
@@ -31,6 +31,6 @@ returns-2 c = by-height _ _ _ (start c .pre) (below c)
 pub block-formed-spec : {M : Type 1} → statement M
 block-formed-spec =
     tie.close
-    (tie.spec (λ c. search needs) (λ c. search needs) (λ c. search needs) (λ c. search needs) cast-above returns (λ c. search needs)
+    (tie.spec (λ c. search needs) (λ c. search needs) (λ c. search needs) (λ c. search needs) cast-parent returns (λ c. search needs)
     (λ c. search needs) (λ c. search needs) (λ c. search needs) (λ c. search needs) (λ c. search needs) (λ c. search needs)
     add-result-3 returns-2)

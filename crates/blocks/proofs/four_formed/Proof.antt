@@ -1,5 +1,5 @@
 -- Of the first two one fails, or they hold and the other two decide.
-use mathlib.Core.Path.{refl, _∙_}
+use mathlib.Core.Path.{refl}
 use native.Mathlib.Omega.{arith}
 use borrow.Author.Needs.{needs}
 use Rattle.protocol.proofs.Below.{two-twos, next-two}

@@ -2,8 +2,9 @@
 use mathlib.Core.Path.{refl}
 use native.Mathlib.Omega.{arith}
 use borrow.Author.Needs.{needs}
+use Rattle.protocol.proofs.Below.{next}
 use Rattle.protocol.proofs.Joined.{denied, granted}
-use Rattle.blocks.proofs.Tested.{after, one-more}
+use Rattle.blocks.proofs.Tested.{after}
 use Rattle.blocks.proofs.two_formed.Statement.{statement}
 use Rattle.blocks.proofs.two_formed.Tie as tie
 
@@ -13,7 +14,7 @@ returns c = rw (denied (c .before .block-formed .ensures) (c .if1 .taken)) refl
 block-formed-requires-2 : tie.Need-block-formed-requires-2
 block-formed-requires-2 c κs =
     let t = c .before .before .before .pre in
-    after _ _ _ t 1 1 (omega arith) (one-more _ _ _ t (granted (c .before .block-formed .ensures) (c .if1 .left)))
+    after _ _ _ t 1 1 (omega arith) (next _ _ (t .before) (granted (c .before .block-formed .ensures) (c .if1 .left)))
 
 returns-2 : tie.Need-returns-2
 returns-2 c = rw (granted (c .before .before .block-formed .ensures) (c .before .if1 .left)) (c .block-formed2 .ensures)

@@ -1,27 +1,12 @@
 -- The parts of the form that go over words, each over the one slice that it reads.
-use Prim.Native.Nat.{ℕ, zero, suc, _+_}
-use mathlib.Core.Bool.{Bool, true, _&&_}
+use Prim.Native.Nat.{ℕ}
+use mathlib.Core.Bool.{Bool}
 use mathlib.Core.List.{List, [], _∷_}
-use lib.ListN.{getD}
-use lib.Dec.{leb}
 use Rattle.protocol.specs.Memory.{Memory, memory, replicaCount, faultBound, certificateCount, blockCount, stepsAt, replica}
 use Rattle.protocol.specs.Memory.{certificate}
 use Rattle.protocol.specs.Form.{allHold, allBelow, stepsFormed, replicaFormed, certificateFormed}
 use Rattle.blocks.specs.inner.Records.{blockOk}
-
--- Steps by their number, from an index on.
-abbrev pub stepIn : List ℕ → ℕ → ℕ → ℕ
-stepIn words start k = getD words (start + k) 0
-
--- The least that a step may be: 1, or the one before.
-abbrev pub leastStep : (ℕ → ℕ) → ℕ → ℕ
-leastStep step zero = 1
-leastStep step (suc k) = step k
-
--- The steps below a count rise from 1.
-unfoldable pub stepsRise : (ℕ → ℕ) → ℕ → Bool
-stepsRise step zero = true
-stepsRise step (suc k) = stepsRise step k && leb (leastStep step k) (step k)
+use Rattle.counter.specs.inner.Rising.{stepIn}
 
 -- The test of one replica, where so many blocks are added.
 abbrev pub replicaOk : List ℕ → ℕ → ℕ → Bool

@@ -1,4 +1,4 @@
--- Refused; or the record is written at the next place, and counted.
+-- Refused; or the record is written at the next slot, and counted.
 use Prim.Native.Nat.{ℕ}
 use mathlib.Core.Path.{_≡_, sym, _∙_}
 use mathlib.Core.Bool.{true}
@@ -15,7 +15,7 @@ use Rattle.opening.proofs.Blocks.{no-form, unknown, full, adds, Ready, 
 use Rattle.opening.proofs.block.Statement.{statement}
 use Rattle.opening.proofs.block.Tie as tie
 
--- What each test tells that was passed, of the arguments: the form, then that the parent is added, then that there is a place.
+-- What each test tells that was passed, of the arguments: the form, then that the parent is added, then that there is a slot.
 abbrev of : (Memory → ℕ → Type 0) → tie.Then1 → Type 0
 of P c =
     let a = c .before .before .before .before .before .before .before .before .args in
@@ -58,15 +58,15 @@ slice-write-table : tie.Need-slice-write-table
 slice-write-table c = omega (arith, passed (c .before .before) .header)
 
 set-block-requires : tie.Need-set-block-requires
-set-block-requires c κs = passed (c .before .before .before) .place
+set-block-requires c κs = passed (c .before .before .before) .slot
 
 returns-3 : tie.Need-returns-3
 returns-3 c =
     let written = c .before .before .before in
     let height = written .before .before in
-    let place = height .before .before in
+    let tested = height .before .before in
     rw (c .accepted .ensures, written .set-block .ensures, height .height .ensures)
-    (adds _ _ (form (parents place .before .before)) (known (parents place)) (room place))
+    (adds _ _ (form (parents tested .before .before)) (known (parents tested)) (room tested))
 
 returns-4 : tie.Need-returns-4
 returns-4 c = rw (c .refused3 .ensures) (no-form _ _ (sym (c .before .before .is-well-formed .ensures) ∙ c .before .if1 .left))

@@ -14,9 +14,9 @@ use Rattle.protocol.proofs.Booleans.{tests, by-test, each}
 use Rattle.protocol.proofs.Formed.{formed, form, height-kept}
 use Rattle.protocol.proofs.Reached.{panel-height}
 use Rattle.protocol.proofs.Agreement.{reached-by, begins, panel-stays-up}
-use Rattle.ledger.specs.Panel.{panelAnswer}
-use Rattle.ledger.specs.Theorems.{PanelShowsHistory, PanelNeverFalls, PanelIsKeptHeight}
-use Rattle.ledger.proofs.Panels.{shown, panel-refused, panel-shown}
+use Rattle.panel.specs.Panel.{panelAnswer}
+use Rattle.panel.specs.Theorems.{PanelShowsHistory, PanelNeverFalls, PanelIsKeptHeight}
+use Rattle.panel.proofs.Panels.{shown, panel-refused, panel-shown}
 
 pub panel-shows-history : PanelShowsHistory
 unfolding PanelShowsHistory

@@ -10,7 +10,7 @@ use Rattle.protocol.specs.Outcome.{Outcome, firstRefusal, outOfRange}
 use Rattle.protocol.specs.FirstNeeds.{isReplica}
 use Rattle.protocol.proofs.Booleans.{tests}
 use Rattle.protocol.proofs.Needs.{accepts, refuses, fails, holds}
-use Rattle.ledger.specs.Panel.{panelRule, panelAnswer}
+use Rattle.panel.specs.Panel.{panelRule, panelAnswer}
 
 abbrev pub shown : ℕ → Answer
 shown h = record { number = 0; first = h; second = 0 }

@@ -7,9 +7,9 @@ use Rattle.protocol.proofs.Booleans.{tests}
 use Rattle.protocol.proofs.Formed.{sizes, height-kept}
 use Rattle.layout.proofs.Within.{block-within, replica-bounds}
 use Rattle.checks.proofs.Passing.{start, accepts, no-replica, replica-known, found-replica}
-use Rattle.ledger.specs.Panel.{panelRule, panelAnswer}
-use Rattle.ledger.proofs.panel.Statement.{statement}
-use Rattle.ledger.proofs.panel.Tie as tie
+use Rattle.panel.specs.Panel.{panelRule, panelAnswer}
+use Rattle.panel.proofs.panel.Statement.{statement}
+use Rattle.panel.proofs.panel.Tie as tie
 
 returns : tie.Need-returns
 unfolding panelAnswer

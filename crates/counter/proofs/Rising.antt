@@ -7,7 +7,7 @@ use lib.Dec.{leb, eqb}
 use Rattle.protocol.specs.Memory.{stepCount, lastStep}
 use Rattle.protocol.specs.Form.{maxStep, stepsFormed}
 use Rattle.protocol.proofs.Booleans.{tests, by-test, and-true, true-and, each, all-hold, at-below, all-below}
-use Rattle.layout.specs.inner.Parts.{leastStep, stepsRise}
+use Rattle.counter.specs.inner.Rising.{leastStep, stepsRise}
 use Rattle.protocol.proofs.Joined.{same-test}
 
 module _ (step : ℕ → ℕ) where

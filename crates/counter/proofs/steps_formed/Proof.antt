@@ -5,10 +5,10 @@ use native.Mathlib.Numerals.{add-one}
 use native.Mathlib.Omega.{arith}
 use borrow.Author.Needs.{needs}
 use Rattle.protocol.specs.Memory.{stepCount}
-use Rattle.layout.specs.inner.Parts.{stepIn, leastStep, stepsRise}
-use Rattle.layout.proofs.Rising.{rising-formed}
-use Rattle.layout.proofs.form.steps_formed.Statement.{statement}
-use Rattle.layout.proofs.form.steps_formed.Tie as tie
+use Rattle.counter.specs.inner.Rising.{stepIn, leastStep, stepsRise}
+use Rattle.counter.proofs.Rising.{rising-formed}
+use Rattle.counter.proofs.steps_formed.Statement.{statement}
+use Rattle.counter.proofs.steps_formed.Tie as tie
 
 abbrev Inv-loop : tie.InvT-loop
 Inv-loop words start formed₀ least₀ k₀ formed least k =

@@ -10,7 +10,7 @@ use Rattle.protocol.specs.FirstNeeds.{isReplica}
 use Rattle.protocol.specs.Runs.{Invocation}
 use Rattle.protocol.specs.History.{panel}
 use Rattle.protocol.specs.Agreement.{Execution, eventsOf, endOf}
-use Rattle.ledger.specs.Panel.{panelAnswer}
+use Rattle.panel.specs.Panel.{panelAnswer}
 
 -- "A box's panel shows the height of its shown block, which is the block named by its accepted Decide of greatest view so far": after any
 -- list of calls from an accepted opening, every replica's panel is accepted and gives the height that the calls and answers told.

@@ -272,7 +272,7 @@ appendCertificate m ws =
       blocks = m .blocks;
     }
 
--- The memory with one block more, its record at the next place.
+-- The memory with one block more, its record at the next slot.
 unfoldable pub appendBlock : Memory → List ℕ → Memory
 appendBlock m ws =
     record {

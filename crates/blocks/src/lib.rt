@@ -56,8 +56,8 @@ fn root_formed(blocks: &[u32]) -> bool
 }
 
 // A block other than block 0: its parent is below it, and it is one higher than its parent. The parent's height is read once it is known
-// that the parent was tested before: it is at most the parent's number then, so one more does not wrap. Numbers are `usize` here, which
-// takes fewer instructions.
+// that the parent was tested before: it is at most the parent's number then, so one more does not wrap. Numbers are `usize` here: in a
+// trial that was quicker.
 fn block_formed(blocks: &[u32], block: usize) -> bool
     requires { ⌜ Testable (now blocks) block 1 ⌝ }
     ensures { λ r. ⌜ r ≡ blockOk (now (blocks .entry)) block ⌝ }

@@ -1,5 +1,4 @@
--- What holds of the front panel, `panelAnswer`. Proved in proofs/ under the same name in lower case with
--- hyphens.
+-- What holds of the front panel, `panelAnswer`. Proved in proofs/ under the same name in lower case with hyphens.
 use Prim.Native.Nat.{ℕ, _≤_, _<_}
 use mathlib.Core.Path.{_≡_}
 use mathlib.Core.Bool.{true}

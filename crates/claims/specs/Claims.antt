@@ -56,7 +56,7 @@ pub record Claims : Type 0 where
   pub workedScript : WorkedScript
   -- a script of openings with steps, byte for byte
   pub stepsScript : StepsScript
-  -- a number has no digit too many
+  -- a number's digit count is the least from 1 up whose power of ten is above it
   pub countIsLeast : CountIsLeast
   -- what was written is what is read
   pub writtenReadsBack : WrittenReadsBack

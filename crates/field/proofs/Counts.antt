@@ -1,6 +1,6 @@
 -- The digit count: the least count from 1 up whose power of ten is above the number.
 use Prim.Native.Nat.{ℕ, zero, suc, _+_, _*_, _≤_, _<_, _^_}
-use mathlib.Core.Path.{_≡_, refl}
+use mathlib.Core.Path.{_≡_}
 use mathlib.Core.Logic.{⊎-elim}
 use native.Mathlib.Omega.{arith}
 use native.Mathlib.Nat.{pow-succ', pow-le-pow-right, eq-or-lt-of-le}
@@ -48,8 +48,8 @@ count-is-least n =
       least = found-least n n 1;
     }
 
--- What a search for the count needs: a power of ten up to the number is passed.
-pub count-above : (n k : ℕ) → 10 ^ k ≤ n → k < digitCount n
+-- A power of ten up to the number is passed.
+count-above : (n k : ℕ) → 10 ^ k ≤ n → k < digitCount n
 unfolding CountIsLeast
 count-above n k h =
     by-test (leb (digitCount n) k)
@@ -68,16 +68,15 @@ pub count-positive : (n : ℕ) → 1 ≤ digitCount n
 unfolding CountIsLeast
 count-positive n = count-is-least n .positive
 
-pub count-of-zero : digitCount 0 ≡ 1
-unfolding digitCount leastFrom
-count-of-zero = refl
-
 pub below-power : (n : ℕ) → n < 10 ^ digitCount n
 unfolding CountIsLeast
 below-power n = count-is-least n .above
 
 pub count-fits : (n : ℕ) → n ≤ maxNumber → digitCount n ≤ columns
 count-fits n h = count-at-most n columns (omega arith) (omega arith)
+
+pub count-of-digit : (n : ℕ) → n < 10 → digitCount n ≡ 1
+count-of-digit n l = let a = count-positive n in let b = count-at-most n 1 (omega arith) l in omega arith
 
 -- The number whose first digit is not 0 and has k digits after it.
 pub count-is : (n k : ℕ) → 10 ^ k ≤ n → n < 10 ^ suc k → digitCount n ≡ suc k
@@ -91,15 +90,3 @@ first-digit n (suc k) h e =
 
 pub next-power : (k : ℕ) → 10 ^ (k + 1) ≡ 10 * 10 ^ k
 next-power k = rw (add-one k) (pow-succ' 10 k)
-
--- A search that has come to a count whose power is not above the number goes on to the next.
-pub search-goes-on : (n k p : ℕ) → n ≤ maxNumber → p ≡ 10 ^ k → p ≤ n
-    → (k + 1 ≤ digitCount n) × (k + 1 ≤ columns) × (p * 10 ≡ 10 ^ (k + 1))
-search-goes-on n k p m e h =
-    let a = count-above n k (omega arith) in
-    let f = count-fits n m in
-    let q = next-power k in
-    (omega arith, omega arith, omega arith)
-
-pub search-ends : (n k p : ℕ) → 1 ≤ k → k ≤ digitCount n → p ≡ 10 ^ k → n < p → k ≡ digitCount n
-search-ends n k p o l e h = let b = count-at-most n k o (omega arith) in omega arith

@@ -13,7 +13,7 @@ use Rattle.field.specs.Field.{columns, blank, maxNumber, noNumber, field
 use Rattle.field.specs.Field.{continued, isLeadingZero, unpadded, aligned, readField}
 use Rattle.field.specs.Theorems.{WrittenReadsBack, ReadWritesBack, ReadIsBounded}
 use Rattle.field.proofs.Booleans.{tests, by-test}
-use Rattle.field.proofs.Counts.{count-fits, count-of-zero, count-positive, below-power, count-is, first-digit}
+use Rattle.field.proofs.Counts.{count-fits, count-of-digit, count-positive, below-power, count-is, first-digit}
 use Rattle.field.proofs.Reading.{by-digit, continued-digit, not-digit, after-blanks, aligned-digits, digits-back}
 use Rattle.field.proofs.Reading.{continued-low, continued-high}
 
@@ -37,7 +37,7 @@ reads-digits n (suc k) e =
     by-test (eqb n 0)
     (λ t.
     let z : n ≡ 0 = omega tests in
-    let one : k ≡ 0 = omega (arith, count-of-zero, rw z at e) in
+    let one : k ≡ 0 = omega (arith, count-of-digit 0 (omega arith), rw z at e) in
     rw (z, one))
     (λ t.
     let h = rw e at (below-power n) in
@@ -74,7 +74,7 @@ count-of-read b bs z h =
   where
     lone : (b : ℕ) (bs : List ℕ) → eqb b digitZero ≡ true → ltb 0 (length bs) ≡ false
         → digitCount (continued (10 * 0 + (b - digitZero)) bs) ≡ suc (length bs)
-    lone b [] t e = let q : 10 * 0 + (b - digitZero) ≡ 0 = omega tests in rw q count-of-zero
+    lone b [] t e = let q : 10 * 0 + (b - digitZero) ≡ 0 = omega tests in rw q (count-of-digit 0 (omega arith))
     lone b (x ∷ bs) t e = absurd (omega tests)
 
 unpadded-back : (b : ℕ) (bs : List ℕ) → isLeadingZero b bs ≡ false → continued 0 (b ∷ bs) < noNumber

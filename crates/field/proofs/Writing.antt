@@ -11,9 +11,8 @@ use lib.Seq.{drop-cons, getD-set-same, drop-set-lt, take-set-le, take-take, sets
 use native.Mathlib.Nat.{le-refl}
 use Rattle.field.specs.Digits.{digitZero, digits, digitCount}
 use Rattle.field.specs.Field.{columns, blank, maxNumber, accepted, unwritable, fieldOf, written, writeField}
-use Rattle.field.specs.Theorems.{CountIsLeast}
 use Rattle.field.proofs.Booleans.{tests, by-test}
-use Rattle.field.proofs.Counts.{count-is-least}
+use Rattle.field.proofs.Counts.{count-of-digit}
 
 set-at-front : (l : List ℕ) (i a : ℕ) → i < length l → drop i (set l i a) ≡ a ∷ drop (suc i) l
 set-at-front l i a h =
@@ -50,13 +49,10 @@ all-blank l e =
     sets-eq (replicate columns blank) l 0 (omega arith) ∙ rw none refl
 
 pub one-digit : (n : ℕ) {l : List ℕ} → n < 10 → l ≡ replicate columns blank → set l (columns - 1) (digitZero + n) ≡ fieldOf n
-unfolding fieldOf digits CountIsLeast
+unfolding fieldOf digits
 one-digit n h e =
-    let c = count-is-least n in
-    let most = c .least 1 (omega arith) (omega arith) in
-    let one : digitCount n ≡ 1 = omega (arith, c .positive, most) in
     let all : n % 10 ≡ n = omega arith in
-    rw (e, one, all) refl
+    rw (e, count-of-digit n h, all) refl
 
 -- Where the writing of digits starts, and where it ends.
 pub starts : (l : List ℕ) (n count : ℕ) → length l ≡ columns → count ≡ digitCount n → count ≤ columns

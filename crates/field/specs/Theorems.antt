@@ -7,7 +7,7 @@ use lib.ListN.{length}
 use Rattle.field.specs.Digits.{digitCount}
 use Rattle.field.specs.Field.{columns, maxNumber, noNumber, accepted, fieldOf, written, writeField, readField}
 
--- The digit count is the least count from 1 up whose power of ten is above the number.
+-- Document 02, #106: "The count is proved to be the least from 1 up whose power of ten is above the number."
 pub record Least (number count : ℕ) : Type 0 where
   pub positive : 1 ≤ count
   pub above : number < 10 ^ count

@@ -36,18 +36,23 @@ const ACCEPTED: u32 = 0;
 // What a write gives where nothing is written.
 const UNWRITABLE: u32 = 10;
 
-// How many digits a number has.
+// How many digits a number has: "a choice among eight ranges, from 0 to 9 up to 10,000,000 to 99,999,999" (document 02, #106). No number
+// comes to the last line.
 fn digit_count(number: u32) -> u32
     requires { ⌜ number ≤ maxNumber ⌝ }
     ensures { λ r. ⌜ r ≡ digitCount number ⌝ }
 {
-    let mut count = 1;
-    let mut power = 10;
-    while power <= number {
-        power = power * 10;
-        count += 1;
+    match number {
+        0..=9 => 1,
+        10..=99 => 2,
+        100..=999 => 3,
+        1_000..=9_999 => 4,
+        10_000..=99_999 => 5,
+        100_000..=999_999 => 6,
+        1_000_000..=9_999_999 => 7,
+        10_000_000..=99_999_999 => 8,
+        _ => 0,
     }
-    count
 }
 
 // Eight stores that the compiler joins into one.

@@ -33,8 +33,8 @@ pub fn read_number<R: Rules>(rules: R, bytes: &[u8]) -> u32 {
 }
 
 /// `ACCEPTED`, or `UNREADABLE` with the bytes untouched where the length is wrong or the number too large.
-pub fn write_number(number: u32, bytes: &mut [u8]) -> u32 {
-    if bytes.len() != COLUMNS || number > MAX_NUMBER {
+pub fn write_number<R: Rules>(rules: R, number: u32, bytes: &mut [u8]) -> u32 {
+    if bytes.len() != COLUMNS || is_too_large(rules, number) {
         return UNREADABLE;
     }
     bytes.fill(b' ');
@@ -46,7 +46,32 @@ pub fn write_number(number: u32, bytes: &mut [u8]) -> u32 {
             break;
         }
     }
+    miscount(rules, number, bytes);
     ACCEPTED
+}
+
+fn is_too_large<R: Rules>(rules: R, number: u32) -> bool {
+    if number == MAX_NUMBER {
+        return rules.has(Mistake::DigitsMostRefused);
+    }
+    number > MAX_NUMBER && !rules.has(Mistake::DigitsPastMost)
+}
+
+/// What a mistake in the digit count does to a number's text: its first digit is lost, or a zero stands before it.
+fn miscount<R: Rules>(rules: R, number: u32, bytes: &mut [u8]) {
+    let has_eight = number > MAX_NUMBER / 10;
+    let is_power = number >= 10 && number == 10u32.pow(number.ilog10());
+    let lost = rules.has(Mistake::DigitsZeroNone) && number == 0
+        || rules.has(Mistake::DigitsTenOne) && number == 10
+        || rules.has(Mistake::DigitsPowersShort) && is_power
+        || rules.has(Mistake::DigitsLastPowerShort) && is_power && has_eight
+        || rules.has(Mistake::DigitsEightAsSeven) && has_eight;
+    let padded = rules.has(Mistake::DigitsNineTwo) && number == 9
+        || rules.has(Mistake::DigitsSevenAsEight) && !has_eight && number > MAX_NUMBER / 100;
+    if lost || padded {
+        let first = bytes.iter().take_while(|&&byte| byte == b' ').count();
+        bytes[first - usize::from(padded)] = if padded { b'0' } else { b' ' };
+    }
 }
 
 /// A number in its columns; a greater one takes more of them.

@@ -282,6 +282,16 @@ mistakes! {
     TextHeldLost "text-held-lost" "of a line over a block's end only the last part is read" "a matter of text";
     TextLongLineCut "text-long-line-cut" "of a line of too many fields the first are read" "a matter of text";
     TextCarriageReturn "text-carriage-return" "a carriage return before the line feed is dropped" "a matter of text";
+    // Digits written.
+    DigitsZeroNone "digits-zero-none" "0 is written without a digit" "a matter of text";
+    DigitsNineTwo "digits-nine-two" "9 is written with two digits" "a matter of text";
+    DigitsTenOne "digits-ten-one" "10 is written with one digit" "a matter of text";
+    DigitsPowersShort "digits-powers-short" "10, 100 and so on are written with a digit too few" "a matter of text";
+    DigitsLastPowerShort "digits-last-power-short" "10,000,000 is written with seven digits" "a matter of text";
+    DigitsSevenAsEight "digits-seven-as-eight" "a number of seven digits is written with eight" "a matter of text";
+    DigitsEightAsSeven "digits-eight-as-seven" "a number of eight digits is written with seven" "a matter of text";
+    DigitsMostRefused "digits-most-refused" "99,999,999 is not written" "a matter of text";
+    DigitsPastMost "digits-past-most" "of 100,000,000 and above the last eight digits are written" "a matter of text";
 }
 
 impl Mistake {

@@ -95,7 +95,7 @@ impl<R: Rules> Program<R> {
         };
         self.line.clear();
         self.lines += 1;
-        write_line(self.lines, outcome, out);
+        write_line(self.rules, self.lines, outcome, out);
     }
 
     /// Lends a table of the length for the f being opened, or else of the one last opened.
@@ -141,10 +141,10 @@ fn read_fields<R: Rules>(rules: R, line: &[u8], fields: &mut [u32; MAX_FIELDS]) 
 }
 
 /// Line number, answer and both values in their columns.
-pub fn write_line(line: u32, outcome: Outcome, out: &mut Vec<u8>) {
+fn write_line<R: Rules>(rules: R, line: u32, outcome: Outcome, out: &mut Vec<u8>) {
     for number in [line, outcome.answer, outcome.first, outcome.second] {
         let mut bytes = [b' '; COLUMNS];
-        write_number(number, &mut bytes);
+        write_number(rules, number, &mut bytes);
         out.extend_from_slice(&bytes);
     }
     out.push(b'\n');

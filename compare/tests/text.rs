@@ -1,8 +1,10 @@
 //! The script program's text: fields, unreadable lines, blocks of any size, the last line.
 
+use judge::comparison::checkers::Library;
+use judge::comparison::numbers::{near_edges, text_difference};
 use judge::field::{field_text, read_number, write_number, COLUMNS, MAX_NUMBER, NO_NUMBER};
 use judge::memory::MAX_F;
-use judge::mistake::Correct;
+use judge::mistake::{Correct, Mistake};
 use judge::script::{run, Program, MAX_FIELDS, MAX_LINES};
 
 fn line(fields: &[u32]) -> String {
@@ -20,7 +22,7 @@ fn fields() {
     for (text, number) in [("       0", 0), ("      10", 10), ("99999999", 99_999_999), ("       7", 7)] {
         assert_eq!(read_number(Correct, text.as_bytes()), number);
         let mut bytes = [b'x'; COLUMNS];
-        assert_eq!(write_number(number, &mut bytes), 0);
+        assert_eq!(write_number(Correct, number, &mut bytes), 0);
         assert_eq!(bytes, text.as_bytes());
     }
     for text in ["", "        ", "      00", "00000001", "1       ", "      -1", "      +1", "   1   1", "\t      1"] {
@@ -28,9 +30,44 @@ fn fields() {
     }
     assert_eq!(read_number(Correct, b"        1"), NO_NUMBER);
     let mut bytes = [b'x'; COLUMNS];
-    assert_eq!(write_number(MAX_NUMBER + 1, &mut bytes), 10);
-    assert_eq!(write_number(1, &mut bytes[1..]), 10);
+    assert_eq!(write_number(Correct, MAX_NUMBER + 1, &mut bytes), 10);
+    assert_eq!(write_number(Correct, 1, &mut bytes[1..]), 10);
     assert_eq!(bytes, [b'x'; COLUMNS]);
+}
+
+/// Document 02, #106: "a choice among eight ranges, from 0 to 9 up to 10,000,000 to 99,999,999".
+const RANGES: [(u32, u32, &str); 8] = [
+    (0, 9, "       0       9"),
+    (10, 99, "      10      99"),
+    (100, 999, "     100     999"),
+    (1_000, 9_999, "    1000    9999"),
+    (10_000, 99_999, "   10000   99999"),
+    (100_000, 999_999, "  100000  999999"),
+    (1_000_000, 9_999_999, " 1000000 9999999"),
+    (10_000_000, 99_999_999, "1000000099999999"),
+];
+
+#[test]
+fn the_edges_of_the_ranges() {
+    let near: Vec<u32> = near_edges().collect();
+    for (first, last, text) in RANGES {
+        let mut bytes = [b'x'; 2 * COLUMNS];
+        let (left, right) = bytes.split_at_mut(COLUMNS);
+        assert_eq!([write_number(Correct, first, left), write_number(Correct, last, right)], [0, 0]);
+        assert_eq!(bytes, text.as_bytes());
+        assert!(near.contains(&first) && near.contains(&last) && near.contains(&(last + 1)), "{first} to {last}");
+    }
+    assert_eq!(near.iter().find_map(|&number| text_difference(&Library(Correct), number)), None);
+}
+
+#[test]
+fn every_mistake_in_the_digits_shows_near_an_edge() {
+    let mistakes: Vec<_> = Mistake::ALL.iter().filter(|mistake| mistake.name().starts_with("digits-")).collect();
+    assert!(!mistakes.is_empty());
+    for &mistake in mistakes {
+        let told = near_edges().find_map(|number| text_difference(&Library(Some(mistake)), number));
+        assert!(told.is_some(), "{mistake:?}");
+    }
 }
 
 #[test]

@@ -1,8 +1,11 @@
-//! `compare`: two programs on generated scripts, the firmware and the library on random memories and nettings.
+//! `compare`: two programs on generated scripts, the firmware and the library on random memories and nettings, the
+//! firmware and Rust's own formatting on numbers.
 //!
 //! compare --yard PATH --second PATH [--scenarios DIR] [--seconds N] [--seed N]   scripts, byte for byte
 //! compare --memories [--seconds N] [--seed N]   memories: the firmware (feature `firmware`), else the library itself
 //! compare --nettings [--seconds N] [--seed N]   lists of movements on memories, the same two
+//! compare --numbers                             every number from 0 to 99,999,999 and some thousands above, written and read again
+//! compare --number-edges                        the same of the numbers near the edges of the eight ranges
 //! compare --self [--mistake NAME] [--seconds N] [--seed N]   the library, with a mistake if one is named, and itself
 //! compare --mistakes [--seed N]                 which mistakes the generators tell apart, and by what
 //! compare --coverage [--seed N]                 what the generators reach, and how often
@@ -11,6 +14,7 @@
 use judge::comparison::checkers::{Checker, Library};
 use judge::comparison::mistakes::Most;
 use judge::comparison::nettings::netting_difference;
+use judge::comparison::numbers::{every_difference, near_edges, text_difference, EVERY};
 use judge::comparison::programs::{first_difference, output, Arrival};
 use judge::comparison::samples::{call_difference, difference, panel_difference};
 use judge::comparison::shrink::{sample_text, shrink_sample, shrink_script};
@@ -28,10 +32,13 @@ use std::time::{Duration, Instant};
 
 type Run<'a> = &'a dyn Fn(&[u8], Arrival) -> Result<Vec<u8>, String>;
 
+const LIBRARY: &str = "the library";
+const FORMATTING: &str = "Rust's own formatting";
+
 fn main() -> ExitCode {
     let known =
         ["yard", "second", "scenarios", "seconds", "seed", "script", "scripts", "count", "netting-count", "mistake"];
-    let flags = ["memories", "nettings", "self", "mistakes", "coverage"];
+    let flags = ["memories", "nettings", "numbers", "number-edges", "self", "mistakes", "coverage"];
     match Options::read(&known, &flags).and_then(|options| work(&options)) {
         Ok(()) => ExitCode::SUCCESS,
         Err(message) => {
@@ -61,13 +68,19 @@ fn work(options: &Options) -> Result<(), String> {
         return compare_library(options.text("mistake"), seed, time);
     }
     if options.flag("memories") {
-        return compare_memories(checker().as_ref(), seed, time);
+        return compare_memories(checker(LIBRARY).as_ref(), seed, time);
     }
     if options.flag("nettings") {
-        return compare_nettings(checker().as_ref(), seed, time);
+        return compare_nettings(checker(LIBRARY).as_ref(), seed, time);
+    }
+    if options.flag("numbers") {
+        return tell_numbers(EVERY, every_difference(checker(FORMATTING).as_ref()));
+    }
+    if options.flag("number-edges") {
+        return compare_number_edges(checker(FORMATTING).as_ref());
     }
     let (Some(yard), Some(second)) = (options.text("yard"), options.text("second")) else {
-        return Err("give --yard PATH and --second PATH, or --memories, --nettings, --self or --mistakes".to_string());
+        return Err("give --yard PATH and --second PATH, or one of the flags that src/bin/compare.rs lists".to_string());
     };
     if let Some(directory) = options.text("scenarios") {
         compare_scenarios(directory, &[yard, second])?;
@@ -82,18 +95,20 @@ fn compare_library(mistake: Option<&str>, seed: u64, time: Duration) -> Result<(
     let scripts = compare_scripts(&|text, _| Ok(run(rules, text)), &|text, _| Ok(run(Correct, text)), seed, time);
     let memories = compare_memories(&Library(rules), seed, time);
     let nettings = compare_nettings(&Library(rules), seed, time);
-    scripts.and(memories).and(nettings)
+    let numbers = compare_number_edges(&Library(rules));
+    scripts.and(memories).and(nettings).and(numbers)
 }
 
+/// The firmware, to be put beside something; without the feature the library in its place.
 #[cfg(feature = "firmware")]
-fn checker() -> Box<dyn Checker> {
-    println!("the firmware against the library");
+fn checker(beside: &str) -> Box<dyn Checker + Sync> {
+    println!("the firmware against {beside}");
     Box::new(judge::comparison::firmware::Firmware)
 }
 
 #[cfg(not(feature = "firmware"))]
-fn checker() -> Box<dyn Checker> {
-    println!("built without the feature `firmware`: the library against itself");
+fn checker(beside: &str) -> Box<dyn Checker + Sync> {
+    println!("built without the feature `firmware`: the library against {beside}");
     Box::new(Library(Correct))
 }
 
@@ -188,6 +203,19 @@ fn compare_nettings(checker: &dyn Checker, seed: u64, time: Duration) -> Result<
         println!("smallest netting:\n{}  {}", netting_text(&small), tell(&small).unwrap_or_default());
         true
     })
+}
+
+fn compare_number_edges(checker: &dyn Checker) -> Result<(), String> {
+    let difference = near_edges().find_map(|number| text_difference(checker, number));
+    tell_numbers(near_edges().count() as u64, difference)
+}
+
+fn tell_numbers(count: u64, difference: Option<String>) -> Result<(), String> {
+    if let Some(told) = difference {
+        return Err(format!("numbers differ: {told}"));
+    }
+    println!("{count} numbers, no difference");
+    Ok(())
 }
 
 /// Every NAME.txt of the directory gives its NAME.out.

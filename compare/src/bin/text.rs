@@ -188,10 +188,15 @@ fn put_number(field: &mut [u8], number: u32) {
 }
 
 fn digit_count(number: u32) -> usize {
-    let (mut count, mut power) = (1, 10);
-    while power <= number {
-        power *= 10;
-        count += 1;
+    match number {
+        0..=9 => 1,
+        10..=99 => 2,
+        100..=999 => 3,
+        1_000..=9_999 => 4,
+        10_000..=99_999 => 5,
+        100_000..=999_999 => 6,
+        1_000_000..=9_999_999 => 7,
+        10_000_000..=99_999_999 => 8,
+        _ => 0,
     }
-    count
 }

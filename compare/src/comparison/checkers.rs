@@ -46,6 +46,6 @@ impl<R: Rules> Checker for Library<R> {
     }
 
     fn write_number(&self, number: u32, bytes: &mut [u8]) -> u32 {
-        write_number(number, bytes)
+        write_number(self.0, number, bytes)
     }
 }

@@ -1,7 +1,9 @@
-//! Shows that the comparison sees: each mistake is told apart by the generated scripts, the memories or the nettings.
+//! Shows that the comparison sees: each mistake is told apart by the generated scripts, the memories, the nettings or the
+//! numbers near the edges of their ranges.
 
 use super::checkers::Library;
 use super::nettings::netting_difference;
+use super::numbers::{near_edges, text_difference};
 use super::samples::difference;
 use crate::generate::netting::netting;
 use crate::generate::scripts::{script, Script};
@@ -45,6 +47,11 @@ fn nettings_tell_apart(mistake: Mistake, seed: u64, most: u64) -> Option<u64> {
     (0..most).find(|i| differs(seed + i)).map(|i| i + 1)
 }
 
+/// The first number whose text is wrong.
+fn numbers_tell_apart(mistake: Mistake) -> Option<u32> {
+    near_edges().find(|&number| text_difference(&Library(Some(mistake)), number).is_some())
+}
+
 /// Prints which mistakes are seen by what; true if none is missed.
 pub fn tell(seed: u64, scripts: u64, most: Most) -> bool {
     let generated = Scripts::generate(seed, scripts);
@@ -58,12 +65,19 @@ pub fn tell(seed: u64, scripts: u64, most: Most) -> bool {
         let script = calls.then(|| generated.tell_apart(mistake)).flatten();
         let memory = calls.then(|| memories_tell_apart(mistake, seed, memories)).flatten();
         let netting = nettings_tell_apart(mistake, seed, nettings);
+        let number = numbers_tell_apart(mistake);
         let other = if calls { "not seen" } else { "no call" };
         let by_script = script.map_or(other.to_string(), |(place, sort)| format!("script {place} ({sort})"));
         let by_memory = memory.map_or(other.to_string(), |count| format!("memory {count}"));
         let by_netting = netting.map_or("not seen".to_string(), |count| format!("netting {count}"));
-        println!("{:26}{by_script:34}{by_memory:18}{by_netting}", mistake.name());
-        let seen = [("scripts", script.is_some()), ("memories", memory.is_some()), ("nettings", netting.is_some())];
+        let by_number = number.map_or("not seen".to_string(), |number| format!("number {number}"));
+        println!("{:26}{by_script:34}{by_memory:18}{by_netting:18}{by_number}", mistake.name());
+        let seen = [
+            ("scripts", script.is_some()),
+            ("memories", memory.is_some()),
+            ("nettings", netting.is_some()),
+            ("numbers", number.is_some()),
+        ];
         add(&mut groups, &seen, mistake.name());
     }
     println!();

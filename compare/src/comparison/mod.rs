@@ -1,4 +1,5 @@
-//! The comparison of two programs on scripts and of two checkers on memories and nettings.
+//! The comparison of two programs on scripts, of two checkers on memories and nettings, and of a checker with Rust's own
+//! formatting on numbers.
 
 pub mod checkers;
 pub mod coverage;
@@ -10,6 +11,7 @@ pub mod memory_marks;
 pub mod mistakes;
 pub mod netting_marks;
 pub mod nettings;
+pub mod numbers;
 pub mod programs;
 pub mod renumber;
 pub mod samples;

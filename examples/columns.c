@@ -1,0 +1,36 @@
+/* The column sheet in C: for each digit count the first and the last number that has it, as they stand in their eight columns. Its status
+ * is 1 if one of them was not written, or the first number of nine digits was. */
+#include "../include/yard.h"
+
+#include <stdio.h>
+
+enum { COLUMNS = 8, UNTOUCHED = '-', UNWRITABLE = 10 };
+
+static int wrong;
+
+/* Writes a number, whose answer must be the expected one, and prints the columns between two bars. */
+static void print_columns(uint32_t number, uint32_t expected) {
+    uint8_t bytes[COLUMNS];
+    for (int i = 0; i < COLUMNS; i++)
+        bytes[i] = UNTOUCHED;
+    if (yard_write_number(number, bytes, COLUMNS) != expected)
+        wrong = 1;
+    printf("|%.*s|", COLUMNS, (const char *)bytes);
+}
+
+int main(void) {
+    uint32_t first = 0, next = 10;
+    for (int digits = 1; digits <= COLUMNS; digits++) {
+        printf("%d  ", digits);
+        print_columns(first, 0);
+        printf(" to ");
+        print_columns(next - 1, 0);
+        printf("\n");
+        first = next;
+        next *= 10;
+    }
+    printf("%d  ", COLUMNS + 1);
+    print_columns(first, UNWRITABLE);
+    printf(" for %u, which is not written\n", first);
+    return wrong;
+}

@@ -40,7 +40,7 @@
 uint32_t yard_read_number(const uint8_t *bytes, size_t length);
 
 /* Writes a number right-justified into eight columns: 0; or 10 with nothing written where the length is not eight or the number is above
- * 99,999,999. */
+ * 99,999,999. examples/columns.c prints the first and the last number of each digit count. */
 uint32_t yard_write_number(uint32_t number, uint8_t *bytes, size_t length);
 
 /* A call: 0, or the number of its refusal with no word changed. Codes, unused arguments and list lengths are those of a script line: 0 open

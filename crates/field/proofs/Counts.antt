@@ -60,7 +60,7 @@ count-above n k h =
     absurd (omega arith))
     (λ t. omega tests)
 
-pub count-at-most : (n k : ℕ) → 1 ≤ k → n < 10 ^ k → digitCount n ≤ k
+count-at-most : (n k : ℕ) → 1 ≤ k → n < 10 ^ k → digitCount n ≤ k
 unfolding CountIsLeast
 count-at-most n k h l = count-is-least n .least k h l
 

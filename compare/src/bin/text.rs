@@ -175,11 +175,12 @@ fn put_answer(text: &mut [u8], line: u32, outcome: Outcome) {
 /// Blanks, then the digits over them from the last column on. Most numbers have one digit.
 fn put_number(field: &mut [u8], number: u32) {
     field.copy_from_slice(&[b' '; COLUMNS]);
-    if number < 10 {
+    let count = digit_count(number);
+    if count == 1 {
         field[COLUMNS - 1] = b'0' + number as u8;
         return;
     }
-    let first = COLUMNS - digit_count(number);
+    let first = COLUMNS - count;
     let mut rest = number;
     for at in (first..COLUMNS).rev() {
         field[at] = b'0' + (rest % 10) as u8;

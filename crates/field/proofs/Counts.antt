@@ -48,7 +48,7 @@ count-is-least n =
       least = found-least n n 1;
     }
 
--- A power of ten up to the number is passed.
+-- A number's count is above every exponent whose power of ten is at most the number.
 count-above : (n k : ℕ) → 10 ^ k ≤ n → k < digitCount n
 unfolding CountIsLeast
 count-above n k h =
@@ -75,8 +75,12 @@ below-power n = count-is-least n .above
 pub count-fits : (n : ℕ) → n ≤ maxNumber → digitCount n ≤ columns
 count-fits n h = count-at-most n columns (omega arith) (omega arith)
 
+-- A number of one digit.
 pub count-of-digit : (n : ℕ) → n < 10 → digitCount n ≡ 1
 count-of-digit n l = let a = count-positive n in let b = count-at-most n 1 (omega arith) l in omega arith
+
+pub digit-of-count : (n : ℕ) → digitCount n ≡ 1 → n < 10
+digit-of-count n e = rw e at (below-power n)
 
 -- The number whose first digit is not 0 and has k digits after it.
 pub count-is : (n k : ℕ) → 10 ^ k ≤ n → n < 10 ^ suc k → digitCount n ≡ suc k

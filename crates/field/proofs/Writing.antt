@@ -12,7 +12,7 @@ use native.Mathlib.Nat.{le-refl}
 use Rattle.field.specs.Digits.{digitZero, digits, digitCount}
 use Rattle.field.specs.Field.{columns, blank, maxNumber, accepted, unwritable, fieldOf, written, writeField}
 use Rattle.field.proofs.Booleans.{tests, by-test}
-use Rattle.field.proofs.Counts.{count-of-digit}
+use Rattle.field.proofs.Counts.{digit-of-count}
 
 set-at-front : (l : List ℕ) (i a : ℕ) → i < length l → drop i (set l i a) ≡ a ∷ drop (suc i) l
 set-at-front l i a h =
@@ -48,11 +48,13 @@ all-blank l e =
     let none = drop-of-length-le l {i = columns} (omega arith) in
     sets-eq (replicate columns blank) l 0 (omega arith) ∙ rw none refl
 
-pub one-digit : (n : ℕ) {l : List ℕ} → n < 10 → l ≡ replicate columns blank → set l (columns - 1) (digitZero + n) ≡ fieldOf n
+pub one-digit : (n : ℕ) {l : List ℕ} → digitCount n ≡ 1 → l ≡ replicate columns blank
+    → set l (columns - 1) (digitZero + n) ≡ fieldOf n
 unfolding fieldOf digits
-one-digit n h e =
+one-digit n one e =
+    let small = digit-of-count n one in
     let all : n % 10 ≡ n = omega arith in
-    rw (e, count-of-digit n h, all) refl
+    rw (e, one, all) refl
 
 -- Where the writing of digits starts, and where it ends.
 pub starts : (l : List ℕ) (n count : ℕ) → length l ≡ columns → count ≡ digitCount n → count ≤ columns

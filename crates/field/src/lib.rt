@@ -36,9 +36,9 @@ const ACCEPTED: u32 = 0;
 // What a write gives where nothing is written.
 const UNWRITABLE: u32 = 10;
 
-// How many digits a number has: "a choice among eight ranges, from 0 to 9 up to 10,000,000 to 99,999,999" (document 02, #106). No number
-// comes to the last line.
-fn digit_count(number: u32) -> u32
+// How many digits a number has: "a choice among eight ranges, from 0 to 9 up to 10,000,000 to 99,999,999" (document 02, #106). The contract
+// lets no number come to the last line.
+fn digit_count(number: u32) -> usize
     requires { ⌜ number ≤ maxNumber ⌝ }
     ensures { λ r. ⌜ r ≡ digitCount number ⌝ }
 {
@@ -76,11 +76,12 @@ pub fn write_columns(number: u32, bytes: &mut [u8])
     ensures { λ _. ⌜ now (bytes .exit) ≡ fieldOf number ⌝ }
 {
     write_blanks(bytes);
-    if number < 10 {
+    let count = digit_count(number);
+    if count == 1 {
         bytes[LAST_COLUMN] = DIGIT_ZERO + number as u8;
         return;
     }
-    let first = COLUMNS - digit_count(number) as usize;
+    let first = COLUMNS - count;
     let mut rest = number;
     let mut at = COLUMNS;
     while first < at {

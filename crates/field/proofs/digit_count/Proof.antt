@@ -1,4 +1,4 @@
--- Each range lies between two powers of ten, and its count is the exponent of the upper one.
+-- The first range has the digits; each other lies between two powers of ten, and its count is the exponent of the upper one.
 use Prim.Native.Nat.{ℕ, suc, _≤_, _<_, _^_}
 use mathlib.Core.Path.{_≡_, sym, _∙_}
 use native.Mathlib.Omega.{arith}

@@ -8,40 +8,42 @@ use lib.ListN.{length, take, drop, replicate, length-set}
 use lib.Seq.{take-all}
 use Rattle.field.specs.Digits.{digits, digitCount}
 use Rattle.field.specs.Field.{columns, blank}
-use Rattle.field.proofs.Counts.{count-fits}
+use Rattle.field.proofs.Counts.{count-fits, digit-of-count}
 use Rattle.field.proofs.Writing.{digit-written, blanks-left, one-digit, starts, all-stand}
 use Rattle.field.proofs.write_columns.Statement.{statement}
 use Rattle.field.proofs.write_columns.Tie as tie
 
 abbrev Inv-loop : tie.InvT-loop
-Inv-loop number bytes₀ first rest₀ at₀ bytes rest at =
+Inv-loop number bytes₀ count first rest₀ at₀ bytes rest at =
     (first ≤ at) × (at ≤ columns) × (length bytes ≡ columns) × (first ≡ columns - digitCount number)
     × (digits (at - first) rest ++ drop at bytes ≡ digits (digitCount number) number)
     × (take at bytes ≡ replicate at blank)
 
 abbrev μ-loop : tie.MeasureT-loop
-μ-loop number bytes₀ first rest₀ at₀ bytes rest at = at
+μ-loop number bytes₀ count first rest₀ at₀ bytes rest at = at
+
+is-one : (c : tie.Then1 Inv-loop μ-loop) → digitCount (c .before .before .before .before .before .before .before .args .number) ≡ 1
+is-one c = sym (c .before .digit-count .ensures) ∙ c .if1 .taken
+
+cast-bytes : tie.Need-cast-bytes Inv-loop μ-loop
+cast-bytes c = let small = digit-of-count _ (is-one c) in omega arith
+
+add-bytes : tie.Need-add-bytes Inv-loop μ-loop
+add-bytes c = let small = digit-of-count _ (is-one c) in omega arith
 
 returns : tie.Need-returns Inv-loop μ-loop
-returns c =
-    let start = c .before .before .before .before .before .before in
-    one-digit (start .args .number) (c .if1 .taken) (c .before .before .before .write-blanks .ensures)
-
-cast-first : tie.Need-cast-first Inv-loop μ-loop
-cast-first c =
-    let start = c .before .before .before .before .before .before .before in
-    omega (arith, c .digit-count .ensures, count-fits (start .args .number) (start .pre .small))
+returns c = one-digit _ (is-one c) (c .before .before .before .before .write-blanks .ensures)
 
 sub-first : tie.Need-sub-first Inv-loop μ-loop
 sub-first c =
     let start = c .before .before .before .before .before .before .before in
-    omega (arith, c .digit-count .ensures, count-fits (start .args .number) (start .pre .small))
+    omega (arith, c .before .digit-count .ensures, count-fits (start .args .number) (start .pre .small))
 
 loop-holds : tie.Need-loop-holds Inv-loop μ-loop
 loop-holds c =
     let blanked = c .before .before .before .before in
     let start = blanked .before .before .before in
-    let e = c .digit-count .ensures in
+    let e = c .before .digit-count .ensures in
     let u = count-fits (start .args .number) (start .pre .small) in
     let long = c .before .before .before .bytes .given ∙ start .pre .eight in (
       omega (arith, e, u),
@@ -76,6 +78,6 @@ returns-2 c =
 pub write-columns-spec : {M : Type 1} → statement M
 write-columns-spec =
     tie.close
-    (tie.spec Inv-loop μ-loop (λ c κs. search needs) (λ c. search needs) (λ c. search needs) (λ c. search needs)
-    (λ c. search needs) returns (λ c κs. search needs) cast-first sub-first loop-holds (λ c. search needs)
-    (λ c. search needs) (λ c. search needs) (λ c. search needs) (λ c. search needs) loop-again same-length-2 returns-2)
+    (tie.spec Inv-loop μ-loop (λ c κs. search needs) (λ c κs. search needs) cast-bytes add-bytes (λ c. search needs)
+    (λ c. search needs) returns sub-first loop-holds (λ c. search needs) (λ c. search needs) (λ c. search needs)
+    (λ c. search needs) (λ c. search needs) loop-again same-length-2 returns-2)

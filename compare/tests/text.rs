@@ -1,7 +1,7 @@
-//! The script program's text: fields, unreadable lines, blocks of any size, the last line.
+//! The script program's text: fields and their digits, unreadable lines, blocks of any size, the last line.
 
 use judge::comparison::checkers::Library;
-use judge::comparison::numbers::{near_edges, text_difference};
+use judge::comparison::numbers::{compare_numbers, compare_range, near_edges};
 use judge::field::{field_text, read_number, write_number, COLUMNS, MAX_NUMBER, NO_NUMBER};
 use judge::memory::MAX_F;
 use judge::mistake::{Correct, Mistake};
@@ -49,7 +49,7 @@ const RANGES: [(u32, u32, &str); 8] = [
 
 #[test]
 fn the_edges_of_the_ranges() {
-    let near: Vec<u32> = near_edges().collect();
+    let near = near_edges();
     for (first, last, text) in RANGES {
         let mut bytes = [b'x'; 2 * COLUMNS];
         let (left, right) = bytes.split_at_mut(COLUMNS);
@@ -57,7 +57,7 @@ fn the_edges_of_the_ranges() {
         assert_eq!(bytes, text.as_bytes());
         assert!(near.contains(&first) && near.contains(&last) && near.contains(&(last + 1)), "{first} to {last}");
     }
-    assert_eq!(near.iter().find_map(|&number| text_difference(&Library(Correct), number)), None);
+    assert_eq!(compare_numbers(&Library(Correct), near.iter().copied()), Ok(near.len() as u64));
 }
 
 #[test]
@@ -65,9 +65,17 @@ fn every_mistake_in_the_digits_shows_near_an_edge() {
     let mistakes: Vec<_> = Mistake::ALL.iter().filter(|mistake| mistake.name().starts_with("digits-")).collect();
     assert!(!mistakes.is_empty());
     for &mistake in mistakes {
-        let told = near_edges().find_map(|number| text_difference(&Library(Some(mistake)), number));
-        assert!(told.is_some(), "{mistake:?}");
+        assert!(compare_numbers(&Library(Some(mistake)), near_edges()).is_err(), "{mistake:?}");
     }
+}
+
+#[test]
+fn cores_share_a_range() {
+    for end in [0, 1, 2, 10, 1003] {
+        assert_eq!(compare_range(&Library(Correct), 7..7 + end), Ok(u64::from(end)));
+    }
+    assert!(compare_range(&Library(Some(Mistake::DigitsTenOne)), 0..11).is_err());
+    assert_eq!(compare_range(&Library(Some(Mistake::DigitsTenOne)), 11..1000), Ok(989));
 }
 
 #[test]

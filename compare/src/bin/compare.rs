@@ -14,7 +14,7 @@
 use judge::comparison::checkers::{Checker, Library};
 use judge::comparison::mistakes::Most;
 use judge::comparison::nettings::netting_difference;
-use judge::comparison::numbers::{every_difference, near_edges, text_difference, EVERY};
+use judge::comparison::numbers::{compare_numbers, compare_range, near_edges, EVERY};
 use judge::comparison::programs::{first_difference, output, Arrival};
 use judge::comparison::samples::{call_difference, difference, panel_difference};
 use judge::comparison::shrink::{sample_text, shrink_sample, shrink_script};
@@ -74,13 +74,14 @@ fn work(options: &Options) -> Result<(), String> {
         return compare_nettings(checker(LIBRARY).as_ref(), seed, time);
     }
     if options.flag("numbers") {
-        return tell_numbers(EVERY, every_difference(checker(FORMATTING).as_ref()));
+        return tell_numbers(compare_range(checker(FORMATTING).as_ref(), EVERY));
     }
     if options.flag("number-edges") {
-        return compare_number_edges(checker(FORMATTING).as_ref());
+        return tell_numbers(compare_numbers(checker(FORMATTING).as_ref(), near_edges()));
     }
     let (Some(yard), Some(second)) = (options.text("yard"), options.text("second")) else {
-        return Err("give --yard PATH and --second PATH, or one of the flags that src/bin/compare.rs lists".to_string());
+        let flags = "--memories, --nettings, --numbers, --number-edges, --self, --mistakes or --coverage";
+        return Err(format!("give --yard PATH and --second PATH, or {flags}"));
     };
     if let Some(directory) = options.text("scenarios") {
         compare_scenarios(directory, &[yard, second])?;
@@ -95,7 +96,7 @@ fn compare_library(mistake: Option<&str>, seed: u64, time: Duration) -> Result<(
     let scripts = compare_scripts(&|text, _| Ok(run(rules, text)), &|text, _| Ok(run(Correct, text)), seed, time);
     let memories = compare_memories(&Library(rules), seed, time);
     let nettings = compare_nettings(&Library(rules), seed, time);
-    let numbers = compare_number_edges(&Library(rules));
+    let numbers = tell_numbers(compare_numbers(&Library(rules), near_edges()));
     scripts.and(memories).and(nettings).and(numbers)
 }
 
@@ -205,15 +206,8 @@ fn compare_nettings(checker: &dyn Checker, seed: u64, time: Duration) -> Result<
     })
 }
 
-fn compare_number_edges(checker: &dyn Checker) -> Result<(), String> {
-    let difference = near_edges().find_map(|number| text_difference(checker, number));
-    tell_numbers(near_edges().count() as u64, difference)
-}
-
-fn tell_numbers(count: u64, difference: Option<String>) -> Result<(), String> {
-    if let Some(told) = difference {
-        return Err(format!("numbers differ: {told}"));
-    }
+fn tell_numbers(compared: Result<u64, String>) -> Result<(), String> {
+    let count = compared.map_err(|told| format!("numbers differ: {told}"))?;
     println!("{count} numbers, no difference");
     Ok(())
 }

@@ -1,4 +1,4 @@
-//! What is compared on memories and nettings: the library by any rules, and (feature `firmware`) the proved firmware.
+//! What is compared on memories, nettings and numbers: the library by any rules, and (feature `firmware`) the proved firmware.
 
 use crate::call::Outcome;
 use crate::field::{read_number, write_number};

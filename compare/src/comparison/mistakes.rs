@@ -9,6 +9,7 @@ use crate::generate::netting::netting;
 use crate::generate::scripts::{script, Script};
 use crate::mistake::{Correct, Mistake};
 use crate::script::{run, ANSWER_BYTES};
+use std::collections::BTreeSet;
 
 /// Scripts with the output that the rules give.
 pub struct Scripts(Vec<(Script, Vec<u8>)>);
@@ -48,8 +49,8 @@ fn nettings_tell_apart(mistake: Mistake, seed: u64, most: u64) -> Option<u64> {
 }
 
 /// The first number whose text is wrong.
-fn numbers_tell_apart(mistake: Mistake) -> Option<u32> {
-    near_edges().find(|&number| text_difference(&Library(Some(mistake)), number).is_some())
+fn numbers_tell_apart(mistake: Mistake, numbers: &BTreeSet<u32>) -> Option<u32> {
+    numbers.iter().copied().find(|&number| text_difference(&Library(Some(mistake)), number).is_some())
 }
 
 /// Prints which mistakes are seen by what; true if none is missed.
@@ -57,7 +58,9 @@ pub fn tell(seed: u64, scripts: u64, most: Most) -> bool {
     let generated = Scripts::generate(seed, scripts);
     let Most { memories, nettings } = most;
     let lines = generated.lines();
-    println!("{scripts} scripts ({lines} lines), up to {memories} memories and {nettings} nettings, seed {seed}");
+    let numbers = near_edges();
+    println!("{scripts} scripts ({lines} lines), up to {memories} memories and {nettings} nettings, seed {seed};");
+    println!("{} numbers near the edges of their ranges", numbers.len());
     let mut groups: Vec<(String, Vec<&str>)> = Vec::new();
     for &mistake in Mistake::ALL {
         // Scripts and memories make calls, and no call looks at a movement.
@@ -65,7 +68,7 @@ pub fn tell(seed: u64, scripts: u64, most: Most) -> bool {
         let script = calls.then(|| generated.tell_apart(mistake)).flatten();
         let memory = calls.then(|| memories_tell_apart(mistake, seed, memories)).flatten();
         let netting = nettings_tell_apart(mistake, seed, nettings);
-        let number = numbers_tell_apart(mistake);
+        let number = numbers_tell_apart(mistake, &numbers);
         let other = if calls { "not seen" } else { "no call" };
         let by_script = script.map_or(other.to_string(), |(place, sort)| format!("script {place} ({sort})"));
         let by_memory = memory.map_or(other.to_string(), |count| format!("memory {count}"));

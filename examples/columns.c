@@ -1,5 +1,5 @@
-/* The column sheet in C: for each digit count the first and the last number that has it, as they stand in their eight columns. Its status
- * is 1 if one of them was not written, or the first number of nine digits was. */
+/* For each digit count the first and the last number that has it, as they stand in their eight columns, to hold against a column sheet. Its
+ * status is 1 if one of them was not written, or the first number of nine digits was. */
 #include "../include/yard.h"
 
 #include <stdio.h>
@@ -21,7 +21,7 @@ static void print_columns(uint32_t number, uint32_t expected) {
 int main(void) {
     uint32_t first = 0, next = 10;
     for (int digits = 1; digits <= COLUMNS; digits++) {
-        printf("%d  ", digits);
+        printf("digits %d: ", digits);
         print_columns(first, 0);
         printf(" to ");
         print_columns(next - 1, 0);
@@ -29,7 +29,7 @@ int main(void) {
         first = next;
         next *= 10;
     }
-    printf("%d  ", COLUMNS + 1);
+    printf("digits %d: ", COLUMNS + 1);
     print_columns(first, UNWRITABLE);
     printf(" for %u, which is not written\n", first);
     return wrong;

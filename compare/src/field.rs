@@ -33,6 +33,7 @@ pub fn read_number<R: Rules>(rules: R, bytes: &[u8]) -> u32 {
 }
 
 /// `ACCEPTED`, or `UNREADABLE` with the bytes untouched where the length is wrong or the number too large.
+#[inline]
 pub fn write_number<R: Rules>(rules: R, number: u32, bytes: &mut [u8]) -> u32 {
     if bytes.len() != COLUMNS || is_too_large(rules, number) {
         return UNREADABLE;

@@ -79,6 +79,11 @@ fn work(options: &Options) -> Result<(), String> {
     if options.flag("number-edges") {
         return tell_numbers(compare_numbers(checker(FORMATTING).as_ref(), near_edges()));
     }
+    compare_programs(options, seed, time)
+}
+
+/// Two programs on scenarios, where their directory is given, and on generated scripts.
+fn compare_programs(options: &Options, seed: u64, time: Duration) -> Result<(), String> {
     let (Some(yard), Some(second)) = (options.text("yard"), options.text("second")) else {
         let flags = "--memories, --nettings, --numbers, --number-edges, --self, --mistakes or --coverage";
         return Err(format!("give --yard PATH and --second PATH, or {flags}"));

@@ -71,8 +71,8 @@ fn every_mistake_in_the_digits_shows_near_an_edge() {
 
 #[test]
 fn cores_share_a_range() {
-    for end in [0, 1, 2, 10, 1003] {
-        assert_eq!(compare_range(&Library(Correct), 7..7 + end), Ok(u64::from(end)));
+    for length in [0, 1, 2, 10, 1003] {
+        assert_eq!(compare_range(&Library(Correct), 7..7 + length), Ok(u64::from(length)));
     }
     assert!(compare_range(&Library(Some(Mistake::DigitsTenOne)), 0..11).is_err());
     assert_eq!(compare_range(&Library(Some(Mistake::DigitsTenOne)), 11..1000), Ok(989));

@@ -55,7 +55,8 @@ pub fn accumulate(
         block: c.block,
         of_view: c.of_view,
         subject: 0,
-        boot: 0,
+        subject_boot: 0,
+        signer_boot: r.boot,
     };
     issue(table, log, replica, &[], &[], acc)
 }

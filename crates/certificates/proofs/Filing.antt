@@ -72,7 +72,7 @@ module _ (m : Memory) (ws : List ℕ) where
       absurd (omega arith))
       (λ can. (can, let q : Refused n ≡ Refused noRoom = (rw can at e) in cc))
 
--- ---- seven words, written one after the other
+-- ---- words, written one after the other
 
 pub written : (t l b ws : List ℕ)
     → memory (set t certificateCountAt (countIn t + 1)) (stored l (certificateAt (countIn t)) 0 ws) b

@@ -25,6 +25,7 @@ use constants::KIND_AT;
 use constants::OF_VIEW_AT;
 use constants::PROPOSED_BLOCK_AT;
 use constants::SIGNER_AT;
+use constants::SIGNER_BOOT_AT;
 use constants::SUBJECT_AT;
 use constants::SUBJECT_BOOT_AT;
 use constants::VIEW_AT;
@@ -38,7 +39,8 @@ pub struct Certificate {
     pub block: u32,
     pub of_view: u32,
     pub subject: u32,
-    pub boot: u32,
+    pub subject_boot: u32,
+    pub signer_boot: u32,
 }
 
 // Where a certificate is filed, or the refusal.
@@ -60,21 +62,19 @@ impl Filed {
     }
 }
 
-// Whether the certificate whose words start at an index equals this one. Few have its view, so that is tested first.
+// Whether the certificate whose words start at an index equals this one.
 fn is_equal(log: &[u32], start: usize, c: Certificate) -> bool
     requires { ⌜ start + certificateWords ≤ length (now log) ⌝ }
     ensures { λ r. ⌜ r ≡ equalFrom (now (log .entry)) start (words (certificateOf c)) ⌝ }
 {
-    let view = c.view;
-    if log[start + VIEW_AT] != view {
-        return false;
-    }
     (log[start + KIND_AT] == c.kind)
         & (log[start + SIGNER_AT] == c.signer)
+        & (log[start + VIEW_AT] == c.view)
         & (log[start + PROPOSED_BLOCK_AT] == c.block)
         & (log[start + OF_VIEW_AT] == c.of_view)
         & (log[start + SUBJECT_AT] == c.subject)
-        & (log[start + SUBJECT_BOOT_AT] == c.boot)
+        & (log[start + SUBJECT_BOOT_AT] == c.subject_boot)
+        & (log[start + SIGNER_BOOT_AT] == c.signer_boot)
 }
 
 // Whether a certificate of the log is of another view.
@@ -134,7 +134,8 @@ fn append(table: &mut [u32], log: &mut [u32], c: Certificate)
     log[start + PROPOSED_BLOCK_AT] = c.block;
     log[start + OF_VIEW_AT] = c.of_view;
     log[start + SUBJECT_AT] = c.subject;
-    log[start + SUBJECT_BOOT_AT] = c.boot;
+    log[start + SUBJECT_BOOT_AT] = c.subject_boot;
+    log[start + SIGNER_BOOT_AT] = c.signer_boot;
     table[CERTIFICATE_COUNT_AT] = count + 1;
 }
 

@@ -90,7 +90,7 @@ module _ (m : Memory) (i b : ℕ) (j : Justification) (list : List ℕ) where
   lastNeeds = proposalNeeds (faultBound m) i (replica m i) b (parent m b) (given .view) (given .block)
 
   abbrev afterJudging : List Need
-  afterJudging = lastNeeds ++ slot m (propOf i (given .view) b)
+  afterJudging = lastNeeds ++ slot m (propOf i (replica m i .boot) (given .view) b)
 
   abbrev afterFirst : List Need
   afterFirst = judgementNeeds i j (certificatesOf m (numbersOf j list)) ++ afterJudging

@@ -53,10 +53,18 @@ use records::Replica;
 
 mod justification;
 
-// A PROP or a COMMIT: they name no earlier view, no subject and no boot.
-fn of_kind(kind: u32, signer: u32, view: u32, block: u32) -> Certificate
-    ensures { λ c. ⌜ c
-        ≡ record { kind = kind; signer = signer; view = view; block = block; «of_view» = 0; subject = 0; boot = 0 } ⌝ }
+// A PROP or a COMMIT, signed at a boot of its signer: they name no earlier view and no subject.
+fn of_kind(kind: u32, signer: u32, boot: u32, view: u32, block: u32) -> Certificate
+    ensures { λ c. ⌜ c ≡ record {
+      kind = kind;
+      signer = signer;
+      view = view;
+      block = block;
+      «of_view» = 0;
+      subject = 0;
+      «subject_boot» = 0;
+      «signer_boot» = boot;
+    } ⌝ }
 {
     Certificate {
         kind,
@@ -65,7 +73,8 @@ fn of_kind(kind: u32, signer: u32, view: u32, block: u32) -> Certificate
         block,
         of_view: 0,
         subject: 0,
-        boot: 0,
+        subject_boot: 0,
+        signer_boot: boot,
     }
 }
 
@@ -127,7 +136,7 @@ pub fn prepare(
     };
     let offsets = [FLAG_AT];
     let values = [RAISED];
-    let c = of_kind(PROP, replica, justified.view, block);
+    let c = of_kind(PROP, replica, r.boot, justified.view, block);
     issue(table, log, replica, &offsets, &values, c)
 }
 
@@ -174,7 +183,7 @@ pub fn store(
     };
     let offsets = [STORED_VIEW_AT, STORED_BLOCK_AT, MIN_VIEW_AT, FLAG_AT];
     let values = [p.view, p.block, p.view + 1, LOWERED];
-    let c = of_kind(COMMIT, replica, p.view, p.block);
+    let c = of_kind(COMMIT, replica, r.boot, p.view, p.block);
     issue(table, log, replica, &offsets, &values, c)
 }
 
@@ -226,7 +235,8 @@ pub fn view(
         block: r.stored_block,
         of_view: r.stored_view,
         subject: 0,
-        boot: 0,
+        subject_boot: 0,
+        signer_boot: r.boot,
     };
     issue(table, log, replica, &offsets, &values, c)
 }

@@ -19,6 +19,8 @@ use Rattle.protocol.proofs.Leaders.{only-leaders-propose, view-zero-has-no-lead
 use Rattle.protocol.proofs.Repeats.{found-is-first-equal, second-value-tells-repeat, repeat-changes-nothing, proposals-never-repeat}
 use Rattle.protocol.proofs.Repeats.{commits-never-repeat}
 use Rattle.protocol.proofs.MadeAgain.{repeat-at-once}
+use Rattle.protocol.proofs.Untested.{boots-untested}
+use Rattle.protocol.proofs.Cuts.{issued-with-its-boot, seven-words-decide, only-accs-and-replies-again, cuts-tell-apart}
 use Rattle.netting.proofs.Theorems.{netting-changes-nothing, refused-netting-is-zero, netting-lowest-wins, netting-past-counts-unread}
 use Rattle.netting.proofs.Theorems.{balances-add-up, balances-bounded, longer-counts-more, equally-long-is-one, chain-length-is-height}
 use Rattle.netting.proofs.Theorems.{counts-match-history, longer-nets-more, netting-matches-history, decided-can-be-netted}
@@ -76,6 +78,11 @@ proved =
       repeatChangesNothing = repeat-changes-nothing;
       proposalsNeverRepeat = proposals-never-repeat;
       commitsNeverRepeat = commits-never-repeat;
+      issuedWithItsBoot = issued-with-its-boot;
+      sevenWordsDecide = seven-words-decide;
+      bootsUntested = boots-untested;
+      onlyAccsAndRepliesAgain = only-accs-and-replies-again;
+      cutsTellApart = cuts-tell-apart;
       nettingChangesNothing = netting-changes-nothing;
       refusedNettingIsZero = refused-netting-is-zero;
       nettingLowestWins = netting-lowest-wins;

@@ -14,6 +14,7 @@ use Rattle.protocol.specs.Repeats.{FoundIsFirstEqual, SecondValueTellsRepeat, R
 use Rattle.protocol.specs.Repeats.{ProposalsNeverRepeat, CommitsNeverRepeat}
 use Rattle.protocol.specs.Steps.{OpeningReadsNothing, WithoutStepsIsDefault, FirstLimitIsFirstStep, CountersMoveBySteps}
 use Rattle.protocol.specs.Heights.{HeightsKept, HeightsMatchHistory, HeightsStay}
+use Rattle.protocol.specs.Cuts.{IssuedWithItsBoot, SevenWordsDecide, BootsUntested, OnlyAccsAndRepliesAgain, CutsTellApart}
 use Rattle.netting.specs.Theorems.{NettingChangesNothing, RefusedNettingIsZero, NettingLowestWins, NettingPastCountsUnread}
 use Rattle.netting.specs.Theorems.{BalancesAddUp, BalancesBounded, LongerCountsMore, EquallyLongIsOne, ChainLengthIsHeight}
 use Rattle.netting.specs.Theorems.{CountsMatchHistory, LongerNetsMore, NettingMatchesHistory, DecidedCanBeNetted}
@@ -125,6 +126,17 @@ pub record Claims : Type 0 where
   pub proposalsNeverRepeat : ProposalsNeverRepeat
   -- nor does any Store
   pub commitsNeverRepeat : CommitsNeverRepeat
+  -- ---- Cuts (document 02, #107).
+  -- what an accepted call issues or finds is signed by its replica and has that replica's boot as its eighth word
+  pub issuedWithItsBoot : IssuedWithItsBoot
+  -- where that tells no two certificates apart, a call gives and leaves what the first seven words alone give
+  pub sevenWordsDecide : SevenWordsDecide
+  -- a refusal other than 9 does not go by the boots of signers
+  pub bootsUntested : BootsUntested
+  -- after an opening, what a Prepare, Store, View or Request issues was never issued at another boot
+  pub onlyAccsAndRepliesAgain : OnlyAccsAndRepliesAgain
+  -- what a replica issues after a cut has a number that was not issued at the cut
+  pub cutsTellApart : CutsTellApart
   -- ---- Netting (document 02, #101).
   -- a netting changes no word
   pub nettingChangesNothing : NettingChangesNothing

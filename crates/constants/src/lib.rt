@@ -37,6 +37,7 @@ ghost use Rattle.protocol.specs.Memory.{
   ofViewAt,
   subjectAt,
   subjectBootAt,
+  signerBootAt,
   maxCertificates,
   blockWords,
   parentAt,
@@ -116,7 +117,7 @@ pub const LOWERED: u32 = 0;
 pub const RAISED: u32 = 1;
 
 // The certificate log.
-pub const CERTIFICATE_WORDS: usize = 7;
+pub const CERTIFICATE_WORDS: usize = 8;
 
 pub const KIND_AT: usize = 0;
 
@@ -131,6 +132,8 @@ pub const OF_VIEW_AT: usize = 4;
 pub const SUBJECT_AT: usize = 5;
 
 pub const SUBJECT_BOOT_AT: usize = 6;
+
+pub const SIGNER_BOOT_AT: usize = 7;
 
 pub const MAX_CERTIFICATES: u32 = 4096;
 
@@ -250,7 +253,8 @@ pub fn statuses_and_flags() -> [u32; 5]
 }
 
 pub fn certificate_offsets() -> [usize; CERTIFICATE_WORDS]
-    ensures { λ r. ⌜ r ≡ kindAt ∷ signerAt ∷ viewAt ∷ proposedBlockAt ∷ ofViewAt ∷ subjectAt ∷ subjectBootAt ∷ [] ⌝ }
+    ensures { λ r. ⌜ r
+        ≡ kindAt ∷ signerAt ∷ viewAt ∷ proposedBlockAt ∷ ofViewAt ∷ subjectAt ∷ subjectBootAt ∷ signerBootAt ∷ [] ⌝ }
 {
     [
         KIND_AT,
@@ -260,6 +264,7 @@ pub fn certificate_offsets() -> [usize; CERTIFICATE_WORDS]
         OF_VIEW_AT,
         SUBJECT_AT,
         SUBJECT_BOOT_AT,
+        SIGNER_BOOT_AT,
     ]
 }
 

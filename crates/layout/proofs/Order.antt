@@ -1,17 +1,10 @@
--- The tests of a record in the order of its words, as the code makes them, and in the order of document 01.
+-- The tests of a replica in the order of its words, as the code makes them, and in the order of document 01.
 use mathlib.Core.Path.{_≡_, _∙_}
 use mathlib.Core.Bool.{Bool}
 use mathlib.Core.List.{[], _∷_}
 use borrow.Author.Needs.{needs}
 use Rattle.protocol.specs.Form.{allHold}
 use Rattle.protocol.proofs.Joined.{joined, joined-all, reordered}
-
-pub certificate-order : (kindLow kindHigh signer view block ofView subject boot : Bool)
-    → joined kindLow (kindHigh ∷ signer ∷ view ∷ block ∷ ofView ∷ subject ∷ boot ∷ [])
-    ≡ allHold (kindLow ∷ kindHigh ∷ signer ∷ subject ∷ view ∷ ofView ∷ boot ∷ block ∷ [])
-certificate-order kindLow kindHigh signer view block ofView subject boot =
-    joined-all kindLow (kindHigh ∷ signer ∷ view ∷ block ∷ ofView ∷ subject ∷ boot ∷ [])
-    ∙ reordered _ _ (λ h. search needs) (λ h. search needs)
 
 pub replica-order : (status boot minView viewMin viewLimit flag storedView storedBlock decidedView decidedBlock : Bool)
     → joined status (boot ∷ minView ∷ viewMin ∷ viewLimit ∷ flag ∷ storedView ∷ storedBlock ∷ decidedView ∷ decidedBlock ∷ [])

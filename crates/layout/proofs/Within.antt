@@ -32,7 +32,8 @@ pub record CertificateBounds (m : Memory) (c : ℕ) : Type 0 where
   pub block : certificate m c .block < blockCount m
   pub ofView : certificate m c .ofView ≤ ceiling
   pub subject : certificate m c .subject < replicaCount (faultBound m)
-  pub boot : certificate m c .boot ≤ ceiling
+  pub subjectBoot : certificate m c .subjectBoot ≤ ceiling
+  pub signerBoot : certificate m c .signerBoot ≤ ceiling
 
 module _ (m : Memory) (w : Formed m) where
   pub replica-bounds : (i : ℕ) → i < replicaCount (faultBound m) → ReplicaBounds m i

@@ -16,8 +16,7 @@ ghost use Rattle.protocol.specs.Memory.{
 };
 ghost use Rattle.protocol.specs.Form.{allBelow, isFaultBound, lengthsFit, countsFit, wellFormed};
 ghost use Rattle.protocol.proofs.Formed.{Sizes};
-ghost use Rattle.protocol.specs.inner.Groups.{fourOk};
-ghost use Rattle.layout.specs.inner.Parts.{replicaOk, certificateOk, wordsOk};
+ghost use Rattle.layout.specs.inner.Parts.{replicaOk, wordsOk};
 
 // f is 1 to 30.
 pub fn is_fault_bound(f: u32) -> bool
@@ -83,57 +82,6 @@ fn replicas_formed(table: &[u32], replicas: u32, added: u32) -> bool
     formed
 }
 
-// The tests of a certificate, in the order of its words.
-fn certificate_formed(log: &[u32], number: usize, replicas: u32, added: u32) -> bool
-    requires { ⌜ certificateAt number + certificateWords ≤ length (now log) ⌝ }
-    ensures { λ r. ⌜ r ≡ certificateOk (now (log .entry)) replicas added number ⌝ }
-{
-    let at = CERTIFICATE_WORDS * number;
-    let kind = log[at + KIND_AT];
-    (1 <= kind)
-        & (kind <= LAST_KIND)
-        & (log[at + SIGNER_AT] < replicas)
-        & (log[at + VIEW_AT] <= CEILING)
-        & (log[at + PROPOSED_BLOCK_AT] < added)
-        & (log[at + OF_VIEW_AT] <= CEILING)
-        & (log[at + SUBJECT_AT] < replicas)
-        & (log[at + SUBJECT_BOOT_AT] <= CEILING)
-}
-
-// Four certificates, one after the other. It has one caller, and tests joined by `&` alone, so the compiler inlines it and uses vector
-// instructions.
-fn four_formed(log: &[u32], number: usize, replicas: u32, added: u32) -> bool
-    requires { ⌜ certificateAt (number + 4) ≤ length (now log) ⌝ }
-    ensures { λ r. ⌜ r ≡ fourOk (certificateOk (now (log .entry)) replicas added) number ⌝ }
-{
-    certificate_formed(log, number, replicas, added)
-        & certificate_formed(log, number + 1, replicas, added)
-        & certificate_formed(log, number + 2, replicas, added)
-        & certificate_formed(log, number + 3, replicas, added)
-}
-
-// Every issued certificate, up to the first group of four with one that fails.
-fn certificates_formed(log: &[u32], count: u32, replicas: u32, added: u32) -> bool
-    requires { ⌜ certificateAt count ≤ length (now log) ⌝ }
-    ensures { λ r. ⌜ r ≡ allBelow count (certificateOk (now (log .entry)) replicas added) ⌝ }
-{
-    let end = count as usize;
-    let mut number: usize = 0;
-    while number + 4 <= end {
-        if !four_formed(log, number, replicas, added) {
-            return false;
-        }
-        number += 4;
-    }
-    while number < end {
-        if !certificate_formed(log, number, replicas, added) {
-            return false;
-        }
-        number += 1;
-    }
-    true
-}
-
 // The number of replicas by the table's length. From a limit 2f+1 the compiler makes a test against 2f, of another form than the
 // other words' tests, and then uses vectors for fewer of them.
 fn row_count(table: &[u32]) -> u32
@@ -153,7 +101,7 @@ fn words_formed(table: &[u32], log: &[u32], blocks: &[u32]) -> bool
     counter::steps_formed(table, STEPS_AT)
         & blocks::blocks_formed(blocks, added)
         & replicas_formed(table, replicas, added)
-        & certificates_formed(log, table[CERTIFICATE_COUNT_AT], replicas, added)
+        & log::certificates_formed(log, table[CERTIFICATE_COUNT_AT], replicas, added)
 }
 
 // The form, whole.

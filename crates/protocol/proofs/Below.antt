@@ -1,12 +1,13 @@
 -- Tests below a count, as a loop goes over them.
-use Prim.Native.Nat.{ℕ, _+_, _≤_, _<_}
+use Prim.Native.Nat.{ℕ, _+_, _-_, _≤_, _<_}
 use mathlib.Core.Path.{_≡_, refl, sym, subst, _∙_}
 use mathlib.Core.Bool.{Bool, true, false, _&&_}
 use mathlib.Core.List.{[], _∷_}
 use native.Mathlib.Numerals.{add-one}
 use native.Mathlib.Omega.{arith}
+use lib.Dec.{ltb}
 use Rattle.protocol.specs.Form.{allHold, allBelow}
-use Rattle.protocol.proofs.Booleans.{by-test, and-true, true-and, all-hold, at-below}
+use Rattle.protocol.proofs.Booleans.{tests, by-test, and-true, true-and, all-hold, at-below, all-below}
 use Rattle.protocol.specs.inner.Groups.{twoOk, fourOk}
 
 twos : (a b c d : Bool) → (a && b) && (c && d) ≡ allHold (a ∷ b ∷ c ∷ d ∷ [])
@@ -49,6 +50,14 @@ module _ (test : ℕ → Bool) where
 
   pub next-four : (k : ℕ) → allBelow k test ≡ true → fourOk test k ≡ true → allBelow (k + 4) test ≡ true
   next-four = four-steps (λ k. allBelow k test ≡ true) next
+
+  -- A group of tests more, of any size.
+  pub next-group : (size k : ℕ) → allBelow k test ≡ true → ((j : ℕ) → j < size → test (k + j) ≡ true) → allBelow (k + size) test ≡ true
+  next-group size k all group =
+      all-below (k + size) test
+      (λ i l.
+      by-test (ltb i k) (λ e. at-below k test all i (omega tests))
+      (λ e. let q : k + (i - k) ≡ i = omega tests in subst (λ (n : ℕ). test n ≡ true) q (group (i - k) (omega tests))))
 
   -- The loop has reached the count.
   pub at-end : {i k : ℕ} {b : Bool} → i ≤ k → k ≤ i → b ≡ allBelow i test → b ≡ allBelow k test

@@ -1,9 +1,10 @@
 -- The table of cases, by computation: a lemma for each row, and one for the broken tables, so that the check names what is wrong.
 use mathlib.Core.Path.{_≡_, refl}
 use mathlib.Core.Bool.{true}
-use mathlib.Core.List.{map}
+use mathlib.Core.List.{map, _++_}
 use Rattle.protocol.specs.Form.{allHold}
-use Rattle.protocol.specs.LeaderCases.{holding, leaderCases, turnGoesRound, viewZeroAtStore, viewZeroAtPrepare, commitsOfViewZero}
+use Rattle.protocol.specs.Rows.{holding}
+use Rattle.protocol.specs.LeaderCases.{leaderCases, turnGoesRound, viewZeroAtStore, viewZeroAtPrepare, commitsOfViewZero}
 use Rattle.protocol.specs.LeaderCases.{turnOfFive, lastViews}
 use Rattle.protocol.specs.RepeatCases.{repeatCases, viewsRepeated, accsAndBlocksRepeated, requestsAndRepliesRepeated, nothingStored}
 use Rattle.protocol.specs.RepeatCases.{proposalRepeated, proposalOnCommitsRepeated, commitRepeated, foundInAFullLogRaises}
@@ -16,8 +17,10 @@ use Rattle.protocol.specs.Cases.{cases, CasesHold, workedScript, recover
 use Rattle.protocol.specs.Cases.{faultsAboveTheMost, faultsBeforeLengths, oneFault, thirtyFaults, freshView63, freshView64}
 use Rattle.protocol.specs.Cases.{oneCommitTwice, commitsJustify, blockZeroProposed, secondProposalInAView, fullLog, counterEnds}
 use Rattle.protocol.specs.HeightCases.{heightCases}
+use Rattle.protocol.specs.CutCases.{cutCases}
 use Rattle.protocol.proofs.Rows.{holds, row, AnswersAre, rows, both}
 use Rattle.protocol.proofs.HeightCases.{height-cases}
+use Rattle.protocol.proofs.CutCases.{cut-cases}
 
 worked-script : holds workedScript ≡ true
 unfolding holds workedScript
@@ -269,5 +272,5 @@ cases-hold =
       row stepsBetweenFaultsAndLengths steps-between-faults-and-lengths,
       row refusedOpeningLeavesSteps refused-opening-leaves-steps,
       row openedAgainWithoutSteps opened-again-without-steps,
-      both tableCases heightCases table-cases height-cases,
+      both tableCases (heightCases ++ cutCases) table-cases (both heightCases cutCases height-cases cut-cases),
     ) refl

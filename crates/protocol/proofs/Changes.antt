@@ -11,7 +11,7 @@ use Rattle.protocol.specs.Memory.{Memory, Replica, Certificate, Assignme
 use Rattle.protocol.specs.Memory.{certificateCount, blockCount, rowStart, rowAt, replicaWords, replicaWord, replica, statusAt}
 use Rattle.protocol.specs.Memory.{bootAt, minViewAt, viewLimitAt, flagAt, storedViewAt, storedBlockAt, decidedViewAt}
 use Rattle.protocol.specs.Memory.{decidedBlockAt, certificateWords, certificateAt, certificateWord, certificate, kindAt}
-use Rattle.protocol.specs.Memory.{signerAt, viewAt, proposedBlockAt, ofViewAt, subjectAt, subjectBootAt, blockWords, blockAt}
+use Rattle.protocol.specs.Memory.{signerAt, viewAt, proposedBlockAt, ofViewAt, subjectAt, subjectBootAt, signerBootAt, blockWords, blockAt}
 use Rattle.protocol.specs.Memory.{parentAt, parent, update, appendCertificate, appendBlock}
 use Rattle.protocol.specs.Theorems.{SameLengths}
 use Rattle.protocol.proofs.Words.{assigned, withinRow, avoids-row, length-assign, assign-elsewhere, assign-at}
@@ -41,7 +41,8 @@ certificateBy word =
       block = word proposedBlockAt (omega arith);
       ofView = word ofViewAt (omega arith);
       subject = word subjectAt (omega arith);
-      boot = word subjectBootAt (omega arith);
+      subjectBoot = word subjectBootAt (omega arith);
+      signerBoot = word signerBootAt (omega arith);
     }
 
 -- They are as before where their words are.

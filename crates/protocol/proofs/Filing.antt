@@ -43,7 +43,7 @@ first-passes (suc k) test =
     by-cond (λ (x : ℕ). x < suc k → test x ≡ true) (ltb (firstBelow k test) k) (λ e l. first-passes k test (omega tests))
     (λ e. by-cond (λ (x : ℕ). x < suc k → test x ≡ true) (test k) (λ e l. e) (λ e l. absurd (omega arith)))
 
-first-least : (k : ℕ) (test : ℕ → Bool) (i : ℕ) → i < firstBelow k test → test i ≡ false
+pub first-least : (k : ℕ) (test : ℕ → Bool) (i : ℕ) → i < firstBelow k test → test i ≡ false
 unfolding firstBelow
 first-least zero test i = λ l. absurd (omega arith)
 first-least (suc k) test i =

@@ -2,13 +2,14 @@
 use Prim.Native.Nat.{ℕ, _+_, _≤_}
 use mathlib.Core.Path.{_≡_, refl}
 use mathlib.Core.Bool.{Bool, true, false, _||_}
+use mathlib.Core.Logic.{_≢_}
 use mathlib.Core.List.{List}
 use lib.Dec.{ltb, leb, eqb}
 use Rattle.protocol.specs.declared.Call.{Call}
 use Rattle.protocol.specs.declared.Call.the-variants.{Open, Block, Prepare, Store, View, Accumulate, Decide, Reboot}
 use Rattle.protocol.specs.declared.Call.the-variants.{Reserve, Request, Reply, Recover}
 use Rattle.protocol.specs.declared.Justification.{Justification}
-use Rattle.protocol.specs.Memory.{Memory, Certificate, replicaCount, ceiling, faultBound, blockCount, retired, raised}
+use Rattle.protocol.specs.Memory.{Memory, Replica, Certificate, replicaCount, ceiling, faultBound, blockCount, retired, raised}
 use Rattle.protocol.specs.Memory.{replica, certificate, update}
 use Rattle.protocol.specs.Form.{replicaFormed, certificateFormed}
 use Rattle.protocol.specs.Counter.{counterStep}
@@ -97,9 +98,14 @@ decide-leaves m i list h =
 abbrev pub reboot-retires : Memory → ℕ → Bool
 reboot-retires m i = let r = replica m i in retires r (r .boot + 1) (limitAfter m r (r .boot + 1))
 
-pub in-range : (m : Memory) (i : ℕ) → reboot-retires m i ≡ false
-    → (replica m i .boot + 1 ≤ ceiling) × (replica m i .viewLimit + counterStep m (replica m i .boot + 1) ≤ ceiling)
-in-range m i e =
+-- A replica that a Reboot does not retire: it was not retired before, and boot and limit are in range.
+pub record StaysActive (m : Memory) (r : Replica) : Type 0 where
+  pub active : r .status ≢ retired
+  pub boot : r .boot + 1 ≤ ceiling
+  pub limit : r .viewLimit + counterStep m (r .boot + 1) ≤ ceiling
+
+pub stays-active : (m : Memory) (i : ℕ) → reboot-retires m i ≡ false → StaysActive m (replica m i)
+stays-active m i e =
     let a = or-false (eqb (replica m i .status) retired || ltb ceiling (replica m i .boot + 1)) _ e in
     let b = or-false (eqb (replica m i .status) retired) _ (a .0) in
     omega tests
@@ -112,7 +118,7 @@ reboot-leaves m i h =
     by-cond (λ cs. Formed (update m i cs)) (reboot-retires m i)
     (λ e. update-keeps m i _ z (h .1 .0) (record { within = refl; row = all-hold _ (omega tests) }))
     (λ e.
-    let fits = in-range m i e in
+    let fits = stays-active m i e in
     update-keeps m i _ z (h .1 .0) (record { within = refl; row = all-hold _ (omega tests) }))
 
 pub reserve-leaves : (m : Memory) (i : ℕ) → Holds (reserve m i .needs) → Formed (reserve m i .after)

@@ -31,9 +31,13 @@ pub mod Reached
 pub mod Agreement
 pub mod Repeats
 pub mod MadeAgain
+pub mod Ages
+pub mod Untested
+pub mod Cuts
 pub mod Steps
 pub mod Heights
 pub mod Leaders
 pub mod Rows
 pub mod HeightCases
+pub mod CutCases
 pub mod Cases

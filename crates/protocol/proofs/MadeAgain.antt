@@ -36,7 +36,7 @@ use Rattle.protocol.proofs.Repeats.{given, accepted-gives, issuing-tell
 -- ---- a certificate that was just filed
 
 module _ (m m′ : Memory) (c : Certificate) (files : Files m m′ c) (stands : numberFor m (words c) < certificateCount m′) where
-  there : certificate m′ (numberFor m (words c)) ≡ c
+  pub there : certificate m′ (numberFor m (words c)) ≡ c
   there =
       by-test (isFiled m (words c))
       (λ e. files .old (numberFor m (words c)) (filed-below m (words c) e) ∙ filed-equal m c e)
@@ -66,7 +66,7 @@ record Again (m′ : Memory) (rule rule′ : Rule) : Type 0 where
 
 module _ (m : Memory) (ns : List Need) (i : ℕ) (cs : List Assignment) (c : Certificate) (hold : Holds (issuing m ns i cs c .needs))
     (z : Formed m) (own : isReplica m i ≡ true) (within : withinRow cs ≡ true) where
-  stands : numberFor m (words c) < certificateCount (issuing m ns i cs c .after)
+  pub stands : numberFor m (words c) < certificateCount (issuing m ns i cs c .after)
   unfolding issuing
   stands =
       let grows = issuing-acts m ns i cs c hold z own within .files .grows in
@@ -108,7 +108,7 @@ view-again m i w hold =
     let reached = ap (λ (r : Replica). r .minView) (acts .own) in
     issuing-again m _ i _ _ hold z (h .1 .0) refl _ _ _
     (form m′ (view-leaves m i w hold), (omega tests, (omega tests, (omega tests, (omega tests, (omega tests, (omega tests, tt)))))))
-    (ap (λ (r : Replica). newViewOf i w (r .storedBlock) (r .storedView)) (acts .own))
+    (ap (λ (r : Replica). newViewOf i (r .boot) w (r .storedBlock) (r .storedView)) (acts .own))
     (enters-again m′ i w (sym reached))
 
 accumulate-again : (m : Memory) (i : ℕ) (list : List ℕ) → Holds (accumulate m i list .needs)
@@ -127,7 +127,7 @@ accumulate-again m i list hold =
     let form′ = form m′ (accumulate-leaves m i list hold) in
     issuing-again m _ i _ _ hold z (h .1 .0) refl _ _ _
     (form′, (omega tests, (omega tests, (still, (omega tests, (rw named (h .1 .1 .1 .1 .1 .0), tt))))))
-    (ap (λ (cs : List Certificate). accOf i (firstOf cs .view) (greatest cs .block) (greatest cs .ofView)) named)
+    (λ d. accOf i (acts .own d .boot) (firstOf (named d) .view) (greatest (named d) .block) (greatest (named d) .ofView))
     refl
 
 request-again : (m : Memory) (i : ℕ) → Holds (request m i .needs)
@@ -142,11 +142,12 @@ request-again m i hold =
     let status = ap (λ (r : Replica). r .status) (acts .own) in
     issuing-again m _ i _ _ hold z (h .1 .0) refl _ _ _
     (form m′ (request-leaves m i hold), (omega tests, (omega tests, tt)))
-    (ap (λ (r : Replica). reqOf i (r .minView) (r .boot)) (acts .own)) refl
+    (ap (λ (r : Replica). reqOf i (r .boot) (r .minView)) (acts .own)) refl
 
 -- What a Reply leaves of its replica: a lowest view that is not below v.
 record Replied (r r′ : Replica) (v : ℕ) : Type 0 where
   status : r′ .status ≡ r .status
+  boot : r′ .boot ≡ r .boot
   limit : r′ .viewLimit ≡ r .viewLimit
   storedView : r′ .storedView ≡ r .storedView
   storedBlock : r′ .storedBlock ≡ r .storedBlock
@@ -172,12 +173,12 @@ reply-again m i number hold =
     let left : Replied r (replica m′ i) (q .view) =
     subst (λ (x : Replica). Replied r x (q .view)) (sym (acts .own))
     (by-cond (λ cs. Replied r (changed cs r) (q .view)) (ltb (r .minView) (q .view))
-    (λ e. record { status = refl; limit = refl; storedView = refl; storedBlock = refl; minView = omega arith })
-    (λ e. record { status = refl; limit = refl; storedView = refl; storedBlock = refl; minView = omega tests })) in
+    (λ e. record { status = refl; boot = refl; limit = refl; storedView = refl; storedBlock = refl; minView = omega arith })
+    (λ e. record { status = refl; boot = refl; limit = refl; storedView = refl; storedBlock = refl; minView = omega tests })) in
     let form′ = form m′ (reply-leaves m i number hold) in
     issuing-again m _ i _ _ hold z (h .1 .0) within _ _ _
     (form′, (omega tests, (omega tests, (omega tests, (omega tests, (rw signer (h .1 .1 .1 .1 .1 .0), (omega tests, tt)))))))
-    (λ d. replyOf i (old d .view) (left .storedBlock d) (left .storedView d) (old d .signer) (old d .boot))
+    (λ d. replyOf i (left .boot d) (old d .view) (left .storedBlock d) (left .storedView d) (old d .signer) (old d .subjectBoot))
     (replies-again m′ i (certificate m′ number .view) (omega (arith, left .minView, view)))
 
 -- ---- the calls that are refused

@@ -64,6 +64,12 @@ first-pass [] ms e = refl
 first-pass ((true else n) ∷ ns) ms e = first-pass ns ms e
 first-pass ((false else n) ∷ ns) ms e = e
 
+pub both-pass : (ns ms : List Need) → firstRefusal ns ≡ 0 → firstRefusal ms ≡ 0 → firstRefusal (ns ++ ms) ≡ 0
+unfolding firstRefusal
+both-pass [] ms e h = h
+both-pass ((true else n) ∷ ns) ms e h = both-pass ns ms e h
+both-pass ((false else n) ∷ ns) ms e h = e
+
 -- A need that fails, and one that holds, at the head of a list.
 pub fails : {t : Bool} {n : ℕ} (rest : List Need) → t ≡ false → firstRefusal ((t else n) ∷ rest) ≡ n
 unfolding firstRefusal

@@ -54,7 +54,7 @@ accepted-gives P m call list gives accepted =
     subst P (accepts m (ruleOf m call list) (sym e)) (gives (needs-hold m call list e))
 
 -- Whatever holds of the six holds of every issuing call.
-by-issuing : (P : Call → Type 0) → ((i b : ℕ) (j : Justification) → P (Prepare i b j)) → ((i number : ℕ) → P (Store i number))
+pub by-issuing : (P : Call → Type 0) → ((i b : ℕ) (j : Justification) → P (Prepare i b j)) → ((i number : ℕ) → P (Store i number))
     → ((i w : ℕ) → P (View i w)) → ((i : ℕ) → P (Accumulate i)) → ((i : ℕ) → P (Request i)) → ((i number : ℕ) → P (Reply i number))
     → (call : Call) → isIssuing call ≡ true → P call
 by-issuing P prepares stores views accumulates requests replies = go

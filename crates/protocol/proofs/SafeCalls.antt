@@ -94,7 +94,16 @@ record Raises (r : Replica) (w : ℕ) (cs : List Assignment) : Type 0 where
 -- What a replica stored, as a certificate of view w.
 abbrev reportOf : ℕ → ℕ → ℕ → Replica → ℕ → ℕ → Certificate
 reportOf kind i w r subject boot =
-    record { kind = kind; signer = i; view = w; block = r .storedBlock; ofView = r .storedView; subject = subject; boot = boot }
+    record {
+      kind = kind;
+      signer = i;
+      view = w;
+      block = r .storedBlock;
+      ofView = r .storedView;
+      subject = subject;
+      subjectBoot = boot;
+      signerBoot = r .boot;
+    }
 
 -- A live replica issues one, and has left the views below w.
 reports : (m : Memory) (needs : List Need) (i kind w subject boot : ℕ) (cs : List Assignment) → Raises (replica m i) w cs

@@ -21,7 +21,7 @@ use Rattle.protocol.proofs.Rules.{needs-hold}
 use Rattle.protocol.proofs.Formed.{formed}
 use Rattle.protocol.proofs.Filing.{number-below}
 use Rattle.protocol.proofs.Lists.{all-named, first-named}
-use Rattle.protocol.proofs.LeavesForm.{reboot-retires, in-range}
+use Rattle.protocol.proofs.LeavesForm.{reboot-retires, stays-active}
 
 -- ---- numbers
 
@@ -83,7 +83,7 @@ rule-fits m (Reboot i) list = (
   refl,
   λ h.
       let r = each _ (formed m (h .0) .rows i (omega tests)) in
-      by-test (reboot-retires m i) (λ e. rw e (omega tests)) (λ e. let fits = in-range m i e in rw e (omega tests)),
+      by-test (reboot-retires m i) (λ e. rw e (omega tests)) (λ e. let fits = stays-active m i e in rw e (omega tests)),
 )
 rule-fits m (Reserve i) list = (refl, λ h. omega tests)
 rule-fits m (Request i) list = (refl, λ h. issued-small m _ (h .0))

@@ -154,7 +154,7 @@ prepare m i b justification list =
     ∷ hasStatus live r else wrongStatus
     ∷ isJustified i justification cs else wrongCertificate
     ∷ proposalNeeds (faultBound m) i r b (parent m b) w (justifiedBlock justification cs))))
-    i (flagAt becomes raised ∷ []) (propOf i w b)
+    i (flagAt becomes raised ∷ []) (propOf i (r .boot) w b)
 
 -- "live; the signer leads its view v; v ≥ low, v < bound": of f, the replica and the PROP.
 abbrev pub storeNeeds : ℕ → Replica → Certificate → List Need
@@ -178,7 +178,7 @@ store m i number =
     ∷ minViewAt becomes (p .view + 1)
     ∷ flagAt becomes lowered
     ∷ [])
-    (commitOf i (p .view) (p .block))
+    (commitOf i (r .boot) (p .view) (p .block))
 
 -- "w > low"
 abbrev pub isAhead : Replica → ℕ → Bool
@@ -201,7 +201,7 @@ view m i w =
     let r = replica m i in
     issuing m (replicaNeeds m i ++ viewNeeds r w) i
     (flagAt becomes cond (isAhead r w) lowered (r .flag) ∷ minViewAt becomes w ∷ [])
-    (newViewOf i w (r .storedBlock) (r .storedView))
+    (newViewOf i (r .boot) w (r .storedBlock) (r .storedView))
 
 -- "live; NEWVIEWs of one view, different signers"
 abbrev pub accumulateNeeds : Replica → List Certificate → List Need
@@ -211,9 +211,10 @@ accumulateNeeds r cs = hasStatus live r else wrongStatus ∷ isNewViewQuorum (fi
 -- greatest of-view, the first in the list if several."
 unfoldable pub accumulate : Memory → ℕ → List ℕ → Rule
 accumulate m i list =
+    let r = replica m i in
     let cs = certificatesOf m list in
-    issuing m (replicaNeeds m i ++ (listNeeds m list ++ accumulateNeeds (replica m i) cs)) i []
-    (accOf i (firstOf cs .view) (greatest cs .block) (greatest cs .ofView))
+    issuing m (replicaNeeds m i ++ (listNeeds m list ++ accumulateNeeds r cs)) i []
+    (accOf i (r .boot) (firstOf cs .view) (greatest cs .block) (greatest cs .ofView))
 
 -- "matching commits"
 abbrev pub decideNeeds : List Certificate → List Need
@@ -287,7 +288,7 @@ reserve m i =
 unfoldable pub request : Memory → ℕ → Rule
 request m i =
     let r = replica m i in
-    issuing m (replicaNeeds m i ++ (hasStatus recovering r else wrongStatus ∷ [])) i [] (reqOf i (r .minView) (r .boot))
+    issuing m (replicaNeeds m i ++ (hasStatus recovering r else wrongStatus ∷ [])) i [] (reqOf i (r .boot) (r .minView))
 
 -- "live; signer is another box; the REQ's view ≤ bound": of the replica's number and words, and of the REQ.
 abbrev pub replyNeeds : ℕ → Replica → Certificate → List Need
@@ -306,7 +307,7 @@ reply m i number =
     let q = certificate m number in
     issuing m (replicaNeeds m i ++ (numberNeeds m number ++ replyNeeds i r q)) i
     (cond (ltb (r .minView) (q .view)) (minViewAt becomes q .view ∷ flagAt becomes lowered ∷ []) [])
-    (replyOf i (q .view) (r .storedBlock) (r .storedView) (q .signer) (q .boot))
+    (replyOf i (r .boot) (q .view) (r .storedBlock) (r .storedView) (q .signer) (q .subjectBoot))
 
 -- "low the larger of low and g+1"
 abbrev pub recoveredView : Replica → List Certificate → ℕ

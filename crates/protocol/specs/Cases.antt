@@ -1,5 +1,5 @@
 -- The table of cases: those that document 01 marks P ("Edges"), some beside them, those on whose turn it is, those of issuing calls made
--- again, those on a pool's own steps and those on the records of blocks.
+-- again, those on a pool's own steps, those on the records of blocks and those on certificates before and after a cut.
 use mathlib.Core.List.{List, [], _∷_, _++_, map}
 use mathlib.Core.Path.{_≡_}
 use Rattle.protocol.specs.declared.Call.the-variants.{Open, Block, Prepare, Store, View, Decide, Reboot, Reserve, Request}
@@ -16,6 +16,7 @@ use Rattle.protocol.specs.RepeatCases.{repeatCases}
 use Rattle.protocol.specs.StepCases.{stepCases}
 use Rattle.protocol.specs.TableCases.{tableCases}
 use Rattle.protocol.specs.HeightCases.{heightCases}
+use Rattle.protocol.specs.CutCases.{cutCases}
 
 -- "P: the script above."
 unfoldable pub workedScript : Case
@@ -166,7 +167,7 @@ cases =
     ∷ secondProposalInAView
     ∷ fullLog
     ∷ counterEnds
-    ∷ leaderCases ++ (repeatCases ++ (stepCases ++ (tableCases ++ heightCases)))
+    ∷ leaderCases ++ (repeatCases ++ (stepCases ++ (tableCases ++ (heightCases ++ cutCases))))
 
 -- Every row's calls get the answers expected.
 unfoldable pub CasesHold : Type 0

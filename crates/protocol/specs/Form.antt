@@ -81,7 +81,8 @@ replicaFormed added r =
 abbrev pub lastKind : ℕ
 lastKind = 6
 
--- "in an issued certificate, kind 1 to 6, signer and subject below n, view, of-view and boot ≤ 1,000,000"; its block is a named one
+-- "in an issued certificate, kind 1 to 6, signer and subject below n, view, of-view and boot ≤ 1,000,000"; its block is a named one.
+-- Document 02, #107: "The form test bounds the new word at 1,000,000."
 unfoldable pub certificateFormed : ℕ → ℕ → Certificate → Bool
 certificateFormed replicas added c =
     allHold
@@ -91,7 +92,8 @@ certificateFormed replicas added c =
     ∷ ltb (c .subject) replicas
     ∷ leb (c .view) ceiling
     ∷ leb (c .ofView) ceiling
-    ∷ leb (c .boot) ceiling
+    ∷ leb (c .subjectBoot) ceiling
+    ∷ leb (c .signerBoot) ceiling
     ∷ ltb (c .block) added
     ∷ [])
 

@@ -3,12 +3,11 @@ use Prim.Native.Nat.{ℕ}
 use mathlib.Core.List.{List, [], _∷_}
 use Rattle.protocol.specs.declared.Call.the-variants.{Open, Block, Prepare, Store, View, Accumulate}
 use Rattle.protocol.specs.declared.Justification.the-variants.{Acc, Commits}
-use Rattle.protocol.specs.Memory.{Memory, Certificate, minViewAt, viewLimitAt, words, _becomes_, update}
-use Rattle.protocol.specs.Memory.{appendCertificate}
+use Rattle.protocol.specs.Memory.{Memory, Certificate, minViewAt, viewLimitAt, _becomes_, update}
 use Rattle.protocol.specs.Certificates.{propOf, commitOf, accOf}
 use Rattle.protocol.specs.Outcome.{wrongCertificate, wrongView, counterLimit}
 use Rattle.protocol.specs.Runs.{run}
-use Rattle.protocol.specs.Rows.{Case, blank, plain, _on_, accepted, refused, opened, committed}
+use Rattle.protocol.specs.Rows.{Case, blank, plain, _on_, accepted, refused, withBlock, holding, committed}
 
 -- The turn goes round: on COMMITs of view 1 only replica 1 can propose, on those of view 2 replica 2, on those of view 3 replica 0.
 unfoldable pub turnGoesRound : Case
@@ -86,21 +85,14 @@ turnOfFive =
           ∷ [];
     }
 
--- No list of calls issues a certificate of view 0. The rows below start from a ledger with a block 1 on block 0 and with certificates that
--- are put there by hand.
-unfoldable pub holding : Memory → List Certificate → Memory
-holding m [] = m
-holding m (c ∷ cs) = holding (appendCertificate m (words c)) cs
-
-abbrev withBlock : Memory
-withBlock = run opened (plain (Block 0) ∷ [])
+-- No list of calls issues a certificate of view 0, so the rows below start with certificates put into the log by hand.
 
 -- "View 0 has no leader, so a PROP of view 0 returns 5 at store." If its signer led it, the store would return 7, as view 0 is below every
 -- lowest view.
 unfoldable pub viewZeroAtStore : Case
 viewZeroAtStore =
     record {
-      start = holding withBlock (propOf 0 0 1 ∷ propOf 1 0 1 ∷ propOf 2 0 1 ∷ []);
+      start = holding withBlock (propOf 0 0 0 1 ∷ propOf 1 0 0 1 ∷ propOf 2 0 0 1 ∷ []);
       calls = plain (Store 0 0) ∷ plain (Store 0 1) ∷ plain (Store 0 2) ∷ [];
       expected = refused wrongCertificate ∷ refused wrongCertificate ∷ refused wrongCertificate ∷ [];
     }
@@ -109,7 +101,7 @@ viewZeroAtStore =
 unfoldable pub viewZeroAtPrepare : Case
 viewZeroAtPrepare =
     record {
-      start = holding withBlock (accOf 0 0 0 0 ∷ accOf 1 0 0 0 ∷ accOf 2 0 0 0 ∷ []);
+      start = holding withBlock (accOf 0 0 0 0 0 ∷ accOf 1 0 0 0 0 ∷ accOf 2 0 0 0 0 ∷ []);
       calls = plain (Prepare 0 1 (Acc 0)) ∷ plain (Prepare 1 1 (Acc 1)) ∷ plain (Prepare 2 1 (Acc 2)) ∷ [];
       expected = refused wrongCertificate ∷ refused wrongCertificate ∷ refused wrongCertificate ∷ [];
     }
@@ -118,7 +110,7 @@ viewZeroAtPrepare =
 unfoldable pub commitsOfViewZero : Case
 commitsOfViewZero =
     record {
-      start = holding withBlock (commitOf 1 0 0 ∷ commitOf 2 0 0 ∷ []);
+      start = holding withBlock (commitOf 1 0 0 0 ∷ commitOf 2 0 0 0 ∷ []);
       calls =
           Prepare 1 1 (Commits 0 0) on (0 ∷ 1 ∷ [])
           ∷ Prepare 2 1 (Commits 0 0) on (0 ∷ 1 ∷ [])
@@ -131,15 +123,15 @@ commitsOfViewZero =
 -- ACCs, PROPs and COMMITs of the counter's last views.
 abbrev ofLastViews : List Certificate
 ofLastViews =
-    accOf 2 999999 0 0
-    ∷ accOf 0 1000000 0 0
-    ∷ accOf 1 1000000 0 0
-    ∷ accOf 2 1000000 0 0
-    ∷ propOf 0 1000000 1
-    ∷ propOf 1 1000000 1
-    ∷ propOf 2 1000000 1
-    ∷ commitOf 0 1000000 0
-    ∷ commitOf 1 1000000 0
+    accOf 2 0 999999 0 0
+    ∷ accOf 0 0 1000000 0 0
+    ∷ accOf 1 0 1000000 0 0
+    ∷ accOf 2 0 1000000 0 0
+    ∷ propOf 0 0 1000000 1
+    ∷ propOf 1 0 1000000 1
+    ∷ propOf 2 0 1000000 1
+    ∷ commitOf 0 0 1000000 0
+    ∷ commitOf 1 0 1000000 0
     ∷ []
 
 -- The memory with a replica's lowest view set, and its limit at the counter's end.

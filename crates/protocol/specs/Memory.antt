@@ -156,9 +156,10 @@ tableLength f = rowAt (replicaCount f)
 
 -- ---- the certificate log (document 01: book)
 
--- "Book: 7 words a certificate: kind, signer, view, block, of-view, subject, boot."
+-- "Book: 7 words a certificate: kind, signer, view, block, of-view, subject, boot." Document 02, #107: "The record gets an eighth word, the
+-- boot of its signer when it was issued. [..] The subject's boot in REQ and REPLY stays the seventh."
 abbrev pub certificateWords : ℕ
-certificateWords = 7
+certificateWords = 8
 
 abbrev pub certificateAt : ℕ → ℕ
 certificateAt c = certificateWords * c
@@ -184,6 +185,9 @@ subjectAt = 5
 abbrev pub subjectBootAt : ℕ
 subjectBootAt = 6
 
+abbrev pub signerBootAt : ℕ
+signerBootAt = 7
+
 pub record Certificate : Type 0 where
   pub kind : ℕ
   pub signer : ℕ
@@ -191,7 +195,8 @@ pub record Certificate : Type 0 where
   pub block : ℕ
   pub ofView : ℕ
   pub subject : ℕ
-  pub boot : ℕ
+  pub subjectBoot : ℕ
+  pub signerBoot : ℕ
 
 abbrev pub certificateWord : Memory → ℕ → ℕ → ℕ
 certificateWord m c k = getD (m .log) (certificateAt c + k) 0
@@ -205,14 +210,15 @@ certificate m c =
       block = certificateWord m c proposedBlockAt;
       ofView = certificateWord m c ofViewAt;
       subject = certificateWord m c subjectAt;
-      boot = certificateWord m c subjectBootAt;
+      subjectBoot = certificateWord m c subjectBootAt;
+      signerBoot = certificateWord m c signerBootAt;
     }
 
 -- The words of a certificate, as they stand in the log.
 abbrev pub words : Certificate → List ℕ
-words c = c .kind ∷ c .signer ∷ c .view ∷ c .block ∷ c .ofView ∷ c .subject ∷ c .boot ∷ []
+words c = c .kind ∷ c .signer ∷ c .view ∷ c .block ∷ c .ofView ∷ c .subject ∷ c .subjectBoot ∷ c .signerBoot ∷ []
 
--- "Length a multiple of 7, at most 4,096 places."
+-- "Length a multiple of 7, at most 4,096 places." With #107 a multiple of 8.
 abbrev pub maxCertificates : ℕ
 maxCertificates = 4096
 

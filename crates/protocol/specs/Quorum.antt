@@ -29,7 +29,7 @@ certificatesOf m list = map (certificate m) list
 
 -- The first of a list, and a certificate of zeros where the list is empty, which no list of f+1 is.
 abbrev pub firstOf : List Certificate → Certificate
-firstOf [] = record { kind = 0; signer = 0; view = 0; block = 0; ofView = 0; subject = 0; boot = 0 }
+firstOf [] = record { kind = 0; signer = 0; view = 0; block = 0; ofView = 0; subject = 0; subjectBoot = 0; signerBoot = 0 }
 firstOf (c ∷ cs) = c
 
 unfoldable pub contains : ℕ → List ℕ → Bool
@@ -40,7 +40,7 @@ unfoldable pub distinct : List ℕ → Bool
 distinct [] = true
 distinct (x ∷ xs) = not (contains x xs) && distinct xs
 
--- "different signers": by replica
+-- "different signers"; document 02, #107: "Signers in a list differ by box, never by boot."
 abbrev pub signers : List Certificate → List ℕ
 signers cs = map (λ c. c .signer) cs
 
@@ -66,7 +66,7 @@ isNewViewQuorum view = isQuorum (isNewViewOf view)
 abbrev pub isReplyTo : ℕ → ℕ → ℕ → Certificate → Bool
 isReplyTo replica boot view c =
     allHold
-    (isKind REPLY c ∷ eqb (c .subject) replica ∷ eqb (c .boot) boot ∷ eqb (c .view) view ∷ not (eqb (c .signer) replica) ∷ [])
+    (isKind REPLY c ∷ eqb (c .subject) replica ∷ eqb (c .subjectBoot) boot ∷ eqb (c .view) view ∷ not (eqb (c .signer) replica) ∷ [])
 
 abbrev pub isReplyQuorum : ℕ → ℕ → ℕ → List Certificate → Bool
 isReplyQuorum replica boot view = isQuorum (isReplyTo replica boot view)

@@ -42,7 +42,7 @@ accsAndBlocksRepeated =
       expected = accepted 2 1 ∷ accepted 2 1 ∷ accepted 3 0 ∷ accepted 2 0 ∷ [];
     }
 
--- A Request and a Reply made again are found. So is the ACC from before the cut; the Request of the next boot is added.
+-- A Request and a Reply made again are found. What is issued after a cut is added: the ACC, and the Request of the next boot.
 unfoldable pub requestsAndRepliesRepeated : Case
 requestsAndRepliesRepeated =
     record {
@@ -67,9 +67,9 @@ requestsAndRepliesRepeated =
           ∷ accepted 7 1
           ∷ accepted 8 0
           ∷ accepted 64 1
-          ∷ accepted 2 1
-          ∷ accepted 2 128
           ∷ accepted 9 0
+          ∷ accepted 2 128
+          ∷ accepted 10 0
           ∷ [];
     }
 
@@ -128,31 +128,33 @@ foundReplyRaises =
       expected = accepted 7 1 ∷ refused wrongView ∷ [];
     }
 
--- "equal in all seven words", in the log's own: kind (3 a NEWVIEW, 2 a COMMIT), signer, view, block, of-view, subject, boot. Each of the first
--- seven differs in one word from what replica 0 issues, the next two are equal, and the tenth, past the count, is just that.
+-- "Equal now means equal in all eight" (document 02, #107), in the log's own words: kind (3 a NEWVIEW, 2 a COMMIT), signer, view, block,
+-- of-view, subject, its boot, the signer's boot. Each of the first eight differs in one word from what replica 0 issues, the next two are
+-- equal, and the eleventh, past the count, is just that.
 abbrev nearlyEqual : List ℕ
 nearlyEqual =
-    (2 ∷ 0 ∷ 5 ∷ 1 ∷ 3 ∷ 0 ∷ 0 ∷ [])
-    ++ (3 ∷ 1 ∷ 5 ∷ 1 ∷ 3 ∷ 0 ∷ 0 ∷ [])
-    ++ (3 ∷ 0 ∷ 6 ∷ 1 ∷ 3 ∷ 0 ∷ 0 ∷ [])
-    ++ (3 ∷ 0 ∷ 5 ∷ 0 ∷ 3 ∷ 0 ∷ 0 ∷ [])
-    ++ (3 ∷ 0 ∷ 5 ∷ 1 ∷ 2 ∷ 0 ∷ 0 ∷ [])
-    ++ (3 ∷ 0 ∷ 5 ∷ 1 ∷ 3 ∷ 1 ∷ 0 ∷ [])
-    ++ (3 ∷ 0 ∷ 5 ∷ 1 ∷ 3 ∷ 0 ∷ 1 ∷ [])
-    ++ (3 ∷ 2 ∷ 5 ∷ 0 ∷ 0 ∷ 0 ∷ 0 ∷ [])
-    ++ (3 ∷ 2 ∷ 5 ∷ 0 ∷ 0 ∷ 0 ∷ 0 ∷ [])
-    ++ (3 ∷ 0 ∷ 5 ∷ 1 ∷ 3 ∷ 0 ∷ 0 ∷ [])
+    (2 ∷ 0 ∷ 5 ∷ 1 ∷ 3 ∷ 0 ∷ 0 ∷ 0 ∷ [])
+    ++ (3 ∷ 1 ∷ 5 ∷ 1 ∷ 3 ∷ 0 ∷ 0 ∷ 0 ∷ [])
+    ++ (3 ∷ 0 ∷ 6 ∷ 1 ∷ 3 ∷ 0 ∷ 0 ∷ 0 ∷ [])
+    ++ (3 ∷ 0 ∷ 5 ∷ 0 ∷ 3 ∷ 0 ∷ 0 ∷ 0 ∷ [])
+    ++ (3 ∷ 0 ∷ 5 ∷ 1 ∷ 2 ∷ 0 ∷ 0 ∷ 0 ∷ [])
+    ++ (3 ∷ 0 ∷ 5 ∷ 1 ∷ 3 ∷ 1 ∷ 0 ∷ 0 ∷ [])
+    ++ (3 ∷ 0 ∷ 5 ∷ 1 ∷ 3 ∷ 0 ∷ 1 ∷ 0 ∷ [])
+    ++ (3 ∷ 0 ∷ 5 ∷ 1 ∷ 3 ∷ 0 ∷ 0 ∷ 1 ∷ [])
+    ++ (3 ∷ 2 ∷ 5 ∷ 0 ∷ 0 ∷ 0 ∷ 0 ∷ 0 ∷ [])
+    ++ (3 ∷ 2 ∷ 5 ∷ 0 ∷ 0 ∷ 0 ∷ 0 ∷ 0 ∷ [])
+    ++ (3 ∷ 0 ∷ 5 ∷ 1 ∷ 3 ∷ 0 ∷ 0 ∷ 0 ∷ [])
 
 -- The first of two equal ones is found; where only one word differs the certificate is added.
 unfoldable pub equalInAllWords : Case
 equalInAllWords =
     let stored =
-    update (run (zeros 1 10 2) (plain (Open 1) ∷ plain (Block 0) ∷ [])) 0
+    update (run (zeros 1 11 2) (plain (Open 1) ∷ plain (Block 0) ∷ [])) 0
     (minViewAt becomes 5 ∷ storedViewAt becomes 3 ∷ storedBlockAt becomes 1 ∷ []) in
     record {
-      start = record { table = set (stored .table) certificateCountAt 9; log = nearlyEqual; blocks = stored .blocks };
+      start = record { table = set (stored .table) certificateCountAt 10; log = nearlyEqual; blocks = stored .blocks };
       calls = plain (View 2 5) ∷ plain (View 0 5) ∷ plain (View 0 5) ∷ [];
-      expected = accepted 7 1 ∷ accepted 9 0 ∷ accepted 9 1 ∷ [];
+      expected = accepted 8 1 ∷ accepted 10 0 ∷ accepted 10 1 ∷ [];
     }
 
 unfoldable pub repeatCases : List Case

@@ -7,7 +7,7 @@ use Rattle.protocol.specs.declared.Call.{Call}
 use Rattle.protocol.specs.declared.Call.the-variants.{Open, Block, Prepare, Store, View, Accumulate, Decide, Reboot}
 use Rattle.protocol.specs.declared.Call.the-variants.{Reserve, Request, Reply, Recover}
 use Rattle.protocol.specs.declared.Justification.the-variants.{Acc, Commits}
-use Rattle.protocol.specs.Memory.{Memory, tableLength, certificateAt, blockAt}
+use Rattle.protocol.specs.Memory.{Memory, Certificate, tableLength, certificateAt, words, blockAt, appendCertificate}
 use Rattle.protocol.specs.Outcome.{wrongStatus}
 use Rattle.protocol.specs.Runs.{Invocation, run}
 
@@ -79,6 +79,15 @@ from calls = run (blank 1) calls
 
 abbrev pub opened : Memory
 opened = from (plain (Open 1) ∷ [])
+
+-- f = 1, with a block 1 on block 0
+abbrev pub withBlock : Memory
+withBlock = run opened (plain (Block 0) ∷ [])
+
+-- With certificates put into the log by hand, for what no list of calls issues.
+unfoldable pub holding : Memory → List Certificate → Memory
+holding m [] = m
+holding m (c ∷ cs) = holding (appendCertificate m (words c)) cs
 
 -- f = 1, with an ACC of view 1 on block 0, number 2, by the view's leader, and a block 1 on block 0
 abbrev pub accumulated : Memory

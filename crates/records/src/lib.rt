@@ -74,6 +74,7 @@ pub fn certificate_in(log: &[u32], number: u32) -> Certificate
         block: certificate_word(log, number, constants::PROPOSED_BLOCK_AT),
         of_view: certificate_word(log, number, constants::OF_VIEW_AT),
         subject: certificate_word(log, number, constants::SUBJECT_AT),
-        boot: certificate_word(log, number, constants::SUBJECT_BOOT_AT),
+        subject_boot: certificate_word(log, number, constants::SUBJECT_BOOT_AT),
+        signer_boot: certificate_word(log, number, constants::SIGNER_BOOT_AT),
     }
 }

@@ -38,8 +38,9 @@ use records::Replica;
 
 // What a restarted replica asks the others with.
 fn req(replica: u32, r: Replica) -> Certificate
-    ensures { λ c. ⌜ certificateOf c ≡ reqOf replica (r .«min_view») (r .boot) ⌝ }
+    ensures { λ c. ⌜ certificateOf c ≡ reqOf replica (r .boot) (r .«min_view») ⌝ }
 {
+    let boot = r.boot;
     Certificate {
         kind: REQ,
         signer: replica,
@@ -47,7 +48,8 @@ fn req(replica: u32, r: Replica) -> Certificate
         block: 0,
         of_view: 0,
         subject: replica,
-        boot: r.boot,
+        subject_boot: boot,
+        signer_boot: boot,
     }
 }
 
@@ -80,7 +82,7 @@ fn test_reply(replica: u32, r: Replica, q: Certificate) -> Tested
 // What a replica answers: its stored block, for the one that asked.
 fn reply_to(replica: u32, r: Replica, q: Certificate) -> Certificate
     ensures { λ c. ⌜ certificateOf c
-        ≡ replyOf replica (q .view) (r .«stored_block») (r .«stored_view») (q .signer) (q .boot) ⌝ }
+        ≡ replyOf replica (r .boot) (q .view) (r .«stored_block») (r .«stored_view») (q .signer) (q .«subject_boot») ⌝ }
 {
     Certificate {
         kind: REPLY,
@@ -89,7 +91,8 @@ fn reply_to(replica: u32, r: Replica, q: Certificate) -> Certificate
         block: r.stored_block,
         of_view: r.stored_view,
         subject: q.signer,
-        boot: q.boot,
+        subject_boot: q.subject_boot,
+        signer_boot: r.boot,
     }
 }
 

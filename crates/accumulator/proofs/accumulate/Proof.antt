@@ -27,7 +27,7 @@ of f c =
 abbrev rest : Memory → ℕ → List ℕ → List Need
 rest m i list =
     let cs = certificatesOf m list in
-    accumulateNeeds (replica m i) cs ++ slot m (accOf i (firstOf cs .view) (greatest cs .block) (greatest cs .ofView))
+    accumulateNeeds (replica m i) cs ++ slot m (accOf i (replica m i .boot) (firstOf cs .view) (greatest cs .block) (greatest cs .ofView))
 
 found : (c : tie.After-found) →
     of (λ m i list. ReplicaFound m i (accumulateRule m i list) (listNeeds m list ++ rest m i list) (c .found .given .0 .0)) c
@@ -98,7 +98,7 @@ returns-4 c =
     let t = g .before .before .before .before in
     let at-slot = passed _ refl (own-tested t) _ (known g .at) (g .before .before .enum-told4 .given .1) in
     let best = e .certificate-in .ensures ∙ ap certificateFrom (g .greatest .ensures .is) in
-    issues _ _ _ _ _ at-slot refl (rw (view (t .before .before .before .before .before), best))
+    issues _ _ _ _ _ at-slot refl (rw (view (t .before .before .before .before .before), best, known g .read))
     (c .before .before .before .before .issue .ensures _)
 
 pub accumulate-spec : {M : Type 1} → statement M

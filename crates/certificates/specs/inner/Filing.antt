@@ -41,10 +41,11 @@ certificateOf c =
       block = c .block;
       ofView = c .«of_view»;
       subject = c .subject;
-      boot = c .boot;
+      subjectBoot = c .«subject_boot»;
+      signerBoot = c .«signer_boot»;
     }
 
--- The words of the log from an index on are these seven.
+-- The words of the log from an index on are those of a certificate.
 unfoldable pub equalFrom : List ℕ → ℕ → List ℕ → Bool
 equalFrom log start ws = allBelow certificateWords (λ k. eqb (getD log (start + k) 0) (getD ws k 0))
 

@@ -108,11 +108,13 @@ returns-5 : tie.Need-returns-5
 unfolding prepareRule
 returns-5 c =
     let t = c .before .before .before .before .before .before .before .before .before .before .before .before in
-    let g = given (t .before .before .before .before .before) in
+    let j = t .before .before .before .before .before in
+    let g = given j in
+    let r = found (j .before .before .before .before .before .before .before .before .before .before .before .before .before) in
     let told = c .before .before .before .before .before .before .before .before .before .before .enum-told5 .given .1 in
     let proposal = c .before .before .before .before .before .before .before .before .before .of-kind .ensures in
     issues _ _ _ _ _ (passed _ refl (last-tested t) _ (g .at) told) refl
-    (rw (proposal, g .given) refl) (c .before .before .before .before .issue .ensures _)
+    (rw (proposal, g .given, r .read) refl) (c .before .before .before .before .issue .ensures _)
 
 pub prepare-spec : {M : Type 1} → statement M
 prepare-spec =

@@ -26,7 +26,7 @@ entry c =
 abbrev rest : Memory → ℕ → ℕ → List Need
 rest m i number =
     let p = certificate m number in
-    storeNeeds (faultBound m) (replica m i) p ++ slot m (commitOf i (p .view) (p .block))
+    storeNeeds (faultBound m) (replica m i) p ++ slot m (commitOf i (replica m i .boot) (p .view) (p .block))
 
 found : (c : tie.After-found) → let a = c .before .before .before .before .before .before .before .before .before .args in
     ReplicaFound (entry c) (a .replica) (storeRule (entry c) (a .replica) (a .number))
@@ -92,7 +92,7 @@ returns-4 c =
     let told = c .before .before .before .before .before .before .before .before .before .before .before .enum-told3 .given .1 in
     let commit = c .before .before .before .before .before .before .before .before .before .of-kind .ensures in
     issues _ _ _ _ _ (passed _ refl (rw (r .read, p .read) at (t .test-store .ensures)) _ (p .at) told)
-    (rw (p .read) refl) (rw (commit, p .read) refl) (c .before .before .before .before .issue .ensures _)
+    (rw (p .read) refl) (rw (commit, p .read, r .read) refl) (c .before .before .before .before .issue .ensures _)
 
 pub store-spec : {M : Type 1} → statement M
 store-spec =

@@ -15,7 +15,7 @@ found : (c : tie.After-found) → let a = c .before .before .before .before .bef
     let m = memory (a .table .now) (a .log .now) (a .blocks .now) in
     let r = replica m (a .replica) in
     ReplicaFound m (a .replica) (viewRule m (a .replica) (a .view))
-    (viewNeeds r (a .view) ++ slot m (newViewOf (a .replica) (a .view) (r .storedBlock) (r .storedView))) (c .found .given .0 .0)
+    (viewNeeds r (a .view) ++ slot m (newViewOf (a .replica) (r .boot) (a .view) (r .storedBlock) (r .storedView))) (c .found .given .0 .0)
 unfolding viewRule
 found c = found-replica _ _ _ (start _ _ _ _ _ _ refl) (c .before .before .find-replica .ensures) (c .found .given .1)
 

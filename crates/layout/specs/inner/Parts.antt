@@ -3,18 +3,14 @@ use Prim.Native.Nat.{ℕ}
 use mathlib.Core.Bool.{Bool}
 use mathlib.Core.List.{List, [], _∷_}
 use Rattle.protocol.specs.Memory.{Memory, memory, replicaCount, faultBound, certificateCount, blockCount, stepsAt, replica}
-use Rattle.protocol.specs.Memory.{certificate}
-use Rattle.protocol.specs.Form.{allHold, allBelow, stepsFormed, replicaFormed, certificateFormed}
+use Rattle.protocol.specs.Form.{allHold, allBelow, stepsFormed, replicaFormed}
 use Rattle.blocks.specs.inner.Records.{blockOk}
 use Rattle.counter.specs.inner.Rising.{stepIn}
+use Rattle.log.specs.inner.Records.{certificateOk}
 
 -- The test of one replica, where so many blocks are added.
 abbrev pub replicaOk : List ℕ → ℕ → ℕ → Bool
 replicaOk table added i = replicaFormed added (replica (memory table [] []) i)
-
--- The test of one certificate, of so many replicas and blocks.
-abbrev pub certificateOk : List ℕ → ℕ → ℕ → ℕ → Bool
-certificateOk log replicas added c = certificateFormed replicas added (certificate (memory [] log []) c)
 
 -- All of them, as in the form whole.
 abbrev pub wordsOk : Memory → Bool

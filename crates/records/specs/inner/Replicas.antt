@@ -48,7 +48,8 @@ certificateFrom c =
       block = c .block;
       «of_view» = c .ofView;
       subject = c .subject;
-      boot = c .boot;
+      «subject_boot» = c .subjectBoot;
+      «signer_boot» = c .signerBoot;
     }
 
 -- Each offset of the row with its new value.

@@ -23,7 +23,7 @@ of f c = let a = c .before .before .before .before .before .before .before .befo
 
 abbrev rest : Memory → ℕ → ℕ → List Need
 rest m i number = let r = replica m i in let q = certificate m number in
-    replyNeeds i r q ++ slot m (replyOf i (q .view) (r .storedBlock) (r .storedView) (q .signer) (q .boot))
+    replyNeeds i r q ++ slot m (replyOf i (r .boot) (q .view) (r .storedBlock) (r .storedView) (q .signer) (q .subjectBoot))
 
 found : (c : tie.After-found) → of (λ m i n. ReplicaFound m i (rule m i n) (numberNeeds m n ++ rest m i n)) c (c .found .given .0 .0)
 unfolding rule

@@ -15,7 +15,7 @@ use Rattle.recovery.proofs.request.Tie as tie
 
 found : (c : tie.After-found) → let a = c .before .before .before .before .before .before .before .before .before .args in
     let m = memory (a .table .now) (a .log .now) (a .blocks .now) in let i = a .replica in let r = replica m i in
-    ReplicaFound m i (rule m i) (hasStatus recovering r else wrongStatus ∷ slot m (reqOf i (r .minView) (r .boot))) (c .found .given .0 .0)
+    ReplicaFound m i (rule m i) (hasStatus recovering r else wrongStatus ∷ slot m (reqOf i (r .boot) (r .minView))) (c .found .given .0 .0)
 unfolding rule
 found c = found-replica _ _ _ (start _ _ _ _ _ _ refl) (c .before .before .find-replica .ensures) (c .found .given .1)
 

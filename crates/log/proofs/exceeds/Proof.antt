@@ -1,18 +1,20 @@
-use Rattle.protocol.specs.Form.{certificateFormed}
-use Rattle.layout.proofs.Order.{certificate-order}
+use Rattle.log.specs.inner.Records.{exceeds}
 use borrow.Author.Needs.{needs}
-use Rattle.layout.proofs.form.certificate_formed.Statement.{statement}
-use Rattle.layout.proofs.form.certificate_formed.Tie as tie
+use Rattle.log.proofs.exceeds.Statement.{statement}
+use Rattle.log.proofs.exceeds.Tie as tie
+use Rattle.log.proofs.exceeds.Reads as reads
+use Rattle.log.proofs.exceeds.Lts as lts
 
 returns : tie.Need-returns
-unfolding certificateFormed
-returns c = certificate-order _ _ _ _ _ _ _ _
+unfolding exceeds
+returns c = search needs
 
-pub certificate-formed-spec : {M : Type 1} → statement M
-certificate-formed-spec =
+pub exceeds-spec : {M : Type 1} → statement M
+exceeds-spec =
     tie.close
     (tie.spec (λ c. search needs) (λ c. search needs) (λ c. search needs) (λ c. search needs)
     (λ c. search needs) (λ c. search needs) (λ c. search needs) (λ c. search needs) (λ c. search needs)
     (λ c. search needs) (λ c. search needs) (λ c. search needs) (λ c. search needs) (λ c. search needs)
     (λ c. search needs) (λ c. search needs) (λ c. search needs) (λ c. search needs) (λ c. search needs)
-    (λ c. search needs) (λ c. search needs) (λ c. search needs) returns)
+    (λ c. search needs) (λ c. search needs) (λ c. search needs) (λ c. search needs) (λ c. search needs)
+    returns)

@@ -60,8 +60,8 @@ fn justified<R: Rules>(rules: R, m: &Memory, replica: u32, j: Justification) -> 
             let acc = m.certificate(number);
             let own = acc.signer == replica || rules.has(Mistake::PrepareOtherAcc);
             let boot = m.replica(replica).boot;
-            let unfit = rules.has(Mistake::PrepareEarlierAccRefused) && acc.signer_boot < boot
-                || rules.has(Mistake::PrepareLaterAccRefused) && acc.signer_boot > boot;
+            let unfit = rules.has(Mistake::PrepareEarlierAcc) && acc.signer_boot < boot
+                || rules.has(Mistake::PrepareLaterAcc) && acc.signer_boot > boot;
             need(acc.kind == ACC && own && !unfit, WRONG_CERTIFICATE)?;
             Ok((acc.view, acc.block))
         }

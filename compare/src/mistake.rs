@@ -212,7 +212,7 @@ mistakes! {
     BootsSwapped "boots-swapped" "the signer's boot stands before the subject's" "a REPLY's view gives the subject's boot, too";
     RequestNoSubjectBoot "request-no-subject-boot" "the subject's boot in a REQ is 0" "a REPLY's view gives the subject's boot, too";
     ReplyOwnSubjectBoot "reply-own-subject-boot" "the subject's boot in a REPLY is the replier's" "a REPLY's view gives the subject's boot, too";
-    ReplySignersSubjectBoot "reply-signers-subject-boot" "the subject's boot in a REPLY is the signer's boot of the REQ" "in a list of calls both boots of a REQ are equal";
+    ReplyTakesSignerBoot "reply-takes-signer-boot" "the subject's boot in a REPLY is the signer's boot of the REQ" "in a list of calls both boots of a REQ are equal";
     RecoverSignerBoot "recover-signer-boot" "recover asks that the replies' signers' boot is its own" "a REPLY's view gives the subject's boot, too";
     EqualInSeven "equal-in-seven" "a certificate of another boot of its signer is found" "what is found says the same";
     AccEqualInSeven "acc-equal-in-seven" "an ACC of another boot of its signer is found" "what is found says the same";
@@ -221,8 +221,8 @@ mistakes! {
     EqualFirstOfSeven "equal-first-of-seven" "of those that differ in the signer's boot alone only the first can be found" "a copy says nothing new";
     EqualLaterBoot "equal-later-boot" "a certificate of a later boot of its signer is found" "no list of calls issues one of a later boot";
     EqualAnySubjectBoot "equal-any-subject-boot" "a certificate of another boot of its subject is found" "no list of calls makes two that differ in it alone";
-    PrepareEarlierAccRefused "prepare-earlier-acc-refused" "prepare refuses an ACC of an earlier boot" "refuses more";
-    PrepareLaterAccRefused "prepare-later-acc-refused" "prepare refuses an ACC of a later boot" "refuses more";
+    PrepareEarlierAcc "prepare-earlier-acc" "prepare refuses an ACC of an earlier boot" "refuses more";
+    PrepareLaterAcc "prepare-later-acc" "prepare refuses an ACC of a later boot" "refuses more";
     StorePresentBoot "store-present-boot" "store refuses a PROP whose signer has been cut since" "refuses more";
     ReplyPresentBoot "reply-present-boot" "reply refuses a REQ whose signer has been cut since" "refuses more";
     CommitsPresentBoot "commits-present-boot" "a commit quorum may hold none whose signer has been cut since" "refuses more";

@@ -99,7 +99,7 @@ pub fn reply<R: Rules>(rules: R, m: &mut Memory, replica: u32, number: u32) -> A
         subject: req.signer,
         subject_boot: match r.boot {
             boot if rules.has(Mistake::ReplyOwnSubjectBoot) => boot,
-            _ if rules.has(Mistake::ReplySignersSubjectBoot) => req.signer_boot,
+            _ if rules.has(Mistake::ReplyTakesSignerBoot) => req.signer_boot,
             _ => req.subject_boot,
         },
         ..Certificate::default()

@@ -7,6 +7,7 @@ use crate::driver::Line;
 use crate::explore::Explorer;
 use crate::mistake::Correct;
 use crate::random::Random;
+use crate::steps::LAST_STEP_BOOT;
 
 type Hosts = Explorer<Correct>;
 
@@ -41,10 +42,17 @@ fn others(hosts: &mut Hosts, without: &[u32]) -> Vec<u32> {
 /// proposes on one of them, and on each again, which its flag forbids.
 fn acc_again(hosts: &mut Hosts, full: bool) -> Option<()> {
     let leader = hosts.random.below(hosts.driver.n());
+    let others = others(hosts, &[leader]);
+    if hosts.random.once_in(4) {
+        // Its boots are past the last step then.
+        for _ in 0..LAST_STEP_BOOT {
+            hosts.driver.accepted(REBOOT, leader, 0, &[])?;
+        }
+        hosts.driver.restore(leader, &others)?;
+    }
     let cuts = hosts.random.pick(&[1, 1, 2, 3]);
     let view = view_after(hosts, leader, cuts)?;
     let quorum = hosts.driver.f() as usize + 1;
-    let others = others(hosts, &[leader]);
     let promises = hosts.driver.promises(view, &others[..quorum])?;
     let mut accs = vec![accumulated(hosts, leader, &promises)?];
     for _ in 0..cuts {

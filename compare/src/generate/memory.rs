@@ -2,7 +2,7 @@
 
 use super::beforehand::issue_beforehand;
 use super::blocks::{any_added, put_blocks};
-use super::perturb::{damage_form, nudge};
+use super::perturb::{damage_form, damage_log_lengths, nudge};
 use super::ready::make_ready;
 use super::steps::{any_list, sound_steps};
 use crate::call::*;
@@ -67,6 +67,9 @@ pub fn sample(seed: u64) -> Sample {
     }
     if sample.line.code == OPEN && random.once_in(4) {
         sample.blocks.fill_with(|| garbage(&mut random));
+    }
+    if sample.line.code == OPEN && random.once_in(8) {
+        damage_log_lengths(&mut random, &mut sample);
     }
     sample
 }

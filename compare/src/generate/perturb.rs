@@ -161,7 +161,7 @@ fn damage_lengths(random: &mut Random, sample: &mut Sample) {
 
 /// Part of a slot too much or too little, one or more slots of seven words, and about as many words as there may be, of
 /// eight or of seven a slot.
-fn damage_log_lengths(random: &mut Random, sample: &mut Sample) {
+pub fn damage_log_lengths(random: &mut Random, sample: &mut Sample) {
     let length = sample.log.len() as u32;
     let part = random.within(1, CERTIFICATE_WORDS as u32 - 1);
     let by_seven = length.div_ceil(SHORT_WORDS as u32) + random.below(2);

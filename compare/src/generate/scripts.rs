@@ -57,7 +57,8 @@ pub fn script(seed: u64) -> Script {
         54..=57 => ("chunk ends", progress(part, random.pick(&[1, MAX_F]), &steps, 300, true)),
         58..=59 => ("counter by large steps", counter_by_large_steps(part, f)),
         60..=61 => ("limits in every view", limits_in_every_view(part, f)),
-        62..=65 => ("made again after cuts", made_again(part, f, random.once_in(6))),
+        62 => ("made again after cuts", made_again(part, f.min(2), true)),
+        63..=65 => ("made again after cuts", made_again(part, f, false)),
         _ => ("damaged text", hostile(part, f)),
     };
     let plain = script_text(&lines);

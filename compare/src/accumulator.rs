@@ -4,6 +4,7 @@ use crate::certificate::{Certificate, ACC, NEWVIEW};
 use crate::form::well_formed;
 use crate::memory::{Memory, LIVE, RECOVERING};
 use crate::mistake::{Mistake, Rules};
+use crate::quorum::OF_PROMISES;
 use crate::refusal::*;
 
 pub fn accumulate<R: Rules>(rules: R, m: &mut Memory, replica: u32, list: &[u32]) -> Answer {
@@ -15,8 +16,8 @@ pub fn accumulate<R: Rules>(rules: R, m: &mut Memory, replica: u32, list: &[u32]
     need(r.status == LIVE || let_in, WRONG_STATUS)?;
     let view = m.certificate(list[0]).view;
     let one_view = |c: Certificate| c.view == view || rules.has(Mistake::AccumulateMixedViews);
-    let different = rules.has(Mistake::AccumulateSignerTwice) || m.different_signers(list);
-    need(m.all(list, |c| c.kind == NEWVIEW && one_view(c)) && different, WRONG_CERTIFICATE)?;
+    need(m.all(list, |c| c.kind == NEWVIEW && one_view(c)), WRONG_CERTIFICATE)?;
+    need(m.signers_fit(rules, list, &OF_PROMISES), WRONG_CERTIFICATE)?;
     let latest = if rules.has(Mistake::AccumulateTakesLast) {
         m.certificate(list[list.len() - 1])
     } else {

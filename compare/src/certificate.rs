@@ -1,8 +1,11 @@
-//! Certificates, and filing them in the certificate log (document 01, "Kinds" and the sentence on equal ones).
+//! Certificates, and filing them in the certificate log (document 01, "Kinds" and the sentence on equal ones; document 02,
+//! #107: with the boot of the signer).
 
+use crate::log::log_slots;
 use crate::memory::{header, Memory, Replica, CERTIFICATE_WORDS};
 use crate::mistake::{Mistake, Rules};
 use crate::refusal::{Answer, NO_ROOM};
+use crate::steps::LAST_STEP_BOOT;
 
 pub const PROP: u32 = 1;
 pub const COMMIT: u32 = 2;
@@ -26,10 +29,11 @@ pub mod certificate_word {
     pub const BLOCK: usize = 3;
     pub const OF_VIEW: usize = 4;
     pub const SUBJECT: usize = 5;
-    pub const BOOT: usize = 6;
+    pub const SUBJECT_BOOT: usize = 6;
+    pub const SIGNER_BOOT: usize = 7;
 }
 
-/// Fields that a kind does not name are 0.
+/// Fields that a kind does not name are 0, but for the signer's boot, which every kind has.
 #[derive(Clone, Copy, PartialEq, Eq, Debug, Default)]
 pub struct Certificate {
     pub kind: u32,
@@ -38,7 +42,10 @@ pub struct Certificate {
     pub block: u32,
     pub of_view: u32,
     pub subject: u32,
-    pub boot: u32,
+    /// In REQ and REPLY.
+    pub subject_boot: u32,
+    /// When it was issued.
+    pub signer_boot: u32,
 }
 
 impl Certificate {
@@ -50,7 +57,8 @@ impl Certificate {
             block: w[certificate_word::BLOCK],
             of_view: w[certificate_word::OF_VIEW],
             subject: w[certificate_word::SUBJECT],
-            boot: w[certificate_word::BOOT],
+            subject_boot: w[certificate_word::SUBJECT_BOOT],
+            signer_boot: w[certificate_word::SIGNER_BOOT],
         }
     }
 
@@ -62,8 +70,14 @@ impl Certificate {
         w[certificate_word::BLOCK] = self.block;
         w[certificate_word::OF_VIEW] = self.of_view;
         w[certificate_word::SUBJECT] = self.subject;
-        w[certificate_word::BOOT] = self.boot;
+        w[certificate_word::SUBJECT_BOOT] = self.subject_boot;
+        w[certificate_word::SIGNER_BOOT] = self.signer_boot;
         w
+    }
+
+    /// The same of another boot of its signer: one was made before a cut, the other after it.
+    pub fn is_twin(&self, other: &Certificate) -> bool {
+        self.signer_boot != other.signer_boot && Certificate { signer_boot: other.signer_boot, ..*self } == *other
     }
 }
 
@@ -80,8 +94,10 @@ impl Memory<'_> {
         slots.nth(number as usize).map_or(Certificate::default(), Certificate::from_words)
     }
 
-    /// An issuing call's end: the certificate is filed, found or added, and its signer's words become `after`.
-    pub fn issue<R: Rules>(&mut self, rules: R, certificate: Certificate, after: Replica) -> Answer {
+    /// An issuing call's end: the certificate gets its signer's boot and is filed, found or added; the signer's words become
+    /// `after`. No such call changes the boot.
+    pub fn issue<R: Rules>(&mut self, rules: R, unsigned: Certificate, after: Replica) -> Answer {
+        let certificate = signed(rules, unsigned, after.boot);
         let slot = self.slot_for(rules, certificate)?;
         if matches!(slot, Slot::Free(_)) || !rules.has(Mistake::FoundChangesNothing) {
             self.set_replica(certificate.signer, after);
@@ -94,9 +110,19 @@ impl Memory<'_> {
         let words = certificate.words();
         let issued = self.issued() as usize;
         let mut slots = self.log.chunks_exact(CERTIFICATE_WORDS).take(issued);
-        let equal = |slot: &[u32]| slot == words;
-        let found = if rules.has(Mistake::FoundLastEqual) { slots.rposition(equal) } else { slots.position(equal) };
-        let unheeded = rules.has(Mistake::FiledAgain) || rules.has(Mistake::NineWhereFound) && self.is_full();
+        let full = self.is_full();
+        let equal = |slot: &[u32]| slot == words || equal_by_mistake(rules, certificate, slot, full);
+        let found = if rules.has(Mistake::FoundLastEqual) {
+            slots.rposition(equal)
+        } else if rules.has(Mistake::EqualFirstOfSeven) {
+            let twin = |slot: &[u32]| certificate.is_twin(&Certificate::from_words(slot));
+            slots
+                .position(|slot| slot == words || twin(slot))
+                .filter(|&number| self.certificate(number as u32) == certificate)
+        } else {
+            slots.position(equal)
+        };
+        let unheeded = rules.has(Mistake::FiledAgain) || rules.has(Mistake::NineWhereFound) && full;
         match found {
             Some(number) if !unheeded => Ok(Slot::Found(number as u32)),
             _ if issued + usize::from(rules.has(Mistake::NineTooEarly)) < self.capacity() => {
@@ -107,7 +133,7 @@ impl Memory<'_> {
     }
 
     fn capacity(&self) -> usize {
-        self.log.len() / CERTIFICATE_WORDS
+        log_slots(self.log)
     }
 
     fn is_full(&self) -> bool {
@@ -123,6 +149,10 @@ impl Memory<'_> {
             Slot::Found(number) => (number, FOUND),
             Slot::Free(number) => {
                 let told = if self.feigns_found(rules, number, certificate) { FOUND } else { ADDED };
+                let mut certificate = certificate;
+                if rules.has(Mistake::SignerBootLeft) {
+                    certificate.signer_boot = self.certificate(number).signer_boot;
+                }
                 let start = CERTIFICATE_WORDS * number as usize;
                 self.log[start..start + CERTIFICATE_WORDS].copy_from_slice(&certificate.words());
                 if !rules.has(Mistake::CountStays) {
@@ -146,6 +176,48 @@ impl Memory<'_> {
     fn feigns_found<R: Rules>(&self, rules: R, number: u32, certificate: Certificate) -> bool {
         rules.has(Mistake::AddedToldFound)
             || rules.has(Mistake::FoundByWords) && self.certificate(number) == certificate
+    }
+}
+
+/// With "the boot of its signer when it was issued".
+fn signed<R: Rules>(rules: R, unsigned: Certificate, boot: u32) -> Certificate {
+    let signer_boot = match boot {
+        _ if rules.has(Mistake::SignerBootZero) || rules.has(leaves_boot_zero(unsigned.kind)) => 0,
+        _ if rules.has(Mistake::SignerBootSubjects) => unsigned.subject_boot,
+        _ if rules.has(Mistake::SignerBootNext) => boot + 1,
+        _ if rules.has(Mistake::SignerBootBefore) => boot.saturating_sub(1),
+        _ if rules.has(Mistake::SignerBootCapped) => boot.min(LAST_STEP_BOOT),
+        _ => boot,
+    };
+    if rules.has(Mistake::BootsSwapped) {
+        return Certificate { subject_boot: boot, signer_boot: unsigned.subject_boot, ..unsigned };
+    }
+    Certificate { signer_boot, ..unsigned }
+}
+
+/// By a mistake, an issued certificate that differs in one boot alone is equal too.
+fn equal_by_mistake<R: Rules>(rules: R, certificate: Certificate, slot: &[u32], full: bool) -> bool {
+    let issued = Certificate::from_words(slot);
+    let kind = certificate.kind;
+    let in_seven = rules.has(Mistake::EqualInSeven)
+        || rules.has(Mistake::AccEqualInSeven) && kind == ACC
+        || rules.has(Mistake::ReplyEqualInSeven) && kind == REPLY
+        || rules.has(Mistake::FullEqualInSeven) && full
+        || rules.has(Mistake::EqualLaterBoot) && issued.signer_boot > certificate.signer_boot;
+    let subject_boot = issued.subject_boot;
+    in_seven && certificate.is_twin(&issued)
+        || rules.has(Mistake::EqualAnySubjectBoot) && Certificate { subject_boot, ..certificate } == issued
+}
+
+/// The mistake of the call that issues this kind: the signer's boot stays 0.
+fn leaves_boot_zero(kind: u32) -> Mistake {
+    match kind {
+        PROP => Mistake::PropBootZero,
+        COMMIT => Mistake::CommitBootZero,
+        NEWVIEW => Mistake::NewviewBootZero,
+        ACC => Mistake::AccBootZero,
+        REQ => Mistake::ReqBootZero,
+        _ => Mistake::ReplyBootZero,
     }
 }
 

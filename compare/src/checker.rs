@@ -59,7 +59,10 @@ fn justified<R: Rules>(rules: R, m: &Memory, replica: u32, j: Justification) -> 
         Justification::Acc(number) => {
             let acc = m.certificate(number);
             let own = acc.signer == replica || rules.has(Mistake::PrepareOtherAcc);
-            need(acc.kind == ACC && own, WRONG_CERTIFICATE)?;
+            let boot = m.replica(replica).boot;
+            let unfit = rules.has(Mistake::PrepareEarlierAcc) && acc.signer_boot < boot
+                || rules.has(Mistake::PrepareLaterAcc) && acc.signer_boot > boot;
+            need(acc.kind == ACC && own && !unfit, WRONG_CERTIFICATE)?;
             Ok((acc.view, acc.block))
         }
         Justification::Commits(list) => {
@@ -109,8 +112,10 @@ pub fn store<R: Rules>(rules: R, m: &mut Memory, replica: u32, number: u32) -> A
     let mut r = m.replica(replica);
     let let_in = rules.has(Mistake::StoreRecovering) && r.status == RECOVERING;
     need(r.status == LIVE || let_in, WRONG_STATUS)?;
-    let Certificate { kind, signer, view, block, .. } = m.certificate(number);
+    let prop = m.certificate(number);
+    let Certificate { kind, signer, view, block, .. } = prop;
     need(kind == PROP, WRONG_CERTIFICATE)?;
+    need(!rules.has(Mistake::StorePresentBoot) || m.is_of_present_boot(prop), WRONG_CERTIFICATE)?;
     let any_leader = rules.has(Mistake::StoreAnyLeader)
         || rules.has(Mistake::LeaderNowhere)
         || rules.has(Mistake::StoreViewZero) && view == 0;

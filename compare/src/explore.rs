@@ -215,8 +215,9 @@ impl<R: Rules> Explorer<R> {
         let replica = self.recovering();
         let boot = self.driver.replica(replica).boot;
         let (old, other) = (self.random.once_in(6), self.random.once_in(12));
-        let replies =
-            self.driver.issued_where(|c| c.kind == REPLY && (other || c.subject == replica) && (old || c.boot == boot));
+        let replies = self
+            .driver
+            .issued_where(|c| c.kind == REPLY && (other || c.subject == replica) && (old || c.subject_boot == boot));
         let list = self.list_of(&replies);
         self.driver.call(RECOVER, replica, 0, &list);
     }

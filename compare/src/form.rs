@@ -1,15 +1,12 @@
-//! The form that every call but opening tests (document 01, "Form"; document 02, #104: the steps too, #105: the heights).
+//! The form that every call but opening tests (document 01, "Form"; document 02, #104: the steps too, #105: the heights,
+//! #107: the boot of a certificate's signer).
 
 use crate::block::{self, block_slots, Block};
-use crate::certificate::{certificate_word, FIRST_KIND, LAST_KIND};
+use crate::certificate::{certificate_word, FIRST_KIND, LAST_KIND, REQ};
+use crate::log::{self, log_slots};
 use crate::memory::*;
 use crate::mistake::{Mistake, Rules};
 use crate::steps::{self, Steps};
-
-/// A log of this many words: whole slots, and not too many.
-pub fn log_length_fits(words: usize) -> bool {
-    words.is_multiple_of(CERTIFICATE_WORDS) && words / CERTIFICATE_WORDS <= MAX_CERTIFICATES
-}
 
 /// Lengths, f, counts, steps, blocks, replicas and certificates are all as the documents say.
 pub fn well_formed<R: Rules>(rules: R, m: &Memory) -> bool {
@@ -23,17 +20,15 @@ pub fn well_formed<R: Rules>(rules: R, m: &Memory) -> bool {
 
 fn lengths_fit<R: Rules>(rules: R, m: &Memory) -> bool {
     let words = m.table.len() as u64;
-    let slots = m.log.len() / CERTIFICATE_WORDS;
     m.table.len() >= HEADER_WORDS
         && (rules.has(Mistake::FormF) || (1..=MAX_F).contains(&m.f()))
         && (words == table_length(m.f()) || rules.has(Mistake::FormTableLonger) && words > table_length(m.f()))
-        && (rules.has(Mistake::FormLogSeven) || m.log.len().is_multiple_of(CERTIFICATE_WORDS))
-        && (rules.has(Mistake::FormLogLong) || slots <= MAX_CERTIFICATES)
+        && log::length_fits(rules, m.log, &log::FORM)
         && block::length_fits(rules, m.blocks, &block::FORM)
 }
 
 fn counts_fit<R: Rules>(rules: R, m: &Memory) -> bool {
-    let slots = m.log.len() / CERTIFICATE_WORDS;
+    let slots = log_slots(m.log);
     let by_words = rules.has(Mistake::FormAddedByWords);
     let most_added = if by_words { m.blocks.len() } else { block_slots(m.blocks) };
     (rules.has(Mistake::FormIssued) || m.issued() as usize <= slots)
@@ -115,7 +110,19 @@ fn certificate_fits<R: Rules>(rules: R, m: &Memory, w: &[u32]) -> bool {
         && (rules.has(Mistake::FormBlock) || w[certificate_word::BLOCK] < m.added())
         && (rules.has(Mistake::FormOfView) || w[certificate_word::OF_VIEW] <= CEILING)
         && (rules.has(Mistake::FormSubject) || w[certificate_word::SUBJECT] < m.replicas())
-        && (rules.has(Mistake::FormCertificateBoot) || w[certificate_word::BOOT] <= CEILING)
+        && (rules.has(Mistake::FormSubjectBoot) || w[certificate_word::SUBJECT_BOOT] <= CEILING)
+        && signer_boot_fits(rules, m, w)
+}
+
+/// "The form test bounds the new word at 1,000,000", and no more is asked of it.
+fn signer_boot_fits<R: Rules>(rules: R, m: &Memory, w: &[u32]) -> bool {
+    let boot = w[certificate_word::SIGNER_BOOT];
+    let (past, strict) = (rules.has(Mistake::FormSignerBootPast), rules.has(Mistake::FormSignerBootStrict));
+    let most = CEILING + u32::from(past) - u32::from(strict);
+    let asks_subjects = rules.has(Mistake::FormReqBoots) && w[certificate_word::KIND] == REQ;
+    (boot <= most || rules.has(Mistake::FormSignerBoot))
+        && (!rules.has(Mistake::FormSignerBootReached) || boot <= m.replica(w[certificate_word::SIGNER]).boot)
+        && (!asks_subjects || boot == w[certificate_word::SUBJECT_BOOT])
 }
 
 fn kind_fits<R: Rules>(rules: R, kind: u32) -> bool {

@@ -1,5 +1,5 @@
 //! An independent second implementation of the yard ledger's checker and of the netting of movements, written from
-//! document 01 and document 02's #101 to #105 alone.
+//! document 01 and document 02's #101 to #107 alone.
 //!
 //! Simple before clever: each call looks for its refusal in the order of document 01's table, changes nothing if it
 //! finds one, and otherwise applies the change. Every call is total on any memory.
@@ -20,6 +20,7 @@ pub mod generate;
 pub mod host;
 pub mod hunt;
 pub mod leader;
+pub mod log;
 pub mod memory;
 pub mod mistake;
 pub mod netting;

@@ -1,5 +1,5 @@
 //! The three lent slices and a replica's words (document 01, "Memory"), the table with the counter's steps (document 02,
-//! #104), where a block has its words (#105) and a movement (#101).
+//! #104), a certificate's words (#107), where a block has its words (#105) and a movement (#101).
 
 /// Views, boots and the counter never pass this.
 pub const CEILING: u32 = 1_000_000;
@@ -7,13 +7,14 @@ pub const MAX_F: u32 = 30;
 pub const MAX_REPLICAS: u32 = replica_count(MAX_F);
 /// Most slots of the certificate log.
 pub const MAX_CERTIFICATES: usize = 4096;
+pub const MAX_LOG_WORDS: usize = CERTIFICATE_WORDS * MAX_CERTIFICATES;
 /// Most slots of the blocks.
 pub const MAX_BLOCKS: usize = 4096;
 pub const MAX_BLOCK_WORDS: usize = BLOCK_WORDS * MAX_BLOCKS;
 pub const HEADER_WORDS: usize = 3;
 pub const STEP_WORDS: usize = 8;
 pub const REPLICA_WORDS: usize = 9;
-pub const CERTIFICATE_WORDS: usize = 7;
+pub const CERTIFICATE_WORDS: usize = 8;
 pub const BLOCK_WORDS: usize = 2;
 pub const MOVEMENT_WORDS: usize = 4;
 /// Most movements that may be lent.

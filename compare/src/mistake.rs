@@ -176,6 +176,10 @@ mistakes! {
     OpenBlocksOdd "open-blocks-odd" "opening takes blocks of an odd number of words" "it is wrong form: nothing is accepted any more";
     OpenBlocksLong "open-blocks-long" "opening takes blocks of too many slots" "they are wrong form: nothing is accepted any more";
     OpenBlocksByWords "open-blocks-by-words" "opening counts slots by words: 4,098 and more are too many" "refuses more";
+    OpenLogBroken "open-log-broken" "opening takes a log of any length" "it is wrong form: nothing is accepted any more";
+    OpenLogLong "open-log-long" "opening takes a log of too many slots" "it is wrong form: nothing is accepted any more";
+    OpenLogOfSeven "open-log-of-seven" "opening asks for a log of whole slots of seven words" "another is wrong form: nothing is accepted any more";
+    OpenLogMostOfSeven "open-log-most-of-seven" "opening refuses a log of more than 28,672 words" "refuses more";
     FoundLastEqual "found-last-equal" "of several equal certificates the last one's number is given" "no list of calls makes two equal ones";
     FoundChangesNothing "found-changes-nothing" "a call that finds its certificate leaves its replica's words" "where a list of calls finds one, its replica's words stay in any case";
     // Found or added.
@@ -192,11 +196,51 @@ mistakes! {
     FoundNeverFull "found-never-full" "a certificate found in a full log is told as added" "only a value shows it: agreement goes by blocks and views";
     FoundByLaterCount "found-by-later-count" "found or added goes by the count after filing: the last certificate, found, is told as added" "only a value shows it: agreement goes by blocks and views";
     FoundByWords "found-by-words" "found or added goes by the log's words: a certificate added where its words stood already is told as found" "only a value shows it: agreement goes by blocks and views";
+    // The boots in a certificate.
+    SignerBootZero "signer-boot-zero" "the signer's boot in a certificate is 0" "no call reads the word";
+    PropBootZero "prop-boot-zero" "the signer's boot in a PROP is 0" "no call reads the word";
+    CommitBootZero "commit-boot-zero" "the signer's boot in a COMMIT is 0" "no call reads the word";
+    NewviewBootZero "newview-boot-zero" "the signer's boot in a NEWVIEW is 0" "no call reads the word";
+    AccBootZero "acc-boot-zero" "the signer's boot in an ACC is 0" "no call reads the word";
+    ReqBootZero "req-boot-zero" "the signer's boot in a REQ is 0" "no call reads the word";
+    ReplyBootZero "reply-boot-zero" "the signer's boot in a REPLY is 0" "no call reads the word";
+    SignerBootSubjects "signer-boot-subjects" "the subject's boot stands in place of the signer's" "no call reads the word";
+    SignerBootNext "signer-boot-next" "the signer's boot in a certificate is one too many" "no call reads the word";
+    SignerBootBefore "signer-boot-before" "the signer's boot in a certificate is one too few" "no call reads the word";
+    SignerBootCapped "signer-boot-capped" "the signer's boot in a certificate is at most 7, as for steps" "no call reads the word";
+    SignerBootLeft "signer-boot-left" "filing leaves the word of the signer's boot" "no call reads the word, or it is wrong form: nothing is accepted any more";
+    BootsSwapped "boots-swapped" "the signer's boot stands before the subject's" "a REPLY's view gives the subject's boot, too";
+    RequestNoSubjectBoot "request-no-subject-boot" "the subject's boot in a REQ is 0" "a REPLY's view gives the subject's boot, too";
+    ReplyOwnSubjectBoot "reply-own-subject-boot" "the subject's boot in a REPLY is the replier's" "a REPLY's view gives the subject's boot, too";
+    ReplyTakesSignerBoot "reply-takes-signer-boot" "the subject's boot in a REPLY is the signer's boot of the REQ" "in a list of calls both boots of a REQ are equal";
+    RecoverSignerBoot "recover-signer-boot" "recover asks that the replies' signers' boot is its own" "a REPLY's view gives the subject's boot, too";
+    EqualInSeven "equal-in-seven" "a certificate of another boot of its signer is found" "what is found says the same";
+    AccEqualInSeven "acc-equal-in-seven" "an ACC of another boot of its signer is found" "what is found says the same";
+    ReplyEqualInSeven "reply-equal-in-seven" "a REPLY of another boot of its signer is found" "what is found says the same";
+    FullEqualInSeven "full-equal-in-seven" "in a full log a certificate of another boot of its signer is found" "what is found says the same";
+    EqualFirstOfSeven "equal-first-of-seven" "of those that differ in the signer's boot alone only the first can be found" "a copy says nothing new";
+    EqualLaterBoot "equal-later-boot" "a certificate of a later boot of its signer is found" "no list of calls issues one of a later boot";
+    EqualAnySubjectBoot "equal-any-subject-boot" "a certificate of another boot of its subject is found" "no list of calls makes two that differ in it alone";
+    PrepareEarlierAcc "prepare-earlier-acc" "prepare refuses an ACC of an earlier boot" "refuses more";
+    PrepareLaterAcc "prepare-later-acc" "prepare refuses an ACC of a later boot" "refuses more";
+    StorePresentBoot "store-present-boot" "store refuses a PROP whose signer has been cut since" "refuses more";
+    ReplyPresentBoot "reply-present-boot" "reply refuses a REQ whose signer has been cut since" "refuses more";
+    CommitsPresentBoot "commits-present-boot" "a commit quorum may hold none whose signer has been cut since" "refuses more";
+    AccumulatePresentBoot "accumulate-present-boot" "accumulate refuses a NEWVIEW whose signer has been cut since" "refuses more";
+    RecoverPresentBoot "recover-present-boot" "recover refuses a REPLY whose signer has been cut since" "refuses more";
+    CommitsOneBoot "commits-one-boot" "a commit quorum must be of one boot" "refuses more";
+    AccumulateOneBoot "accumulate-one-boot" "accumulate asks for NEWVIEWs of one boot" "refuses more";
+    RecoverOneBoot "recover-one-boot" "recover asks for REPLYs of one boot" "refuses more";
+    CommitsByBoot "commits-by-boot" "a commit quorum may name one signer twice, of two boots" "no replica commits twice in a view: a cut leaves it above";
+    AccumulateByBoot "accumulate-by-boot" "accumulate takes one signer's messages of two boots for two" "no replica promises a view in two boots: a cut leaves it above";
+    RecoverByBoot "recover-by-boot" "recover takes one signer's replies of two boots for two" "between the two that signer recovered, at no lower a view: its later reply tells what a quorum would";
     // Form: each line drops one test or part of it, but for those that refuse more. Some tests have no line, since others imply them: at least one block
     // (a replica's stored block is added), 1 <= min_view (the stored view is below it), that no block is its own parent (its height would be above itself),
     // and that heights do not wrap round (they count the blocks up from block 0).
     FormTableLonger "form-table-longer" "a longer table has sound form" "no list of calls reaches it";
-    FormLogSeven "form-log-seven" "a log of any length has sound form" "no list of calls reaches it";
+    FormLogBroken "form-log-broken" "a log of any length has sound form" "no list of calls reaches it";
+    FormLogOfSeven "form-log-of-seven" "a log must be of whole slots of seven words" "in a list of calls it only refuses more";
+    FormLogMostOfSeven "form-log-most-of-seven" "a log of more than 28,672 words is wrong form" "refuses more";
     FormLogLong "form-log-long" "a log of too many slots has sound form" "no list of calls reaches it";
     FormBlocksLong "form-blocks-long" "blocks of too many slots have sound form" "no list of calls reaches it";
     FormBlocksOdd "form-blocks-odd" "blocks of an odd number of words have sound form" "no list of calls reaches it";
@@ -243,7 +287,12 @@ mistakes! {
     FormBlock "form-block" "a certificate's block is not tested" "no list of calls reaches it";
     FormOfView "form-of-view" "a certificate's of-view is not tested" "no list of calls reaches it";
     FormSubject "form-subject" "a certificate's subject is not tested" "no list of calls reaches it";
-    FormCertificateBoot "form-certificate-boot" "a certificate's boot is not tested" "no list of calls reaches it";
+    FormSubjectBoot "form-subject-boot" "the subject's boot in a certificate is not tested" "no list of calls reaches it";
+    FormSignerBoot "form-signer-boot" "the signer's boot in a certificate is not tested" "no list of calls reaches it";
+    FormSignerBootPast "form-signer-boot-past" "a signer's boot of 1,000,001 has sound form" "no list of calls reaches it";
+    FormSignerBootStrict "form-signer-boot-strict" "a signer's boot of 1,000,000 is wrong form" "refuses more";
+    FormSignerBootReached "form-signer-boot-reached" "a signer's boot above the one that it has reached is wrong form" "refuses more";
+    FormReqBoots "form-req-boots" "a REQ whose two boots differ is wrong form" "refuses more";
     FormLastCertificate "form-last-certificate" "the last certificate is not tested" "no list of calls reaches it";
     // Netting.
     NettingSwapped "netting-swapped" "giver and taker stand for one another" "no call: netting changes no word";

@@ -2,7 +2,7 @@
 //! writes the record of block 0 alone (#105).
 
 use crate::block::{self, Block};
-use crate::form::log_length_fits;
+use crate::log;
 use crate::memory::*;
 use crate::mistake::{Mistake, Rules};
 use crate::refusal::*;
@@ -25,7 +25,7 @@ pub fn open<R: Rules>(rules: R, m: &mut Memory, f: u32, list: &[u32]) -> Answer 
 
 fn lengths_fit<R: Rules>(rules: R, m: &Memory, f: u32) -> bool {
     m.table.len() as u64 == table_length(f)
-        && log_length_fits(m.log.len())
+        && log::length_fits(rules, m.log, &log::OPENING)
         && block::length_fits(rules, m.blocks, &block::OPENING)
 }
 

@@ -4,6 +4,7 @@ use crate::certificate::{Certificate, REPLY, REQ};
 use crate::form::well_formed;
 use crate::memory::*;
 use crate::mistake::{Mistake, Rules};
+use crate::quorum::OF_REPLIES;
 use crate::refusal::*;
 
 pub fn reboot<R: Rules>(rules: R, m: &mut Memory, replica: u32) -> Answer {
@@ -70,7 +71,7 @@ pub fn request<R: Rules>(rules: R, m: &mut Memory, replica: u32) -> Answer {
         signer: replica,
         view: r.min_view,
         subject: replica,
-        boot: r.boot,
+        subject_boot: if rules.has(Mistake::RequestNoSubjectBoot) { 0 } else { r.boot },
         ..Certificate::default()
     };
     m.issue(rules, req, r)
@@ -86,6 +87,7 @@ pub fn reply<R: Rules>(rules: R, m: &mut Memory, replica: u32, number: u32) -> A
     let req = m.certificate(number);
     need(req.kind == REQ, WRONG_CERTIFICATE)?;
     need(req.signer != replica || rules.has(Mistake::ReplySelf), WRONG_CERTIFICATE)?;
+    need(!rules.has(Mistake::ReplyPresentBoot) || m.is_of_present_boot(req), WRONG_CERTIFICATE)?;
     let equal = !rules.has(Mistake::ReplyLimitStrict) && req.view == r.view_limit;
     need(req.view < r.view_limit || equal || rules.has(Mistake::ReplyNoLimit), COUNTER_LIMIT)?;
     let reply = Certificate {
@@ -95,7 +97,12 @@ pub fn reply<R: Rules>(rules: R, m: &mut Memory, replica: u32, number: u32) -> A
         block: r.stored_block,
         of_view: r.stored_view,
         subject: req.signer,
-        boot: req.boot,
+        subject_boot: match r.boot {
+            boot if rules.has(Mistake::ReplyOwnSubjectBoot) => boot,
+            _ if rules.has(Mistake::ReplyTakesSignerBoot) => req.signer_boot,
+            _ => req.subject_boot,
+        },
+        ..Certificate::default()
     };
     m.issue(rules, reply, after_reply(rules, r, req.view))
 }
@@ -114,13 +121,14 @@ fn after_reply<R: Rules>(rules: R, old: Replica, view: u32) -> Replica {
     r
 }
 
-/// A reply that recover may take: of this subject and boot, of its min_view, not of its own signing.
+/// A reply that recover may take: of this subject and its boot, of its min_view, not of its own signing.
 fn takes<R: Rules>(rules: R, replica: u32, r: Replica, c: Certificate) -> bool {
     let any_boot = rules.has(Mistake::RecoverEarlierBoot) || rules.has(Mistake::RecoverIgnoresBoot);
     let any_view = rules.has(Mistake::RecoverEarlierBoot) || rules.has(Mistake::RecoverIgnoresView);
+    let boot = if rules.has(Mistake::RecoverSignerBoot) { c.signer_boot } else { c.subject_boot };
     c.kind == REPLY
         && (c.subject == replica || rules.has(Mistake::RecoverOtherSubject))
-        && (c.boot == r.boot || any_boot)
+        && (boot == r.boot || any_boot)
         && (c.view == r.min_view || any_view)
         && (c.signer != replica || rules.has(Mistake::RecoverTakesOwn))
 }
@@ -131,8 +139,8 @@ pub fn recover<R: Rules>(rules: R, m: &mut Memory, replica: u32, list: &[u32]) -
     need(m.all_issued(list), UNKNOWN_NUMBER)?;
     let mut r = m.replica(replica);
     need(r.status == RECOVERING, WRONG_STATUS)?;
-    let different = rules.has(Mistake::RecoverSignerTwice) || m.different_signers(list);
-    need(m.all(list, |c| takes(rules, replica, r, c)) && different, WRONG_CERTIFICATE)?;
+    need(m.all(list, |c| takes(rules, replica, r, c)), WRONG_CERTIFICATE)?;
+    need(m.signers_fit(rules, list, &OF_REPLIES), WRONG_CERTIFICATE)?;
     let heeded = if rules.has(Mistake::RecoverFirstReply) { &list[..1] } else { list };
     let latest = m.greatest(heeded, rules.has(Mistake::RecoverTieLast));
     let raised = latest.of_view.saturating_add(1);

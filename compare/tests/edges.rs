@@ -114,7 +114,7 @@ fn opening_tests_f_before_lengths() {
 #[test]
 fn lengths() {
     let lent =
-        [(0, 2, 0), (7 * 4096, 8192, 0), (7 * 4097, 2, 1), (6, 2, 1), (0, 0, 1), (0, 1, 1), (0, 3, 1), (0, 8194, 1)];
+        [(0, 2, 0), (8 * 4096, 8192, 0), (8 * 4097, 2, 1), (7, 2, 1), (0, 0, 1), (0, 1, 1), (0, 3, 1), (0, 8194, 1)];
     for (log, blocks, answer) in lent {
         let mut yard = Yard { table: vec![7; 11 + 9 * 3], log: vec![7; log], blocks: vec![7; blocks] };
         assert_eq!(yard.call(0, 1, 0, &[]).0, answer, "{log} words of log, {blocks} of blocks");
@@ -220,7 +220,7 @@ fn an_opening_leaves_nothing_to_find() {
         let rows = [(0, 1, 0, &[][..], (0, 3, 0)), (5, 0, 1, &[], (0, 0, 0)), (5, 0, 1, &[], (0, 0, 1))];
         yard.rows(&rows);
     }
-    assert_eq!(yard.log[..8], [3, 0, 1, 0, 0, 0, 0, 9]);
+    assert_eq!(yard.log[..9], [3, 0, 1, 0, 0, 0, 0, 0, 9]);
 }
 
 #[test]
@@ -260,7 +260,7 @@ fn a_store_finds_its_certificate_where_the_lowest_view_is_set_back_by_hand() {
 fn of_two_equal_certificates_the_first_is_found() {
     let mut yard = Yard::new(1);
     yard.rows(&[(5, 1, 1, &[], (0, 0, 0)), (5, 0, 1, &[], (0, 1, 0)), (5, 2, 1, &[], (0, 2, 0))]);
-    yard.log.copy_within(7..14, 14);
+    yard.log.copy_within(8..16, 16);
     yard.rows(&[(5, 0, 1, &[], (0, 1, 1)), (5, 2, 1, &[], (0, 3, 0))]);
 }
 

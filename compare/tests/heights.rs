@@ -254,7 +254,7 @@ fn kept_heights_are_steps_to_block_0() {
 fn prepare_goes_by_the_parent() {
     // Blocks 1 and 2 are on block 0, block 3 on 1, block 4 on 2; an ACC of box 0 in view 1 names block 1.
     let mut driver = ledger(&[[0, 0], [0, 1], [0, 1], [1, 2], [2, 2]], 5);
-    driver.log[..7].copy_from_slice(&[4, 0, 1, 1, 0, 0, 0]);
+    driver.log[..8].copy_from_slice(&[4, 0, 1, 1, 0, 0, 0, 0]);
     driver.table[1] = 1;
     for block in [0, 1, 2, 4] {
         refused(&mut driver, 6, 2, 0, block, &[0]);

@@ -25,7 +25,7 @@ fn ledger(f: u32) -> Driver<Correct> {
 /// Puts a certificate into the log by hand; its number.
 fn put(driver: &mut Driver<Correct>, kind: u32, signer: u32, view: u32, block: u32) -> u32 {
     let number = driver.table[1];
-    driver.log[7 * number as usize..][..7].copy_from_slice(&[kind, signer, view, block, 0, 0, 0]);
+    driver.log[8 * number as usize..][..8].copy_from_slice(&[kind, signer, view, block, 0, 0, 0, 0]);
     driver.table[1] += 1;
     number
 }
@@ -146,7 +146,7 @@ fn on_commits_of_view_0_box_0_proposes() {
         refused(&mut driver, 6, 3, 0, 0, &commits);
         refused(&mut driver, 6, 3, 0, 1, &commits);
         assert_eq!(given(&mut driver, 3, 0, 2, &commits), (0, f + 1, 0));
-        assert_eq!(driver.log[7 * (f as usize + 1)..][..7], [PROP, 0, 1, 2, 0, 0, 0]);
+        assert_eq!(driver.log[8 * (f as usize + 1)..][..8], [PROP, 0, 1, 2, 0, 0, 0, 0]);
         assert_eq!(given(&mut driver, 4, n - 1, f + 1, &[]), (0, f + 2, 0));
     }
 }

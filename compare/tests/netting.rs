@@ -158,7 +158,7 @@ fn the_lowest_refusal_wins() {
 fn any_memory_of_wrong_form() {
     let good = ledger(1, &[0]);
     let lengths =
-        [(0, 28, 16), (2, 28, 16), (37, 28, 16), (39, 28, 16), (38, 27, 16), (38, 28, 0), (38, 28, 2), (38, 28, 15)];
+        [(0, 32, 16), (2, 32, 16), (37, 32, 16), (39, 32, 16), (38, 31, 16), (38, 32, 0), (38, 32, 2), (38, 32, 15)];
     for (table, log, blocks) in lengths {
         let mut driver = ledger(1, &[0]);
         driver.table.resize(table, 0);
@@ -166,7 +166,7 @@ fn any_memory_of_wrong_form() {
         driver.blocks.resize(blocks, 0);
         assert_eq!(net(&mut driver, &[[1, 0, 1, 5]], 1, 1), Err(1), "{table} {log} {blocks}");
     }
-    assert_eq!((good.table.len(), good.log.len(), good.blocks.len()), (38, 28, 16));
+    assert_eq!((good.table.len(), good.log.len(), good.blocks.len()), (38, 32, 16));
 }
 
 /// Damaged memories and lists, with each mistake: no netting goes past a slice or a number's end.

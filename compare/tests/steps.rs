@@ -56,7 +56,7 @@ fn the_log_and_the_other_blocks_are_not_touched() {
     driver.log.fill(9);
     driver.blocks.fill(9);
     assert_eq!(given(&mut driver, 0, 1, 0, &DOUBLED), (0, 3, 0));
-    assert_eq!((driver.log, driver.blocks), (vec![9; 14], vec![0, 0, 9, 9]));
+    assert_eq!((driver.log, driver.blocks), (vec![9; 16], vec![0, 0, 9, 9]));
 }
 
 #[test]
@@ -101,7 +101,7 @@ fn eight_or_none() {
 #[test]
 fn openings_refusals_are_2_then_12_then_1() {
     let wrong = with(0, 0, TENS);
-    for (table, log, blocks) in [(37, 14, 4), (38, 13, 4), (38, 14, 0), (38, 14, 3), (0, 0, 0), (30, 14, 4)] {
+    for (table, log, blocks) in [(37, 16, 4), (38, 15, 4), (38, 16, 0), (38, 16, 3), (0, 0, 0), (30, 16, 4)] {
         let mut driver = Driver::open(Correct, 1, 2, 2);
         driver.table.resize(table, 9);
         driver.log.resize(log, 9);

@@ -22,7 +22,7 @@ const AT_FIRST: u32 = 0;
 const AT_LAST: u32 = 1;
 
 /// The greatest f, a full log and all blocks in a chain, of sound form.
-fn full_memory() -> Sample {
+pub fn full_memory() -> Sample {
     let mut driver = Driver::open(Correct, MAX_F, CERTIFICATE_SLOTS, BLOCK_SLOTS);
     for block in 0..BLOCK_SLOTS as u32 - 1 {
         driver.call(BLOCK, 0, block, &[]);
@@ -36,7 +36,7 @@ fn full_memory() -> Sample {
     sample
 }
 
-fn with_library<'a>(library: &'a Library<Correct>, firmware: Option<&'a dyn Checker>) -> Vec<Named<'a>> {
+pub fn with_library<'a>(library: &'a Library<Correct>, firmware: Option<&'a dyn Checker>) -> Vec<Named<'a>> {
     let mut checkers: Vec<Named> = vec![("library", library)];
     checkers.extend(firmware.map(|firmware| ("firmware", firmware)));
     checkers
@@ -49,13 +49,14 @@ fn sum<const START: u32>(words: &[u32]) -> u32 {
 }
 
 /// Where the machine code of so short a loop happens to stand can double its time: the best of eight is by what the others are measured.
-fn bare_sum(sample: &Sample, calls: usize, runs: u64) -> Result<f64, std::io::Error> {
+pub fn bare_sum(slices: &[&[u32]], calls: usize, runs: u64) -> Result<f64, std::io::Error> {
     let copies = [sum::<0>, sum::<1>, sum::<2>, sum::<3>, sum::<4>, sum::<5>, sum::<6>, sum::<7>];
     let mut least = f64::INFINITY;
     for copy in copies {
         let bare = || {
-            let Sample { table, log, blocks, .. } = black_box(sample);
-            black_box([copy(table), copy(log), copy(blocks)]);
+            for slice in black_box(slices) {
+                black_box(copy(slice));
+            }
         };
         least = least.min(best_own(bare, calls, runs)?);
     }
@@ -70,7 +71,7 @@ pub fn times(
 ) -> Result<Vec<(&'static str, f64)>, std::io::Error> {
     let mut sample = full_memory();
     let each = |seconds: f64| seconds * 1e6 / calls as f64;
-    let mut times = vec![("bare sum", each(bare_sum(&sample, calls, runs)?))];
+    let mut times = vec![("bare sum", each(bare_sum(&[&sample.table, &sample.log, &sample.blocks], calls, runs)?))];
     for (name, checker) in with_library(&Library(Correct), firmware) {
         let panel = || {
             black_box(checker.panel(black_box(&mut sample), AT_FIRST));

@@ -1,4 +1,4 @@
-//! The benchmark's scripts, timing, tables and plot, the form test beside a bare sum and a panel, and nettings.
+//! The benchmark's scripts, timing, tables and plot, the form test beside a bare sum and a panel, the search, and nettings.
 
 pub mod fit;
 pub mod form_test;
@@ -6,6 +6,7 @@ pub mod inputs;
 pub mod machine;
 pub mod netting;
 pub mod plot;
+pub mod search;
 pub mod tables;
 pub mod timing;
 

@@ -50,6 +50,7 @@ fn work(options: &Options) -> Result<(), String> {
         ("growth", growth),
         ("fit", fit(&series)),
         ("form", bench.form(firmware())?),
+        ("search", bench.search(firmware())?),
         ("panel", bench.panel(firmware())?),
         ("netting", netting),
         ("steps", steps),

@@ -1,7 +1,8 @@
 //! `compare`: two programs on generated scripts, the firmware and the library on random memories and nettings, the
 //! firmware and Rust's own formatting on numbers.
 //!
-//! compare --yard PATH --second PATH [--scenarios DIR] [--seconds N] [--seed N]   scripts, byte for byte
+//! compare --yard PATH --second PATH [--scenarios DIR] [--seconds N | --scripts N] [--seed N]   scripts, byte for byte
+//!         --once-across-cuts                    without those that ask for a certificate again after its signer's cut
 //! compare --memories [--seconds N] [--seed N]   memories: the firmware (feature `firmware`), else the library itself
 //! compare --nettings [--seconds N] [--seed N]   lists of movements on memories, the same two
 //! compare --numbers                             every number from 0 to 99,999,999 and some thousands above, written and read again
@@ -12,6 +13,7 @@
 //! compare --script SEED                         prints the script of a seed
 
 use judge::comparison::checkers::{Checker, Library};
+use judge::comparison::cut_marks::asks_again_after_cut;
 use judge::comparison::mistakes::Most;
 use judge::comparison::nettings::netting_difference;
 use judge::comparison::numbers::{compare_numbers, compare_range, near_edges, EVERY};
@@ -32,13 +34,22 @@ use std::time::{Duration, Instant};
 
 type Run<'a> = &'a dyn Fn(&[u8], Arrival) -> Result<Vec<u8>, String>;
 
+/// The scripts of one seed after the other, so many of them or for so long.
+struct Scripts {
+    seed: u64,
+    count: Option<u64>,
+    time: Duration,
+    /// Without those that ask for a certificate again after its signer's cut.
+    once_across_cuts: bool,
+}
+
 const LIBRARY: &str = "the library";
 const FORMATTING: &str = "Rust's own formatting";
 
 fn main() -> ExitCode {
     let known =
         ["yard", "second", "scenarios", "seconds", "seed", "script", "scripts", "count", "netting-count", "mistake"];
-    let flags = ["memories", "nettings", "numbers", "number-edges", "self", "mistakes", "coverage"];
+    let flags = ["memories", "nettings", "numbers", "number-edges", "self", "mistakes", "coverage", "once-across-cuts"];
     match Options::read(&known, &flags).and_then(|options| work(&options)) {
         Ok(()) => ExitCode::SUCCESS,
         Err(message) => {
@@ -92,13 +103,15 @@ fn compare_programs(options: &Options, seed: u64, time: Duration) -> Result<(), 
         compare_scenarios(directory, &[yard, second])?;
     }
     let run = |program| move |text: &[u8], arrival| output(program, text, arrival);
-    compare_scripts(&run(yard), &run(second), seed, time)
+    let (count, once_across_cuts) = (options.number("scripts"), options.flag("once-across-cuts"));
+    compare_scripts(&run(yard), &run(second), Scripts { seed, count, time, once_across_cuts })
 }
 
 /// The harness alone: what it tells of a mistake, or that it tells nothing without one.
 fn compare_library(mistake: Option<&str>, seed: u64, time: Duration) -> Result<(), String> {
     let rules = mistake.map(|name| Mistake::named(name).ok_or(format!("no mistake {name}"))).transpose()?;
-    let scripts = compare_scripts(&|text, _| Ok(run(rules, text)), &|text, _| Ok(run(Correct, text)), seed, time);
+    let scripts = Scripts { seed, count: None, time, once_across_cuts: false };
+    let scripts = compare_scripts(&|text, _| Ok(run(rules, text)), &|text, _| Ok(run(Correct, text)), scripts);
     let memories = compare_memories(&Library(rules), seed, time);
     let nettings = compare_nettings(&Library(rules), seed, time);
     let numbers = tell_numbers(compare_numbers(&Library(rules), near_edges()));
@@ -118,22 +131,30 @@ fn checker(beside: &str) -> Box<dyn Checker + Sync> {
     Box::new(Library(Correct))
 }
 
-fn compare_scripts(one: Run, other: Run, seed: u64, time: Duration) -> Result<(), String> {
+fn compare_scripts(one: Run, other: Run, scripts: Scripts) -> Result<(), String> {
     let start = Instant::now();
-    let (mut scripts, mut lines) = (0, 0);
-    while scripts == 0 || start.elapsed() < time {
-        let (script, arrival) = (script(seed + scripts), Arrival::of(seed + scripts));
-        let at = |error: String| format!("seed {}: {error}", seed + scripts);
+    let (mut seed, mut compared, mut left_out, mut lines) = (scripts.seed, 0, 0, 0);
+    while compared == 0 || scripts.count.map_or(start.elapsed() < scripts.time, |count| compared < count) {
+        let (script, arrival) = (script(seed), Arrival::of(seed));
+        seed += 1;
+        if scripts.once_across_cuts && asks_again_after_cut(&script.text) {
+            left_out += 1;
+            continue;
+        }
+        let at = |error: String| format!("seed {}: {error}", seed - 1);
         let (left, right) = (one(&script.text, arrival).map_err(at)?, other(&script.text, arrival).map_err(at)?);
         if let Some(line) = first_difference(&left, &right) {
-            println!("seed {} ({}, {arrival:?}): outputs differ at line {line}", seed + scripts, script.sort);
+            println!("seed {} ({}, {arrival:?}): outputs differ at line {line}", seed - 1, script.sort);
             tell_script(&|text| one(text, arrival), &|text| other(text, arrival), &script.text)?;
             return Err("scripts differ".to_string());
         }
-        scripts += 1;
+        compared += 1;
         lines += left.len() / ANSWER_BYTES;
     }
-    println!("{scripts} scripts, {lines} lines, no difference (seeds {seed} to {})", seed + scripts - 1);
+    println!("{compared} scripts, {lines} lines, no difference (seeds {} to {})", scripts.seed, seed - 1);
+    if scripts.once_across_cuts {
+        println!("{left_out} scripts left out: they ask for a certificate again after its signer's cut");
+    }
     Ok(())
 }
 

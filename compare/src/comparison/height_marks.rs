@@ -153,7 +153,7 @@ const PANELS: &[Mark<(u32, u32)>] = &[
 
 impl memory_marks::Seen {
     /// The answer is one that only sound form gets.
-    fn is_sound(&self) -> bool {
+    pub fn is_sound(&self) -> bool {
         self.code() != OPEN && ![WRONG_FORM, UNREADABLE].contains(&self.outcome.answer)
     }
 

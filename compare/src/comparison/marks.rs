@@ -1,5 +1,6 @@
 //! What a script's line can show that the generators are meant to reach.
 
+use super::cut_marks::{self, Issued, Shown};
 use super::{height_marks, step_marks};
 use crate::call::*;
 use crate::certificate::{Certificate, ADDED, FOUND};
@@ -36,6 +37,10 @@ pub struct Seen<'a> {
     pub other_refused: bool,
     /// The block that an accepted block or decide gives.
     pub named: Option<Named>,
+    /// The certificate that it issues, or would issue if the log had room.
+    pub issued: Option<Issued>,
+    /// The certificates that it names.
+    pub shown: Vec<Shown>,
 }
 
 pub struct Named {
@@ -75,19 +80,25 @@ impl<'a> Ledger<'a> {
         self.issued += usize::from(outcome.filed(code) == Some(ADDED));
     }
 
-    fn note_refused_opening(&mut self, program: &mut Program<Correct>, numbers: &[u32], outcome: Outcome) {
+    /// Whether there was one before this line.
+    fn note_refused_opening(&mut self, program: &mut Program<Correct>, numbers: &[u32], outcome: Outcome) -> bool {
+        let before = self.other_refused;
         if let [OPEN, f, ..] = *numbers {
             let other = in_use(program).is_some_and(|memory| memory.f() != f);
             self.other_refused |= other && outcome.answer == WRONG_STEPS;
         }
+        before
     }
 
-    fn proposal(&mut self, program: &mut Program<Correct>, prop: u32) -> Proposal {
+    fn proposal(&mut self, program: &mut Program<Correct>, code: u32, outcome: Outcome) -> Option<Proposal> {
+        if !outcome.is_accepted() || ![PREPARE_ACC, PREPARE_COMMITS].contains(&code) {
+            return None;
+        }
         let memory = program.memory();
-        let Certificate { view, signer: replica, .. } = memory.certificate(prop);
+        let Certificate { view, signer: replica, .. } = memory.certificate(outcome.first);
         let turns = if view == self.last.0 + 1 { self.last.1 + 1 } else { 1 };
         self.last = (view, turns);
-        Proposal { view, replica, n: memory.replicas(), turns }
+        Some(Proposal { view, replica, n: memory.replicas(), turns })
     }
 }
 
@@ -199,13 +210,21 @@ const MARKS: &[Mark] = &[
 /// Every mark's name.
 pub fn names() -> Vec<String> {
     let marks = MARKS.iter().map(|(mark, _)| mark.to_string());
-    marks.chain(step_marks::script_names()).chain(height_marks::script_names()).collect()
+    marks
+        .chain(step_marks::script_names())
+        .chain(height_marks::script_names())
+        .chain(cut_marks::script_names())
+        .collect()
 }
 
 /// In the order of the names.
 pub fn hits(seen: &Seen) -> Vec<bool> {
     let marks = MARKS.iter().map(|(_, holds)| holds(seen));
-    marks.chain(step_marks::script_hits(seen)).chain(height_marks::script_hits(seen)).collect()
+    marks
+        .chain(step_marks::script_hits(seen))
+        .chain(height_marks::script_hits(seen))
+        .chain(cut_marks::script_hits(seen))
+        .collect()
 }
 
 /// Shows every line of a script.
@@ -222,11 +241,11 @@ pub fn seen_lines(script: &[u8], mut show: impl FnMut(Seen)) {
         let code = numbers.first().copied().unwrap_or(NO_NUMBER);
         let replica = numbers.get(1).and_then(|&replica| named_replica(&mut program, replica));
         let (again, full) = (ledger.accepted.contains(text), ledger.issued == CERTIFICATE_SLOTS);
-        let proposes = outcome.is_accepted() && [PREPARE_ACC, PREPARE_COMMITS].contains(&code);
-        let proposal = proposes.then(|| ledger.proposal(&mut program, outcome.first));
+        let proposal = ledger.proposal(&mut program, code, outcome);
         let named = named_block(&mut program, code, outcome);
-        let other_refused = ledger.other_refused;
-        ledger.note_refused_opening(&mut program, &numbers, outcome);
+        let issued = in_use(&mut program).and_then(|memory| Issued::by_line(memory, &numbers, outcome));
+        let shown = in_use(&mut program).map_or(Vec::new(), |memory| Shown::by_line(&memory, &numbers));
+        let other_refused = ledger.note_refused_opening(&mut program, &numbers, outcome);
         show(Seen {
             start,
             text,
@@ -241,6 +260,8 @@ pub fn seen_lines(script: &[u8], mut show: impl FnMut(Seen)) {
             replica,
             other_refused,
             named,
+            issued,
+            shown,
         });
         ledger.note(text, code, outcome);
         start += line.len();

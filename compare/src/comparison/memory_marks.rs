@@ -1,7 +1,7 @@
 //! What a call on a memory can show that the generators are meant to reach: certificates found and added, and leaders,
 //! also as in no list of calls.
 
-use super::{height_marks, step_marks};
+use super::{cut_marks, height_marks, step_marks};
 use crate::call::*;
 use crate::certificate::{Certificate, ADDED, FOUND};
 use crate::driver::Line;
@@ -152,6 +152,7 @@ pub fn names() -> Vec<String> {
     marks
         .chain(step_marks::memory_names())
         .chain(height_marks::memory_names())
+        .chain(cut_marks::memory_names())
         .map(|mark| format!("memory: {mark}"))
         .collect()
 }
@@ -159,5 +160,9 @@ pub fn names() -> Vec<String> {
 /// In the order of the names.
 pub fn hits(seen: &Seen) -> Vec<bool> {
     let marks = MARKS.iter().map(|(_, holds)| holds(seen));
-    marks.chain(step_marks::memory_hits(seen)).chain(height_marks::memory_hits(seen)).collect()
+    marks
+        .chain(step_marks::memory_hits(seen))
+        .chain(height_marks::memory_hits(seen))
+        .chain(cut_marks::memory_hits(seen))
+        .collect()
 }

@@ -74,7 +74,7 @@ pub fn tell(seed: u64, scripts: u64, most: Most) -> bool {
         let by_memory = memory.map_or(other.to_string(), |count| format!("memory {count}"));
         let by_netting = netting.map_or("not seen".to_string(), |count| format!("netting {count}"));
         let by_number = number.map_or("not seen".to_string(), |number| format!("number {number}"));
-        println!("{:26}{by_script:34}{by_memory:18}{by_netting:18}{by_number}", mistake.name());
+        println!("{:26}{by_script:36}{by_memory:18}{by_netting:18}{by_number}", mistake.name());
         let seen = [
             ("scripts", script.is_some()),
             ("memories", memory.is_some()),

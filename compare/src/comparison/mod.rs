@@ -3,6 +3,7 @@
 
 pub mod checkers;
 pub mod coverage;
+pub mod cut_marks;
 #[cfg(feature = "firmware")]
 pub mod firmware;
 pub mod height_marks;

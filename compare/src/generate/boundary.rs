@@ -13,7 +13,7 @@ use crate::script::{BLOCK_SLOTS, CERTIFICATE_SLOTS};
 use crate::steps::Steps;
 
 /// With steps of its own now and then.
-fn explorer(mut random: Random, f: u32) -> Explorer<Correct> {
+pub fn explorer(mut random: Random, f: u32) -> Explorer<Correct> {
     let steps = own_or_none(&mut random);
     explorer_by(random, f, &steps)
 }
@@ -49,7 +49,7 @@ pub fn full_log(mut random: Random, f: u32) -> Vec<Line> {
 
 /// Views of all live replicas in turn, until so many slots are left or none of them can enter one any more; the next
 /// view.
-fn fill_log(driver: &mut Driver<Correct>, left: u32) -> u32 {
+pub fn fill_log(driver: &mut Driver<Correct>, left: u32) -> u32 {
     let most = CERTIFICATE_SLOTS as u32 - left;
     let mut view = (0..driver.n()).map(|replica| driver.replica(replica).min_view).max().unwrap_or(1);
     for _ in 0..=most {

@@ -1,7 +1,8 @@
 //! Random memory of sound form, with garbage past the counts, and one call.
 
+use super::beforehand::issue_beforehand;
 use super::blocks::{any_added, put_blocks};
-use super::perturb::{damage_form, nudge};
+use super::perturb::{damage_form, damage_log_lengths, nudge};
 use super::ready::make_ready;
 use super::steps::{any_list, sound_steps};
 use crate::call::*;
@@ -67,39 +68,10 @@ pub fn sample(seed: u64) -> Sample {
     if sample.line.code == OPEN && random.once_in(4) {
         sample.blocks.fill_with(|| garbage(&mut random));
     }
+    if sample.line.code == OPEN && random.once_in(8) {
+        damage_log_lengths(&mut random, &mut sample);
+    }
     sample
-}
-
-/// Puts the certificate that the call would issue into the log, so that it is found; the replica's words stay. Sometimes
-/// an earlier slot holds it too; sometimes it is not counted, so that it must be added where its words stand already.
-fn issue_beforehand(random: &mut Random, sample: &mut Sample) {
-    let mut after = sample.clone();
-    let outcome = after.run(Correct);
-    if !outcome.is_accepted() || sample.line.code == OPEN {
-        return;
-    }
-    sample.log = after.log;
-    if random.once_in(8) {
-        return;
-    }
-    sample.table[header::ISSUED] = after.table[header::ISSUED];
-    if random.once_in(4) && outcome.filed(sample.line.code).is_some() {
-        copy_earlier(random, sample, outcome.first);
-    }
-    if random.once_in(2) {
-        sample.log.truncate(CERTIFICATE_WORDS * sample.table[header::ISSUED] as usize);
-    }
-}
-
-/// Puts a certificate into an earlier slot too, one that the call does not name.
-fn copy_earlier(random: &mut Random, sample: &mut Sample, number: u32) {
-    let line = &sample.line;
-    let unnamed = |earlier: &u32| line.number != *earlier && !line.list.contains(earlier);
-    let earlier: Vec<u32> = (0..number).filter(unnamed).collect();
-    if !earlier.is_empty() {
-        let certificate = sample.memory().certificate(number);
-        sample.set_certificate(random.pick(&earlier), certificate);
-    }
 }
 
 fn garbage(random: &mut Random) -> u32 {
@@ -116,7 +88,8 @@ pub fn any_view(random: &mut Random) -> u32 {
     }
 }
 
-fn any_boot(random: &mut Random) -> u32 {
+/// Small boots mostly, so that they meet; the last ones too.
+pub fn any_boot(random: &mut Random) -> u32 {
     match random.below(6) {
         0 => random.pick(&[CEILING - 1, CEILING]),
         _ => random.below(10),
@@ -176,7 +149,8 @@ pub fn any_certificate(random: &mut Random, n: u32, added: u32) -> Certificate {
         block: random.below(added),
         of_view: any_view(random),
         subject: random.below(n),
-        boot: any_boot(random),
+        subject_boot: any_boot(random),
+        signer_boot: any_boot(random),
     }
 }
 

@@ -1,8 +1,10 @@
 //! Seeded generators: scripts, memories with one call each, nettings, and the steps that they open with.
 
+pub mod beforehand;
 pub mod blocks;
 pub mod boundary;
 pub mod chunks;
+pub mod cuts;
 pub mod damage;
 pub mod memory;
 pub mod movements;

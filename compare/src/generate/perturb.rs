@@ -6,6 +6,7 @@ use super::steps::broken_steps;
 use crate::block::block_slots;
 use crate::call::{LAST_CODE, MAX_LIST, PREPARE_ACC, REBOOT};
 use crate::certificate::{Certificate, LAST_KIND};
+use crate::log::{log_slots, SHORT_WORDS};
 use crate::memory::*;
 use crate::random::Random;
 use crate::steps::Steps;
@@ -70,7 +71,7 @@ fn nudge_line(random: &mut Random, sample: &mut Sample) {
 
 /// Breaks the form in one word or in a length, mostly by just one too much.
 pub fn damage_form(random: &mut Random, sample: &mut Sample) {
-    match random.below(25) {
+    match random.below(27) {
         0..=5 => damage_certificate(random, sample),
         6..=10 => damage_replica(random, sample),
         11..=16 => damage_blocks(random, sample),
@@ -78,6 +79,7 @@ pub fn damage_form(random: &mut Random, sample: &mut Sample) {
         18 => damage_f(random, sample),
         19..=20 => sample.memory().set_steps(broken_steps(random)),
         21..=22 => damage_block_lengths(random, sample),
+        23..=24 => damage_log_lengths(random, sample),
         _ => damage_lengths(random, sample),
     }
 }
@@ -96,7 +98,8 @@ fn damage_certificate(random: &mut Random, sample: &mut Sample) {
         block: added,
         of_view: CEILING + 1,
         subject: n,
-        boot: CEILING + 1,
+        subject_boot: CEILING + 1,
+        signer_boot: CEILING + 1,
     };
     sample.log[CERTIFICATE_WORDS * number + word] = if random.once_in(6) { u32::MAX } else { past.words()[word] };
 }
@@ -122,7 +125,7 @@ fn damage_replica(random: &mut Random, sample: &mut Sample) {
 }
 
 fn damage_counts(random: &mut Random, sample: &mut Sample) {
-    let slots = (sample.log.len() / CERTIFICATE_WORDS) as u32;
+    let slots = log_slots(&sample.log) as u32;
     match random.below(4) {
         0 => sample.table[header::ISSUED] = slots + 1,
         1 => sample.table[header::ADDED] = random.pick(&[block_slots(&sample.blocks) + 1, sample.blocks.len()]) as u32,
@@ -146,17 +149,30 @@ fn damage_f(random: &mut Random, sample: &mut Sample) {
 }
 
 fn damage_lengths(random: &mut Random, sample: &mut Sample) {
-    match random.below(6) {
+    match random.below(4) {
         // By as many words as the steps take.
         0 if random.once_in(3) => sample.table.truncate(sample.table.len() - STEP_WORDS),
         0 => drop(sample.table.pop()),
         1 => sample.table.push(0),
         2 => sample.table.truncate(random.below(REPLICAS_START as u32 + 1) as usize),
-        3 => sample.log.extend(vec![0; random.within(1, CERTIFICATE_WORDS as u32 - 1) as usize]),
-        4 => drop(sample.log.pop()),
-        5 if random.once_in(4) => {
-            sample.log.resize(CERTIFICATE_WORDS * (MAX_CERTIFICATES + random.below(2) as usize), 0)
-        }
         _ => sample.table.extend([0; REPLICA_WORDS]),
     }
+}
+
+/// Part of a slot too much or too little, one or more slots of seven words, and about as many words as there may be, of
+/// eight or of seven a slot.
+pub fn damage_log_lengths(random: &mut Random, sample: &mut Sample) {
+    let length = sample.log.len() as u32;
+    let part = random.within(1, CERTIFICATE_WORDS as u32 - 1);
+    let by_seven = length.div_ceil(SHORT_WORDS as u32) + random.below(2);
+    let most = random.pick(&[MAX_LOG_WORDS, MAX_LOG_WORDS, SHORT_WORDS * MAX_CERTIFICATES]) as u32;
+    let near = random.pick(&[CERTIFICATE_WORDS as u32, SHORT_WORDS as u32, 1]);
+    let length = match random.below(8) {
+        0..=1 => length + part,
+        2..=3 => length.saturating_sub(part),
+        4..=5 => SHORT_WORDS as u32 * by_seven,
+        6 => SHORT_WORDS as u32,
+        _ => random.pick(&[most - near, most, most + near]),
+    };
+    sample.log.resize(length as usize, 0);
 }

@@ -1,6 +1,6 @@
 //! Makes a memory ready for its call: the certificates it names and its replica's words become acceptable, or nearly.
 
-use super::memory::{any_view, Sample};
+use super::memory::{any_boot, any_view, Sample};
 use crate::call::*;
 use crate::certificate::*;
 use crate::leader::leader;
@@ -61,11 +61,21 @@ fn proposing_at(random: &mut Random, sample: &mut Sample, w: u32) {
     set_caller(sample, r);
 }
 
-/// Different signers in any order.
+/// Different signers in any order; now and then the first of them again, mostly in another boot.
 fn signers(random: &mut Random, sample: &Sample, without: Option<u32>) -> Vec<u32> {
     let mut signers: Vec<u32> = (0..sample.n()).filter(|&signer| Some(signer) != without).collect();
     random.shuffle(&mut signers);
+    if random.once_in(12) {
+        signers[1] = signers[0];
+    }
     signers
+}
+
+/// Puts a certificate into the log, of the boot that its signer has or of any.
+fn put(random: &mut Random, sample: &mut Sample, place: u32, unsigned: Certificate) {
+    let (present, any) = (sample.memory().replica(unsigned.signer).boot, any_boot(random));
+    let signer_boot = random.pick(&[present, any]);
+    sample.set_certificate(place, Certificate { signer_boot, ..unsigned });
 }
 
 /// The view's leader; now and then, and for view 0, which has none, the first replica, the last or any.
@@ -93,7 +103,7 @@ fn ready_for_acc(random: &mut Random, sample: &mut Sample, place: u32) {
     sample.line.replica = proposer(random, sample.n(), view);
     let of_view = any_view(random);
     let acc = Certificate { kind: ACC, signer: sample.line.replica, view, block, of_view, ..Certificate::default() };
-    sample.set_certificate(place, acc);
+    put(random, sample, place, acc);
     sample.line.list = vec![place];
     sample.line.number = child(random, sample, block);
     proposing_at(random, sample, view);
@@ -103,7 +113,7 @@ fn ready_for_commits(random: &mut Random, sample: &mut Sample, places: Vec<u32>)
     let (view, block) = (any_view(random), random.below(sample.table[header::ADDED]));
     let signers = signers(random, sample, None);
     for (&place, &signer) in places.iter().zip(&signers) {
-        sample.set_certificate(place, Certificate { kind: COMMIT, signer, view, block, ..Certificate::default() });
+        put(random, sample, place, Certificate { kind: COMMIT, signer, view, block, ..Certificate::default() });
     }
     sample.line.list = places;
     if sample.line.code == PREPARE_COMMITS {
@@ -120,7 +130,7 @@ fn ready_for_commits(random: &mut Random, sample: &mut Sample, places: Vec<u32>)
 fn ready_for_store(random: &mut Random, sample: &mut Sample, place: u32) {
     let (view, block) = (any_view(random), random.below(sample.table[header::ADDED]));
     let signer = proposer(random, sample.n(), view);
-    sample.set_certificate(place, Certificate { kind: PROP, signer, view, block, ..Certificate::default() });
+    put(random, sample, place, Certificate { kind: PROP, signer, view, block, ..Certificate::default() });
     sample.line.number = place;
     let above = u32::from(random.once_in(8));
     let below = random.pick(&[0, 0, 1, 2]);
@@ -142,7 +152,7 @@ fn ready_for_accumulate(random: &mut Random, sample: &mut Sample, places: Vec<u3
     for (&place, &signer) in places.iter().zip(&signers) {
         let (block, of_view) = (random.below(sample.table[header::ADDED]), random.below(4));
         let promise = Certificate { kind: NEWVIEW, signer, view, block, of_view, ..Certificate::default() };
-        sample.set_certificate(place, promise);
+        put(random, sample, place, promise);
     }
     sample.line.list = places;
     let mut r = caller(sample);
@@ -168,9 +178,14 @@ fn ready_for_step(random: &mut Random, sample: &mut Sample) {
 fn ready_for_reply(random: &mut Random, sample: &mut Sample, place: u32) {
     let view = any_view(random);
     let signer = signers(random, sample, Some(sample.line.replica))[0];
-    let boot = random.below(4);
+    let subject_boot = random.below(4);
     let subject = if random.once_in(4) { random.below(sample.n()) } else { signer };
-    sample.set_certificate(place, Certificate { kind: REQ, signer, view, subject, boot, ..Certificate::default() });
+    put(
+        random,
+        sample,
+        place,
+        Certificate { kind: REQ, signer, view, subject, subject_boot, ..Certificate::default() },
+    );
     sample.line.number = place;
     let mut r = caller(sample);
     r.status = LIVE;
@@ -188,8 +203,9 @@ fn ready_for_recover(random: &mut Random, sample: &mut Sample, places: Vec<u32>)
     let around = random.pick(&[0, r.min_view.saturating_sub(2)]);
     for (&place, &signer) in places.iter().zip(&signers) {
         let (block, of_view) = (random.below(sample.table[header::ADDED]), (around + random.below(4)).min(CEILING));
-        let (view, boot, subject) = (r.min_view, r.boot, sample.line.replica);
-        sample.set_certificate(place, Certificate { kind: REPLY, signer, view, block, of_view, subject, boot });
+        let (view, subject_boot, subject) = (r.min_view, r.boot, sample.line.replica);
+        let reply = Certificate { kind: REPLY, signer, view, block, of_view, subject, subject_boot, signer_boot: 0 };
+        put(random, sample, place, reply);
     }
     sample.line.list = places;
     r.status = RECOVERING;

@@ -2,6 +2,7 @@
 
 use super::boundary::*;
 use super::chunks::over_chunk_ends;
+use super::cuts::made_again;
 use super::damage::damaged;
 use super::progress::progress;
 use super::steps::own_or_none;
@@ -31,6 +32,7 @@ pub const SORTS: &[&str] = &[
     "counter by reserves",
     "counter by large steps",
     "limits in every view",
+    "made again after cuts",
     "chunk ends",
     "damaged text",
 ];
@@ -41,7 +43,7 @@ pub fn script(seed: u64) -> Script {
     let part = Random::new(random.bits());
     let f = any_f(&mut random);
     let steps = own_or_none(&mut random);
-    let (sort, lines) = match random.below(68) {
+    let (sort, lines) = match random.below(72) {
         0..=7 => ("progress", progress(part, f, &steps, 600, false)),
         8..=20 => ("disturbed progress", progress(part, f, &steps, 600, true)),
         21..=28 => ("hostile", hostile(part, f)),
@@ -55,6 +57,8 @@ pub fn script(seed: u64) -> Script {
         54..=57 => ("chunk ends", progress(part, random.pick(&[1, MAX_F]), &steps, 300, true)),
         58..=59 => ("counter by large steps", counter_by_large_steps(part, f)),
         60..=61 => ("limits in every view", limits_in_every_view(part, f)),
+        62 => ("made again after cuts", made_again(part, f.min(2), true)),
+        63..=65 => ("made again after cuts", made_again(part, f, false)),
         _ => ("damaged text", hostile(part, f)),
     };
     let plain = script_text(&lines);

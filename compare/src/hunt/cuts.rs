@@ -26,6 +26,24 @@ impl Attack {
         self.second_decision(&quorum)
     }
 
+    /// The hinge is shown the late ones' replies alone: one of them replies, is cut, recovers and replies again. With f = 1
+    /// that one cannot recover, as the hinge does not reply.
+    pub fn one_replier_in_two_boots(&mut self) -> Option<()> {
+        self.first_decision(1)?;
+        self.driver.accepted(REBOOT, self.hinge, 0, &[])?;
+        let req = self.driver.accepted(REQUEST, self.hinge, 0, &[])?;
+        let mut replies = self.driver.replies(req, &self.late.clone())?;
+        let twice = self.random.pick(&self.late);
+        let others: Vec<u32> = self.late.iter().chain(&self.early).copied().filter(|&other| other != twice).collect();
+        let repliers = others.get(..replies.len() + 1)?;
+        self.driver.accepted(REBOOT, twice, 0, &[])?;
+        self.driver.restore(twice, repliers)?;
+        replies.extend(self.driver.replies(req, &[twice])?);
+        self.driver.accepted(RECOVER, self.hinge, 0, &replies)?;
+        let quorum = self.second_quorum();
+        self.second_decision(&quorum)
+    }
+
     /// The hinge asks for a view before it has recovered, and recovers only then.
     pub fn promise_while_recovering(&mut self) -> Option<()> {
         self.first_decision(1)?;

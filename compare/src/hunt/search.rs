@@ -23,6 +23,7 @@ pub const ORDERS: &[(&str, Order)] = &[
     ("panel backwards", Attack::panel_backwards),
     ("forgetful hinge", Attack::forgetful_hinge),
     ("one reply many times", Attack::one_reply_many_times),
+    ("one replier in two boots", Attack::one_replier_in_two_boots),
     ("promise while recovering", Attack::promise_while_recovering),
     ("blank replier", Attack::blank_replier),
     ("replies of an earlier boot", Attack::replies_of_an_earlier_boot),

@@ -8,7 +8,10 @@ enum { TABLE = YARD_TABLE_WORDS(1), SLOTS = 16, LOG = SLOTS * YARD_CERTIFICATE_W
 
 enum { OPEN, BLOCK, PREPARE, PREPARE_ON_COMMITS, STORE, VIEW, ACCUMULATE, DECIDE, REBOOT, RESERVE, REQUEST, REPLY, RECOVER };
 
+/* Where the table has the count of certificates, and where a certificate has its words. */
 enum { CERTIFICATES_ISSUED = 1 };
+
+enum { KIND, SIGNER, VIEW_OF, BLOCK_OF, OF_VIEW, SUBJECT, SUBJECT_BOOT, SIGNER_BOOT };
 
 static uint32_t table[TABLE], log_words[LOG], blocks[BLOCKS];
 
@@ -24,7 +27,8 @@ static void print_log(void) {
     printf("    kind    signer view block of-view subject its boot | signer's boot\n");
     for (uint32_t c = 0; c < table[CERTIFICATES_ISSUED]; c++) {
         const uint32_t *w = &log_words[YARD_CERTIFICATE_WORDS * c];
-        printf("%2u: %-7s %6u %4u %5u %7u %7u %8u | %13u\n", c, kinds[w[0]], w[1], w[2], w[3], w[4], w[5], w[6], w[7]);
+        printf("%2u: %-7s %6u %4u %5u", c, kinds[w[KIND]], w[SIGNER], w[VIEW_OF], w[BLOCK_OF]);
+        printf(" %7u %7u %8u | %13u\n", w[OF_VIEW], w[SUBJECT], w[SUBJECT_BOOT], w[SIGNER_BOOT]);
     }
 }
 

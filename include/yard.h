@@ -16,9 +16,10 @@
  * Blocks kept from then are no records, and calls give 1: open anew, or write each one's parent and height.
  *
  * A certificate is eight words: kind (1 PROP, 2 COMMIT, 3 NEWVIEW, 4 ACC, 5 REQ, 6 REPLY), signer, view, block, of-view, subject, the
- * subject's boot (both only in a REQ and a REPLY), and the boot of its signer when it was issued. The last tells a certificate from before
- * a power cut from the one after it; examples/cuts.c prints it. Whoever lent seven words a certificate before must lend eight. A log kept
- * from then is none of this form: open anew. */
+ * subject's boot (both 0 in kinds other than REQ and REPLY), and the boot of its signer when it was issued. The last tells a certificate
+ * from before a power cut from the one after it; examples/cuts.c prints it. Whoever lent seven words a certificate before must lend eight:
+ * an old length that is a multiple of eight is taken, with fewer slots. Never lend a log kept from then, as its words would be read as
+ * eights: open anew. */
 #define YARD_STEPS 8
 #define YARD_TABLE_WORDS(f) (3 + YARD_STEPS + 9 * (2 * (f) + 1))
 #define YARD_CERTIFICATE_WORDS 8
@@ -67,10 +68,10 @@ uint32_t yard_write_number(uint32_t number, uint8_t *bytes, size_t length);
  *
  * Both values are always written, as 0 and 0 where the call is refused. A call that issues a certificate (codes 2 to 6, 10 and 11) gives
  * its number, and YARD_ADDED; or YARD_FOUND where one of the same eight words was issued before: then the number is that one's, and the
- * log stays as it was. So after a reboot an ACC or a REPLY that says what an earlier one said is added, under a number of its own (or gives
- * 9, in a full log); the earlier one is still good where a certificate is asked for. The other calls give: open the number of replicas and
- * 0, block its number and 0, decide the block and its view, reboot the boot and the lowest view as they then are, reserve the limit and 0,
- * recover the lowest view and the view in which the block that it brought back was stored, 0 if none.
+ * log stays as it was. So an ACC or a REPLY that says what the same replica signed before a reboot is added, under a number of its own (or
+ * gives 9, in a full log); the earlier one is still good where a certificate is asked for. The other calls give: open the number of
+ * replicas and 0, block its number and 0, decide the block and its view, reboot the boot and the lowest view as they then are, reserve the
+ * limit and 0, recover the lowest view and the view in which the block that it brought back was stored, 0 if none.
  *
  * Where an answer got lost, and no other call was made since: a view, an accumulate, a request or a reply may be made again. If it was
  * accepted, it gives the same number and YARD_FOUND, and changes no word; if it was refused, it is refused again. A prepare or a store that

@@ -65,7 +65,7 @@ mistakes! {
     ReplySelf "reply-self" "a replica may reply to itself" "it must be live then, and recover takes no reply of its own";
     ReplyLimitStrict "reply-limit-strict" "reply needs the request's view below the limit" "refuses more";
     ReplyNoLimit "reply-no-limit" "reply does not look at the limit" "min_view above the limit is wrong form: nothing is accepted any more";
-    RecoverEarlierBoot "recover-earlier-boot" "recover takes replies of an earlier boot (boot and view unread)" "";
+    RecoverEarlierBoot "recover-earlier-boot" "recover takes replies to an earlier boot (boot and view unread)" "";
     RecoverIgnoresBoot "recover-ignores-boot" "recover does not look at the boot" "the view gives the boot";
     RecoverIgnoresView "recover-ignores-view" "recover does not look at the view" "the boot gives the view";
     RecoverOtherSubject "recover-other-subject" "recover takes replies to another replica" "the view is enough: repliers can no longer sign below it";

@@ -71,7 +71,7 @@ impl Attack {
     }
 
     /// The hinge recovers once; after a decision it is cut again and shown the replies of its earlier boot.
-    pub fn replies_of_an_earlier_boot(&mut self) -> Option<()> {
+    pub fn replies_to_an_earlier_boot(&mut self) -> Option<()> {
         self.driver.accepted(REBOOT, self.hinge, 0, &[])?;
         let req = self.driver.accepted(REQUEST, self.hinge, 0, &[])?;
         let repliers = self.repliers();

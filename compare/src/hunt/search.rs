@@ -26,7 +26,7 @@ pub const ORDERS: &[(&str, Order)] = &[
     ("one replier in two boots", Attack::one_replier_in_two_boots),
     ("promise while recovering", Attack::promise_while_recovering),
     ("blank replier", Attack::blank_replier),
-    ("replies of an earlier boot", Attack::replies_of_an_earlier_boot),
+    ("replies to an earlier boot", Attack::replies_to_an_earlier_boot),
     ("late commits", Attack::late_commits),
     ("promise taken back", Attack::promise_taken_back),
     ("proposes twice", Attack::proposes_twice),

@@ -129,13 +129,15 @@ pub record Claims : Type 0 where
   -- ---- Cuts (document 02, #107).
   -- what an accepted call issues or finds is signed by its replica and has that replica's boot as its eighth word
   pub issuedWithItsBoot : IssuedWithItsBoot
-  -- where that tells no two certificates apart, a call gives and leaves what the first seven words alone give
+  -- where no issued certificate differs in its eighth word alone from what an issuing call issues, the call gives and leaves what the first
+  -- seven words give
   pub sevenWordsDecide : SevenWordsDecide
-  -- a refusal other than 9 does not go by the boots of signers
+  -- on memories that differ in eighth words alone, both well-formed or neither, a refusal other than 9 is the same, and a call that issues
+  -- nothing gives the same
   pub bootsUntested : BootsUntested
   -- after an opening, what a Prepare, Store, View or Request issues was never issued at another boot
   pub onlyAccsAndRepliesAgain : OnlyAccsAndRepliesAgain
-  -- what a replica issues after a cut has a number that was not issued at the cut
+  -- after an opening, and with none since, what a replica issues after its cut has a number that was not issued at the cut
   pub cutsTellApart : CutsTellApart
   -- ---- Netting (document 02, #101).
   -- a netting changes no word

@@ -11,8 +11,6 @@ ghost use Rattle.protocol.specs.Memory.{
   replicaWords,
   rowAt,
   tableLength,
-  certificateWords,
-  certificateAt,
 };
 ghost use Rattle.protocol.specs.Form.{allBelow, isFaultBound, lengthsFit, countsFit, wellFormed};
 ghost use Rattle.protocol.proofs.Formed.{Sizes};

@@ -1,4 +1,4 @@
-// The form of the log: of each issued certificate, its words. In a full memory this test is most of a call's time.
+// The form of the log: of each issued certificate, its words. In a full memory this is the longest part of the form test.
 ghost use mathlib.Core.Path.{_≡_};
 ghost use Prim.Native.Nat.{_+_, _≤_};
 ghost use lib.ListN.{length};
@@ -43,6 +43,7 @@ fn exceeds(log: &[u32], at: usize, last_replica: u32, last_block: u32) -> bool
         | (CEILING < log[at + SIGNER_BOOT_AT])
 }
 
+// Whether all certificates of a group, whose words start at an index, are of some kind.
 fn group_has_kinds(log: &[u32], at: usize) -> bool
     requires { ⌜ at + certificateAt groupSize ≤ length (now log) ⌝ }
     ensures { λ r. ⌜ r ≡ groupHasKinds (now (log .entry)) at ⌝ }
@@ -57,8 +58,8 @@ fn group_has_kinds(log: &[u32], at: usize) -> bool
         & has_kind(log, at + 7 * CERTIFICATE_WORDS)
 }
 
-// All words of a group, each by one comparison from above, joined by `|` alone: the compiler makes vectors of four words of them, with a
-// comparison and no copy for each.
+// Whether a word of a group is above the greatest that it may be. Each word is compared once, its greatest on the left, and all are joined by
+// `|` alone: so the compiler compares four words at a time and need not copy what it compares them with.
 fn group_exceeds(log: &[u32], at: usize, last_replica: u32, last_block: u32) -> bool
     requires { ⌜ at + certificateAt groupSize ≤ length (now log) ⌝ }
     ensures { λ r. ⌜ r ≡ groupExceeds (now (log .entry)) «last_replica» «last_block» at ⌝ }

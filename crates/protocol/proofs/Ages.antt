@@ -1,8 +1,9 @@
--- What every call but an opening does to a replica's boot, lowest view and limit, and what a replica signs: for specs/Cuts.antt. The
--- invariant of Safety.antt is not used.
+-- What every call but an opening does to a replica's boot, lowest view and limit, and what a replica signs: for specs/Cuts.antt. On any
+-- memory, so without the invariant of Safety.antt.
 use Prim.Native.Nat.{ℕ, _+_, _≤_, _<_}
 use mathlib.Core.Path.{_≡_, refl, sym, ap, _∙_, subst}
 use mathlib.Core.Bool.{true}
+use mathlib.Core.Logic.{_≢_}
 use mathlib.Core.List.{List, [], _∷_, _++_, List·Memᴰ, List·Memᴰ·head}
 use native.Mathlib.Omega.{arith}
 use lib.Dec.{ltb, eqb}
@@ -41,8 +42,8 @@ use Rattle.protocol.proofs.MadeAgain.{there, stands}
 
 -- ---- what every call but an opening does, and what it keeps
 
--- From r to r′ no boot, no lowest view and no limit falls, the boot changes only where the lowest view reaches the old limit, and who is
--- retired stays it.
+-- From r to r′ no boot, no lowest view and no limit falls, the boot changes only where the lowest view reaches the old limit, and a retired
+-- replica stays retired.
 pub record Ages (r r′ : Replica) : Type 0 where
   pub boot : r .boot ≤ r′ .boot
   pub minView : r .minView ≤ r′ .minView
@@ -128,7 +129,7 @@ updates m i cs form own within ages =
 -- its limit.
 pub record Signed (m : Memory) (named i : ℕ) (c : Certificate) : Type 0 where
   pub kind : c .kind ≡ named
-  pub active : replica m i .status ≡ retired → ⊥
+  pub active : replica m i .status ≢ retired
   pub signer : c .signer ≡ i
   pub boot : c .signerBoot ≡ replica m i .boot
   pub from : named ≤ NEWVIEW → replica m i .minView ≤ c .view
@@ -212,7 +213,7 @@ reply-signs m i number hold =
 
 -- A Reboot counts its replica's boot, or retires it.
 abbrev Counts : Replica → Replica → Type 0
-Counts r r′ = (r′ .status ≡ retired → ⊥) → r .boot < r′ .boot
+Counts r r′ = r′ .status ≢ retired → r .boot < r′ .boot
 
 pub record Reboots (m : Memory) (i : ℕ) (m′ : Memory) : Type 0 where
   pub passes : Passes m m′

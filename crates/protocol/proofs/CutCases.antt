@@ -5,7 +5,7 @@ use mathlib.Core.List.{map}
 use Rattle.protocol.specs.Form.{allHold}
 use Rattle.protocol.specs.Rows.{holding}
 use Rattle.protocol.specs.CutCases.{cutCases, accAfterACut, replyAfterACut, signersDifferByReplica, repliesOfAnyBoot, newViewsOfAnyBoot}
-use Rattle.protocol.specs.CutCases.{issuedWithItsBoot, greatestBoot, mostCertificates, bootsAboveTheGreatest, brokenLogs}
+use Rattle.protocol.specs.CutCases.{signedAtItsBoot, greatestBoot, mostCertificates, bootsAboveTheGreatest, brokenLogs}
 use Rattle.protocol.proofs.Rows.{holds, row, AnswersAre, rows, both}
 
 acc-after-a-cut : holds accAfterACut ≡ true
@@ -28,9 +28,9 @@ new-views-of-any-boot : holds newViewsOfAnyBoot ≡ true
 unfolding holds holding newViewsOfAnyBoot
 new-views-of-any-boot = refl
 
-issued-with-its-boot : holds issuedWithItsBoot ≡ true
-unfolding holds holding issuedWithItsBoot
-issued-with-its-boot = refl
+signed-at-its-boot : holds signedAtItsBoot ≡ true
+unfolding holds holding signedAtItsBoot
+signed-at-its-boot = refl
 
 greatest-boot : holds greatestBoot ≡ true
 unfolding holds holding greatestBoot
@@ -57,7 +57,7 @@ cut-cases =
       row signersDifferByReplica signers-differ-by-replica,
       row repliesOfAnyBoot replies-of-any-boot,
       row newViewsOfAnyBoot new-views-of-any-boot,
-      row issuedWithItsBoot issued-with-its-boot,
+      row signedAtItsBoot signed-at-its-boot,
       row greatestBoot greatest-boot,
       row mostCertificates most-certificates,
       both bootsAboveTheGreatest brokenLogs (rows bootsAboveTheGreatest boots-above-the-greatest) (rows brokenLogs broken-logs),

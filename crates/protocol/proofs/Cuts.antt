@@ -1,19 +1,20 @@
 -- What specs/Cuts.antt states.
 use Prim.Native.Nat.{ℕ, _≤_, _<_}
 use mathlib.Core.Path.{_≡_, refl, sym, ap, _∙_}
-use mathlib.Core.Bool.{Bool, true, false, _||_, false≢true}
-use mathlib.Core.List.{List, [], _∷_, _++_}
+use mathlib.Core.Bool.{true, false, _||_, false≢true}
+use mathlib.Core.List.{List, []}
+use mathlib.Core.Logic.{_≢_}
 use native.Mathlib.Omega.{arith}
 use lib.ListN.{getD}
 use lib.Dec.{ltb, leb, eqb}
 use Rattle.protocol.specs.declared.Call.{Call}
 use Rattle.protocol.specs.declared.Call.the-variants.{Prepare, Store, View, Reboot, Request}
-use Rattle.protocol.specs.Memory.{Memory, Certificate, Assignment, certificateCount, certificateWords, replica, retired, kindAt}
+use Rattle.protocol.specs.Memory.{Memory, Certificate, Assignment, certificateCount, replica, retired, kindAt}
 use Rattle.protocol.specs.Memory.{signerAt, viewAt, subjectBootAt, signerBootAt, certificateWord, certificate, words}
 use Rattle.protocol.specs.Form.{allBelow}
 use Rattle.protocol.specs.Certificates.{PROP, COMMIT, NEWVIEW, ACC, REQ, REPLY, logHasRoom, hasWords, numberFor, isFiled, canFile}
 use Rattle.protocol.specs.Certificates.{file}
-use Rattle.protocol.specs.Outcome.{Need, _else_, Rule, firstRefusal, follow, noRoom}
+use Rattle.protocol.specs.Outcome.{Need, Rule, firstRefusal, follow}
 use Rattle.protocol.specs.Calls.{issuing, prepare, store, view, accumulate, request, reply}
 use Rattle.protocol.specs.Runs.{ruleOf, step, run}
 use Rattle.protocol.specs.Theorems.{Accepted}
@@ -155,11 +156,11 @@ only-accs-and-replies-again m f list calls execution =
 record Behind (number i : ℕ) (m : Memory) : Type 0 where
   issued : number ≤ certificateCount m
   older :
-      (replica m i .status ≡ retired → ⊥) → (k : ℕ) → k < number → certificate m k .signer ≡ i
+      replica m i .status ≢ retired → (k : ℕ) → k < number → certificate m k .signer ≡ i
       → certificate m k .signerBoot < replica m i .boot
 
 behind-after : (number i : ℕ) (m m′ : Memory) → Passes m m′ → number ≤ certificateCount m
-    → ((replica m′ i .status ≡ retired → ⊥) → (k : ℕ) → k < number → certificate m k .signer ≡ i
+    → (replica m′ i .status ≢ retired → (k : ℕ) → k < number → certificate m k .signer ≡ i
     → certificate m k .signerBoot < replica m′ i .boot)
     → Behind number i m′
 behind-after number i m m′ p issued older =

@@ -1,32 +1,33 @@
 -- No call tests the boot of a certificate's signer.
-use Prim.Native.Nat.{ℕ, zero, suc, _+_, _<_}
+use Prim.Native.Nat.{ℕ, zero, suc}
 use mathlib.Core.Path.{_≡_, refl, sym, ap, _∙_, subst}
-use mathlib.Core.Bool.{Bool, true, false, cond, _&&_}
+use mathlib.Core.Bool.{Bool, true, false, cond, false≢true}
 use mathlib.Core.Logic.{_≢_}
 use mathlib.Core.List.{List, [], _∷_, _++_}
-use native.Mathlib.Omega.{arith}
-use lib.ListN.{length}
-use lib.Dec.{ltb, leb, eqb}
+use lib.Dec.{ltb, eqb}
 use Rattle.protocol.specs.declared.Call.{Call}
 use Rattle.protocol.specs.declared.Call.the-variants.{Open, Block, Prepare, Store, View, Accumulate, Decide, Reboot}
 use Rattle.protocol.specs.declared.Call.the-variants.{Reserve, Request, Reply, Recover}
 use Rattle.protocol.specs.declared.Justification.{Justification}
 use Rattle.protocol.specs.declared.Justification.the-variants.{Acc, Commits}
-use Rattle.protocol.specs.Memory.{Memory, memory, Certificate, Assignment, replica, certificateWord, certificate, words, kindAt, signerAt}
-use Rattle.protocol.specs.Memory.{viewAt, proposedBlockAt, ofViewAt, subjectAt, subjectBootAt, signerBootAt}
-use Rattle.protocol.specs.Form.{wellFormed, lengthsFit}
+use Rattle.protocol.specs.Memory.{Memory, memory, Certificate, Assignment, replicaCount, replica, certificateWord, certificate}
+use Rattle.protocol.specs.Memory.{words, kindAt, signerAt, viewAt, proposedBlockAt, ofViewAt, subjectAt, subjectBootAt, signerBootAt, update}
+use Rattle.protocol.specs.Memory.{appendBlock}
+use Rattle.protocol.specs.Form.{lengthsFit}
 use Rattle.protocol.specs.Counter.{counterStep}
 use Rattle.protocol.specs.Certificates.{canFile}
 use Rattle.protocol.specs.Quorum.{every, certificatesOf, firstOf, signers, isQuorum, isCommitOf, isNewViewOf, isReplyTo, isGreater}
 use Rattle.protocol.specs.Quorum.{greatestFrom, greatest}
-use Rattle.protocol.specs.Outcome.{Need, _else_, Rule, firstRefusal, noRoom}
+use Rattle.protocol.specs.Outcome.{Outcome, Need, _else_, Rule, firstRefusal, answered, follow, noRoom}
 use Rattle.protocol.specs.Calls.{issuing, opening, block, prepare, store, view, accumulate, decide, reboot, reserve, request, reply}
-use Rattle.protocol.specs.Calls.{recover, isJustified, proposalView, justifiedBlock, numbersOf}
+use Rattle.protocol.specs.Calls.{recover, freshReplicas}
 use Rattle.protocol.specs.Runs.{ruleOf, step}
-use Rattle.protocol.specs.Cuts.{OtherBoots, BootsUntested}
+use Rattle.protocol.specs.Repeats.{isIssuing}
+use Rattle.protocol.specs.Cuts.{OtherBoots, SameVerdict, BootsUntested}
 use Rattle.protocol.proofs.Booleans.{tests, by-test}
 use Rattle.protocol.proofs.Needs.{refused-first, returned}
 use Rattle.protocol.proofs.Alike.{twin}
+use Rattle.protocol.proofs.Repeats.{by-issuing}
 
 -- ---- lists of needs: the last, 9, apart
 
@@ -80,38 +81,49 @@ module _ (m : Memory) (l : List ℕ) (o : OtherBoots m (twin m l (m .blocks))) w
       → isQuorum (isCommitOf v b) (certificatesOf m list) ≡ isQuorum (isCommitOf v b) (certificatesOf m′ list)
   commits-same v b = quorum-same (isCommitOf v b) (λ c. rw (word c kindAt refl, word c viewAt refl, word c proposedBlockAt refl) refl)
 
-  first-view : (list : List ℕ) → firstOf (certificatesOf m list) .view ≡ firstOf (certificatesOf m′ list) .view
-  first-view [] = refl
-  first-view (x ∷ xs) = word x viewAt refl
+  new-views-same : (v : ℕ) (list : List ℕ)
+      → isQuorum (isNewViewOf v) (certificatesOf m list) ≡ isQuorum (isNewViewOf v) (certificatesOf m′ list)
+  new-views-same v = quorum-same (isNewViewOf v) (λ c. rw (word c kindAt refl, word c viewAt refl) refl)
 
-  first-block : (list : List ℕ) → firstOf (certificatesOf m list) .block ≡ firstOf (certificatesOf m′ list) .block
-  first-block [] = refl
-  first-block (x ∷ xs) = word x proposedBlockAt refl
+  replies-same : (i boot v : ℕ) (list : List ℕ)
+      → isQuorum (isReplyTo i boot v) (certificatesOf m list) ≡ isQuorum (isReplyTo i boot v) (certificatesOf m′ list)
+  replies-same i boot v =
+      quorum-same (isReplyTo i boot v)
+      (λ c.
+      rw (word c kindAt refl, word c subjectAt refl, word c subjectBootAt refl, word c viewAt refl, word c signerAt refl) refl)
 
-  first-of-view : (list : List ℕ) → firstOf (certificatesOf m list) .ofView ≡ firstOf (certificatesOf m′ list) .ofView
-  first-of-view [] = refl
-  first-of-view (x ∷ xs) = word x ofViewAt refl
+  -- What is read of the first and of the greatest of a list.
+  record SameRead (c c′ : Certificate) : Type 0 where
+    view : c .view ≡ c′ .view
+    block : c .block ≡ c′ .block
+    ofView : c .ofView ≡ c′ .ofView
 
-  ofView-same : (t t′ : Bool) (a b a′ b′ : Certificate) → t ≡ t′ → a .ofView ≡ a′ .ofView → b .ofView ≡ b′ .ofView
-      → cond t a b .ofView ≡ cond t′ a′ b′ .ofView
-  ofView-same true true a b a′ b′ e p q = p
-  ofView-same true false a b a′ b′ e p q = cc
-  ofView-same false true a b a′ b′ e p q = cc
-  ofView-same false false a b a′ b′ e p q = q
+  read-same : (c : ℕ) → SameRead (certificate m c) (certificate m′ c)
+  read-same c = record { view = word c viewAt refl; block = word c proposedBlockAt refl; ofView = word c ofViewAt refl }
 
-  greatest-from : (list : List ℕ) (best best′ : Certificate) → best .ofView ≡ best′ .ofView
-      → greatestFrom best (certificatesOf m list) .ofView ≡ greatestFrom best′ (certificatesOf m′ list) .ofView
+  first-same : (list : List ℕ) → SameRead (firstOf (certificatesOf m list)) (firstOf (certificatesOf m′ list))
+  first-same [] = record { view = refl; block = refl; ofView = refl }
+  first-same (x ∷ xs) = read-same x
+
+  chosen-same : (t t′ : Bool) (a b a′ b′ : Certificate) → t ≡ t′ → SameRead a a′ → SameRead b b′ → SameRead (cond t a b) (cond t′ a′ b′)
+  chosen-same true true a b a′ b′ e p q = p
+  chosen-same true false a b a′ b′ e p q = absurd (false≢true (sym e))
+  chosen-same false true a b a′ b′ e p q = absurd (false≢true e)
+  chosen-same false false a b a′ b′ e p q = q
+
+  greatest-from : (list : List ℕ) (best best′ : Certificate) → SameRead best best′
+      → SameRead (greatestFrom best (certificatesOf m list)) (greatestFrom best′ (certificatesOf m′ list))
   unfolding greatestFrom
-  greatest-from [] best best′ e = e
-  greatest-from (x ∷ xs) best best′ e =
+  greatest-from [] best best′ same = same
+  greatest-from (x ∷ xs) best best′ same =
       let c = certificate m x in
       let c′ = certificate m′ x in
-      let of = word x ofViewAt refl in
-      let later = ofView-same (isGreater c best) (isGreater c′ best′) c best c′ best′ (rw (e, of) refl) of e in
-      greatest-from xs _ _ later
+      let its = read-same x in
+      let later : isGreater c best ≡ isGreater c′ best′ = (rw (same .ofView, its .ofView) refl) in
+      greatest-from xs _ _ (chosen-same (isGreater c best) (isGreater c′ best′) c best c′ best′ later its same)
 
-  greatest-same : (list : List ℕ) → greatest (certificatesOf m list) .ofView ≡ greatest (certificatesOf m′ list) .ofView
-  greatest-same list = greatest-from list _ _ (first-of-view list)
+  greatest-same : (list : List ℕ) → SameRead (greatest (certificatesOf m list)) (greatest (certificatesOf m′ list))
+  greatest-same list = greatest-from list _ _ (first-same list)
 
   -- Two issuing rules whose own needs are equal.
   issuing-tests : (ns ns′ : List Need) (i : ℕ) (cs cs′ : List Assignment) (c c′ : Certificate) → ns ≡ ns′
@@ -119,51 +131,147 @@ module _ (m : Memory) (l : List ℕ) (o : OtherBoots m (twin m l (m .blocks))) w
   unfolding issuing
   issuing-tests ns ns′ i cs cs′ c c′ e = rw e (slots ns′ (canFile m (words c)) (canFile m′ (words c′)))
 
-  same-needs : {ns ns′ : List Need} → ns ≡ ns′ → Tests ns ns′
-  same-needs {ns} {ns′} e = rw e (equal ns′)
-
   prepare-tests : (i b : ℕ) (j : Justification) (list : List ℕ) → Tests (prepare m i b j list .needs) (prepare m′ i b j list .needs)
   unfolding prepare
   prepare-tests i b (Acc number) list =
-      issuing-tests _ _ i _ _ _ _ (rw (o .form, word number kindAt refl, word number signerAt refl, word number viewAt refl, word number proposedBlockAt refl) refl)
+      let acc = read-same number in
+      issuing-tests _ _ i _ _ _ _
+      (rw (o .form, word number kindAt refl, word number signerAt refl, acc .view, acc .block) refl)
   prepare-tests i b (Commits v x) list = issuing-tests _ _ i _ _ _ _ (rw (o .form, commits-same v x list) refl)
 
-  rule-tests : (call : Call) (list : List ℕ) → Tests (ruleOf m call list .needs) (ruleOf m′ call list .needs)
-  unfolding ruleOf opening block store view accumulate decide reboot reserve request reply recover lengthsFit counterStep
-  rule-tests (Open f) list = same-needs (rw (o .logLength) refl)
-  rule-tests (Block p) list = same-needs (rw (o .form) refl)
-  rule-tests (Prepare i b j) list = prepare-tests i b j list
-  rule-tests (Store i number) list =
+  store-tests : (i number : ℕ) → Tests (store m i number .needs) (store m′ i number .needs)
+  unfolding store
+  store-tests i number =
       issuing-tests _ _ i _ _ _ _ (rw (o .form, word number kindAt refl, word number signerAt refl, word number viewAt refl) refl)
-  rule-tests (View i w) list = issuing-tests _ _ i _ _ _ _ (rw (o .form) refl)
-  rule-tests (Accumulate i) list =
+
+  view-tests : (i w : ℕ) → Tests (view m i w .needs) (view m′ i w .needs)
+  unfolding view
+  view-tests i w = issuing-tests _ _ i _ _ _ _ (rw (o .form) refl)
+
+  accumulate-tests : (i : ℕ) (list : List ℕ) → Tests (accumulate m i list .needs) (accumulate m′ i list .needs)
+  unfolding accumulate
+  accumulate-tests i list =
       issuing-tests _ _ i _ _ _ _
-      (rw (o .form, first-view list, quorum-same (isNewViewOf (firstOf (certificatesOf m′ list) .view)) (λ c. rw (word c kindAt refl, word c viewAt refl) refl) list) refl)
-  rule-tests (Decide i) list = same-needs (rw (o .form, first-view list, first-block list, commits-same (firstOf (certificatesOf m′ list) .view) (firstOf (certificatesOf m′ list) .block) list) refl)
-  rule-tests (Reboot i) list = same-needs (rw (o .form) refl)
-  rule-tests (Reserve i) list = same-needs (rw (o .form) refl)
-  rule-tests (Request i) list = issuing-tests _ _ i _ _ _ _ (rw (o .form) refl)
-  rule-tests (Reply i number) list =
+      (rw (o .form, first-same list .view, new-views-same (firstOf (certificatesOf m′ list) .view) list) refl)
+
+  request-tests : (i : ℕ) → Tests (request m i .needs) (request m′ i .needs)
+  unfolding request
+  request-tests i = issuing-tests _ _ i _ _ _ _ (rw (o .form) refl)
+
+  reply-tests : (i number : ℕ) → Tests (reply m i number .needs) (reply m′ i number .needs)
+  unfolding reply
+  reply-tests i number =
       issuing-tests _ _ i _ _ _ _ (rw (o .form, word number kindAt refl, word number signerAt refl, word number viewAt refl) refl)
-  rule-tests (Recover i) list =
-      same-needs
-      (rw (o .form, greatest-same list, quorum-same (isReplyTo i (replica m i .boot) (replica m i .minView)) (λ c. rw (word c kindAt refl, word c subjectAt refl, word c subjectBootAt refl, word c viewAt refl, word c signerAt refl) refl) list) refl)
 
-  step-refused : (call : Call) (list : List ℕ) → step m call list .answer .number ≢ 0 → step m call list .answer .number ≢ noRoom
-      → step m′ call list .answer .number ≡ step m call list .answer .number
+  -- ---- a call that issues nothing: the whole rule
+
+  record SameRule (r r′ : Rule) : Type 0 where
+    needs : r .needs ≡ r′ .needs
+    first : r .first ≡ r′ .first
+    second : r .second ≡ r′ .second
+    table : r .after .table ≡ r′ .after .table
+
+  fresh-table : (x y : Memory) → x .table ≡ y .table → (limit k : ℕ) → freshReplicas x limit k .table ≡ freshReplicas y limit k .table
+  unfolding freshReplicas update
+  fresh-table x y e limit zero = e
+  fresh-table x y e limit (suc k) = rw (fresh-table x y e limit k) refl
+
+  opening-same : (f : ℕ) (list : List ℕ) → SameRule (opening m f list) (opening m′ f list)
+  unfolding opening lengthsFit
+  opening-same f list =
+      record { needs = rw (o .logLength) refl; first = refl; second = refl; table = fresh-table _ _ refl _ (replicaCount f) }
+
+  block-same : (p : ℕ) → SameRule (block m p) (block m′ p)
+  unfolding block appendBlock
+  block-same p = record { needs = rw (o .form) refl; first = refl; second = refl; table = refl }
+
+  decide-same : (i : ℕ) (list : List ℕ) → SameRule (decide m i list) (decide m′ i list)
+  unfolding decide update
+  decide-same i list =
+      let first = first-same list in
+      let c = firstOf (certificatesOf m′ list) in
+      record {
+        needs = rw (o .form, first .view, first .block, commits-same (c .view) (c .block) list) refl;
+        first = first .block;
+        second = first .view;
+        table = rw (first .view, first .block) refl;
+      }
+
+  reboot-same : (i : ℕ) → SameRule (reboot m i) (reboot m′ i)
+  unfolding reboot counterStep update
+  reboot-same i = record { needs = rw (o .form) refl; first = refl; second = refl; table = refl }
+
+  reserve-same : (i : ℕ) → SameRule (reserve m i) (reserve m′ i)
+  unfolding reserve counterStep update
+  reserve-same i = record { needs = rw (o .form) refl; first = refl; second = refl; table = refl }
+
+  recover-same : (i : ℕ) (list : List ℕ) → SameRule (recover m i list) (recover m′ i list)
+  unfolding recover update
+  recover-same i list =
+      let best = greatest-same list in
+      record {
+        needs = rw (o .form, best .ofView, replies-same i (replica m i .boot) (replica m i .minView) list) refl;
+        first = rw (best .ofView) refl;
+        second = best .ofView;
+        table = rw (best .ofView, best .block) refl;
+      }
+
+  -- ---- any call
+
+  record SameOutcome (x x′ : Outcome) : Type 0 where
+    answer : x′ .answer ≡ x .answer
+    table : x′ .memory .table ≡ x .memory .table
+
+  follow-same : (r r′ : Rule) → SameRule r r′ → SameOutcome (follow m r) (follow m′ r′)
+  unfolding follow answered
+  follow-same r r′ s =
+      subst (λ (n : ℕ). SameOutcome (answered (firstRefusal (r .needs)) m r) (answered n m′ r′)) (ap firstRefusal (s .needs))
+      (go (firstRefusal (r .needs)))
+    where
+      go : (n : ℕ) → SameOutcome (answered n m r) (answered n m′ r′)
+      go zero =
+          record { answer = λ d. record { number = 0; first = sym (s .first) d; second = sym (s .second) d }; table = sym (s .table) }
+      go (suc n) = record { answer = refl; table = refl }
+
+  rest : (call : Call) (list : List ℕ) → isIssuing call ≡ false → SameRule (ruleOf m call list) (ruleOf m′ call list)
+  unfolding ruleOf
+  rest (Open f) list e = opening-same f list
+  rest (Block p) list e = block-same p
+  rest (Prepare i b j) list e = absurd (false≢true (sym e))
+  rest (Store i number) list e = absurd (false≢true (sym e))
+  rest (View i w) list e = absurd (false≢true (sym e))
+  rest (Accumulate i) list e = absurd (false≢true (sym e))
+  rest (Decide i) list e = decide-same i list
+  rest (Reboot i) list e = reboot-same i
+  rest (Reserve i) list e = reserve-same i
+  rest (Request i) list e = absurd (false≢true (sym e))
+  rest (Reply i number) list e = absurd (false≢true (sym e))
+  rest (Recover i) list e = recover-same i list
+
+  issuing-rules : (list : List ℕ) (call : Call) → isIssuing call ≡ true → Tests (ruleOf m call list .needs) (ruleOf m′ call list .needs)
+  unfolding ruleOf
+  issuing-rules list =
+      by-issuing (λ call. Tests (ruleOf m call list .needs) (ruleOf m′ call list .needs)) (λ i b j. prepare-tests i b j list) store-tests
+      view-tests (λ i. accumulate-tests i list) request-tests reply-tests
+
+  rule-tests : (call : Call) (list : List ℕ) → Tests (ruleOf m call list .needs) (ruleOf m′ call list .needs)
+  rule-tests call list =
+      by-test (isIssuing call) (issuing-rules list call) (λ e. rw (rest call list e .needs) (equal (ruleOf m′ call list .needs)))
+
+  verdict : (call : Call) (list : List ℕ) → SameVerdict call (step m call list) (step m′ call list)
   unfolding step
-  step-refused call list =
-      rw (returned m (ruleOf m call list), returned m′ (ruleOf m′ call list)) (refused-alike _ _ (rule-tests call list))
-
--- What is claimed of a call on memory m and on one of another table, log and blocks.
-abbrev RefusedAlike : Memory → Call → List ℕ → Memory → Type 0
-RefusedAlike m call list m′ =
-    OtherBoots m m′ → step m call list .answer .number ≢ 0 → step m call list .answer .number ≢ noRoom
-    → step m′ call list .answer .number ≡ step m call list .answer .number
+  verdict call list =
+      record {
+        refused = rw (returned m (ruleOf m call list), returned m′ (ruleOf m′ call list)) (refused-alike _ _ (rule-tests call list));
+        answer = λ e. follow-same _ _ (rest call list e) .answer;
+        table = λ e. follow-same _ _ (rest call list e) .table;
+      }
 
 pub boots-untested : BootsUntested
 unfolding BootsUntested
 boots-untested m m′ call list o =
-    subst (λ (t : List ℕ). RefusedAlike m call list (memory t (m′ .log) (m′ .blocks))) (o .table)
-    (subst (λ (b : List ℕ). RefusedAlike m call list (memory (m .table) (m′ .log) b)) (o .blocks)
-    (λ o. step-refused m (m′ .log) o call list)) o
+    subst (λ (t : List ℕ). Alike (memory t (m′ .log) (m′ .blocks))) (o .table)
+    (subst (λ (b : List ℕ). Alike (memory (m .table) (m′ .log) b)) (o .blocks) (λ o. verdict m (m′ .log) o call list)) o
+  where
+    Alike : Memory → Type 0
+    Alike x = OtherBoots m x → SameVerdict call (step m call list) (step x call list)

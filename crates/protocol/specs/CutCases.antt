@@ -196,8 +196,8 @@ ofTwoBoots =
 
 -- "the boot of its signer when it was issued": at boot 3 each call of replica 1 finds the one of boot 3, and takes what was signed at any
 -- boot. A Request after a cut finds that of boot 4.
-unfoldable pub issuedWithItsBoot : Case
-issuedWithItsBoot =
+unfoldable pub signedAtItsBoot : Case
+signedAtItsBoot =
     let atBoot : ℕ → ℕ → Memory → Memory = λ i boot m. update m i (bootAt becomes boot ∷ []) in
     record {
       start = atBoot 0 2 (atBoot 1 3 (atBoot 2 7 (holding withBlock ofTwoBoots)));
@@ -227,7 +227,7 @@ greatestBoot =
     record { start = holding withBlock (propOf 0 1000000 1 1 ∷ []); calls = plain (Store 0 0) ∷ []; expected = accepted 1 0 ∷ [] }
 
 -- One above it is too much in a certificate of any kind; an opening reads none.
-abbrev pub holdingOne : Certificate → Case
+abbrev holdingOne : Certificate → Case
 holdingOne c =
     record {
       start = holding withBlock (c ∷ []);
@@ -247,7 +247,7 @@ bootsAboveTheGreatest =
     ∷ [])
 
 -- "Length a multiple of 7", now of 8, at most 4,096 slots: 32,768 words.
-abbrev pub logOfLength : ℕ → Case
+abbrev logOfLength : ℕ → Case
 logOfLength words =
     record {
       start = memory (blank 1 .table) (replicate words 0) (blank 1 .blocks);
@@ -273,7 +273,7 @@ cutCases =
     ∷ signersDifferByReplica
     ∷ repliesOfAnyBoot
     ∷ newViewsOfAnyBoot
-    ∷ issuedWithItsBoot
+    ∷ signedAtItsBoot
     ∷ greatestBoot
     ∷ mostCertificates
     ∷ bootsAboveTheGreatest ++ brokenLogs

@@ -1,7 +1,7 @@
 -- Certificates across a power cut (document 02, #107): whose boot they carry, where that changes nothing, what can be issued again.
 use Prim.Native.Nat.{ℕ, _≤_, _<_}
 use mathlib.Core.Path.{_≡_}
-use mathlib.Core.Bool.{Bool, true, cond, _||_}
+use mathlib.Core.Bool.{Bool, true, false, cond, _||_}
 use mathlib.Core.Logic.{_≢_}
 use mathlib.Core.List.{List, [], _∷_, _++_, List·Memᴰ}
 use lib.ListN.{length, getD}
@@ -53,9 +53,10 @@ IssuedWithItsBoot =
     (m : Memory) (call : Call) (list : List ℕ) → isIssuing call ≡ true → Accepted (step m call list)
     → SignedBy m (callerOf call) (issuedIn (step m call list))
 
--- ---- "A script that issues nothing twice across a cut prints what it printed before", said of one call: if the first seven words alone
--- would accept it, no issued certificate has those of what it issues and another eighth. Then its answer, a refusal too, and the memory that
--- it leaves are those that the seven words give; what is added has its eighth word all the same.
+-- ---- "A script that issues nothing twice across a cut prints what it printed before", said of one issuing call. Its premise: if the first
+-- seven words alone would accept the call, then no issued certificate has those of what it issues and another eighth. Then its answer, a
+-- refusal too, and the memory that it leaves are those that the seven words give; what is added has its eighth word all the same. (Of the
+-- other calls: `BootsUntested`.)
 
 -- What the rule of an issuing call is made of.
 pub record Issues (m : Memory) (call : Call) (list : List ℕ) : Type 0 where
@@ -98,9 +99,10 @@ pub record SevenDecide (m : Memory) (call : Call) (list : List ℕ) : Type 0 whe
 unfoldable pub SevenWordsDecide : Type 0
 SevenWordsDecide = (m : Memory) (call : Call) (list : List ℕ) → isIssuing call ≡ true → SevenDecide m call list
 
--- ---- No call tests the new word: on two memories that differ in the boots of signers alone, both well-formed or neither, a call is refused
--- with the same number on both, unless that is 9. So an ACC of an earlier boot is taken where one of its signer's boot is, and signers in a
--- list differ by replica, never by boot.
+-- ---- No call tests the new word. On two memories that differ in the boots of signers alone, both well-formed or neither, a call is refused
+-- with the same number, unless that is 9; a call that issues nothing gives the same answer and leaves the same table. In an issuing call 9 is
+-- apart, since in a full log it goes by whether an equal certificate is found. So a Prepare takes an ACC of any boot of its signer where it
+-- takes one, and signers in a list differ by replica, never by boot.
 
 pub record OtherBoots (m m′ : Memory) : Type 0 where
   pub table : m .table ≡ m′ .table
@@ -109,11 +111,14 @@ pub record OtherBoots (m m′ : Memory) : Type 0 where
   pub words : (c k : ℕ) → k < signerBootAt → certificateWord m c k ≡ certificateWord m′ c k
   pub form : wellFormed m ≡ wellFormed m′
 
+pub record SameVerdict (call : Call) (o o′ : Outcome) : Type 0 where
+  pub refused : o .answer .number ≢ 0 → o .answer .number ≢ noRoom → o′ .answer .number ≡ o .answer .number
+  pub answer : isIssuing call ≡ false → o′ .answer ≡ o .answer
+  pub table : isIssuing call ≡ false → o′ .memory .table ≡ o .memory .table
+
 unfoldable pub BootsUntested : Type 0
 BootsUntested =
-    (m m′ : Memory) (call : Call) (list : List ℕ) → OtherBoots m m′
-    → (let number = step m call list .answer .number in
-    number ≢ 0 → number ≢ noRoom → step m′ call list .answer .number ≡ number)
+    (m m′ : Memory) (call : Call) (list : List ℕ) → OtherBoots m m′ → SameVerdict call (step m call list) (step m′ call list)
 
 -- ---- After an opening, no PROP, COMMIT, NEWVIEW or REQ is issued again across a cut. A replica comes back at the limit that it had before, so
 -- to no view again in which it proposed, committed or entered; and a REQ has its signer's boot in its seventh word too. An ACC and a REPLY

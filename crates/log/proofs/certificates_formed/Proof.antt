@@ -58,22 +58,24 @@ loop2-holds c = (search needs, c .before .loop .inv .2)
 returns-3 : tie.Need-returns-3 Inv-loop μ-loop Inv-loop2 μ-loop2
 returns-3 c =
     let pre = c .before .before .before .before .before .before .before .pre in
-    kind-refutes _ _ _ (pre .1) (pre .2) (c .before .before .before .loop2 .number) _ (omega arith) (denied (c .before .has-kind .ensures) (c .if3 .taken))
+    let loop = c .before .before .before .loop2 in
+    let kind = denied (c .before .has-kind .ensures) (c .if3 .taken) in
+    kind-refutes _ _ _ (pre .1) (pre .2) (loop .number) _ (omega arith) kind
 
 returns-4 : tie.Need-returns-4 Inv-loop μ-loop Inv-loop2 μ-loop2
 returns-4 c =
     let pre = c .before .before .before .before .before .before .before .before .before .pre in
-    limit-refutes _ _ _ (pre .1) (pre .2) (c .before .before .before .before .before .loop2 .number) _ (omega arith) (sym (c .before .exceeds .ensures) ∙ c .if4 .taken)
+    let loop = c .before .before .before .before .before .loop2 in
+    let limits = sym (c .before .exceeds .ensures) ∙ c .if4 .taken in
+    limit-refutes _ _ _ (pre .1) (pre .2) (loop .number) _ (omega arith) limits
 
 loop2-again : tie.Need-loop2-again Inv-loop μ-loop Inv-loop2 μ-loop2
 loop2-again c =
     let pre = c .before .before .before .before .before .before .before .before .before .pre in
-    let loop = c .before .before .before .before .before .loop2 in (
-      search needs,
-      next _ _ (loop .inv .1)
-          (formed _ _ _ (pre .1) (pre .2) (loop .number) (granted (c .before .before .before .has-kind .ensures) (c .before .before .if3 .left))
-          (sym (c .before .exceeds .ensures) ∙ c .if4 .left)),
-    )
+    let loop = c .before .before .before .before .before .loop2 in
+    let kind = granted (c .before .before .before .has-kind .ensures) (c .before .before .if3 .left) in
+    let limits = sym (c .before .exceeds .ensures) ∙ c .if4 .left in
+    (search needs, next _ _ (loop .inv .1) (formed _ _ _ (pre .1) (pre .2) (loop .number) kind limits))
 
 returns-5 : tie.Need-returns-5 Inv-loop μ-loop Inv-loop2 μ-loop2
 returns-5 c = at-end _ (omega arith) (omega arith) (sym (c .before .loop2 .inv .1))

@@ -41,7 +41,7 @@ someBelow (suc k) test = someBelow k test || test k
 abbrev pub groupSize : ℕ
 groupSize = 8
 
--- The same of all, and of some, in a group whose words start at an index.
+-- All of a group, whose words start at an index, are of some kind; one of them has a word above the greatest that it may be.
 unfoldable pub groupHasKinds : List ℕ → ℕ → Bool
 groupHasKinds log at = allBelow groupSize (λ j. hasKind log (at + certificateAt j))
 

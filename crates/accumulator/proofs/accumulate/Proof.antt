@@ -98,7 +98,7 @@ returns-4 c =
     let t = g .before .before .before .before in
     let at-slot = passed _ refl (own-tested t) _ (known g .at) (g .before .before .enum-told4 .given .1) in
     let best = e .certificate-in .ensures ∙ ap certificateFrom (g .greatest .ensures .is) in
-    issues _ _ _ _ _ at-slot refl (rw (view (t .before .before .before .before .before), best, known g .read))
+    issues _ _ _ _ _ at-slot refl (simp (view (t .before .before .before .before .before), best, known g .read))
     (c .before .before .before .before .issue .ensures _)
 
 pub accumulate-spec : {M : Type 1} → statement M

@@ -1,4 +1,3 @@
-use mathlib.Core.Path.{refl}
 use native.Mathlib.Nat.{add-zero}
 use Rattle.log.specs.inner.Records.{someBelow, groupExceeds}
 use borrow.Author.Needs.{needs}
@@ -15,7 +14,7 @@ returns c =
     rw (d .before .before .before .exceeds .ensures, d .before .before .exceeds2 .ensures)
     (rw (d .before .exceeds3 .ensures, d .exceeds4 .ensures)
     (rw (c .before .before .before .exceeds5 .ensures, c .before .before .exceeds6 .ensures)
-    (rw (c .before .exceeds7 .ensures, c .exceeds8 .ensures) (simp add-zero refl))))
+    (rw (c .before .exceeds7 .ensures, c .exceeds8 .ensures) (simp add-zero))))
 
 pub group-exceeds-spec : {M : Type 1} → statement M
 group-exceeds-spec =

@@ -1,4 +1,3 @@
-use mathlib.Core.Path.{refl}
 use native.Mathlib.Nat.{add-zero}
 use Rattle.protocol.specs.Form.{allBelow}
 use Rattle.log.specs.inner.Records.{groupHasKinds}
@@ -16,7 +15,7 @@ returns c =
     rw (d .before .before .before .has-kind .ensures, d .before .before .has-kind2 .ensures)
     (rw (d .before .has-kind3 .ensures, d .has-kind4 .ensures)
     (rw (c .before .before .before .has-kind5 .ensures, c .before .before .has-kind6 .ensures)
-    (rw (c .before .has-kind7 .ensures, c .has-kind8 .ensures) (simp add-zero refl))))
+    (rw (c .before .has-kind7 .ensures, c .has-kind8 .ensures) (simp add-zero))))
 
 pub group-has-kinds-spec : {M : Type 1} → statement M
 group-has-kinds-spec =

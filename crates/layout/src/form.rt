@@ -2,7 +2,7 @@
 use crate::*;
 use constants::*;
 ghost use mathlib.Core.Path.{_≡_};
-ghost use Prim.Native.Nat.{_+_, _-_, _/_, _≤_, _<_};
+ghost use Prim.Native.Nat.{_+_, _≤_};
 ghost use lib.ListN.{length};
 ghost use Rattle.protocol.specs.Memory.{
   memory,
@@ -10,7 +10,6 @@ ghost use Rattle.protocol.specs.Memory.{
   rowStart,
   replicaWords,
   rowAt,
-  tableLength,
 };
 ghost use Rattle.protocol.specs.Form.{allBelow, isFaultBound, lengthsFit, countsFit, wellFormed};
 ghost use Rattle.protocol.proofs.Formed.{Sizes};
@@ -80,21 +79,12 @@ fn replicas_formed(table: &[u32], replicas: u32, added: u32) -> bool
     formed
 }
 
-// The number of replicas by the table's length. From a limit 2f+1 the compiler makes a test against 2f, of another form than the
-// other words' tests, and then uses vectors for fewer of them.
-fn row_count(table: &[u32]) -> u32
-    requires { ⌜ (rowStart ≤ length (now table)) × (length (now table) ≤ tableLength maxFaultBound) ⌝ }
-    ensures { λ r. ⌜ r ≡ (length (now (table .entry)) - rowStart) / replicaWords ⌝ }
-{
-    ((table.len() - ROW_START) / REPLICA_WORDS) as u32
-}
-
 // The words, where f, lengths and counts are right.
 fn words_formed(table: &[u32], log: &[u32], blocks: &[u32]) -> bool
     requires { ⌜ Sizes (memory (now table) (now log) (now blocks)) ⌝ }
     ensures { λ r. ⌜ r ≡ wordsOk (memory (now (table .entry)) (now (log .entry)) (now (blocks .entry))) ⌝ }
 {
-    let replicas = row_count(table);
+    let replicas = replica_count(table[FAULT_BOUND_AT]);
     let added = table[BLOCK_COUNT_AT];
     counter::steps_formed(table, STEPS_AT)
         & blocks::blocks_formed(blocks, added)

@@ -50,9 +50,9 @@ issues-signed m list =
 
 pub issued-with-its-boot : IssuedWithItsBoot
 unfolding IssuedWithItsBoot
-issued-with-its-boot m call list issues =
+issued-with-its-boot m call list e =
     accepted-gives (λ o. SignedBy m (callerOf call) (issuedIn o)) m call list
-    (λ h. let signed = issues-signed m list call issues h .signs .signed in record { signer = signed .signer; boot = signed .boot })
+    (λ h. let signed = issues-signed m list call e h .signs .signed in record { signer = signed .signer; boot = signed .boot })
 
 -- ---- by the first seven words
 
@@ -109,9 +109,9 @@ issues m list =
 
 pub seven-words-decide : SevenWordsDecide
 unfolding SevenWordsDecide step
-seven-words-decide m call list issuing =
+seven-words-decide m call list e =
     record {
-      parts = issues m list call issuing;
+      parts = issues m list call e;
       same =
           λ x once.
           ap (follow m) (x .rule) ∙ seven-decide m (x .issued) (x .needs) (callerOf call) (x .changes) once;
@@ -189,7 +189,7 @@ apart number kind i m rule behind its =
 
 pub cuts-tell-apart : CutsTellApart
 unfolding CutsTellApart ruleOf
-cuts-tell-apart m f list calls more execution i beside accepted once call its issuing mine =
+cuts-tell-apart m f list calls more execution i beside accepted once call its e mine =
     let before = endOf m f list calls in
     let number = certificateCount before in
     let cut = step before (Reboot i) beside in
@@ -209,4 +209,4 @@ cuts-tell-apart m f list calls more execution i beside accepted once call its is
     omega (arith, b .older (λ e. active (p .ages i .ended e)) k l signer, p .ages i .boot)))
     [] (cut .memory) more once behind in
     accepted-gives (λ o. number ≤ o .answer .first) end call its
-    (λ h. let x = issues-signed end its call issuing h in apart number _ i end _ still (rw mine at (x .signs)))
+    (λ h. let x = issues-signed end its call e h in apart number _ i end _ still (rw mine at (x .signs)))

@@ -99,9 +99,9 @@ replyAfterACut =
           ∷ [];
     }
 
--- The same of COMMITs, NEWVIEWs and REPLYs of one view, the second of each pair of a later boot: the two count for one, and beside another
--- replica's, of whatever boot, each of them is taken. (No list of calls issues two such COMMITs or NEWVIEWs.) For the Prepare, 6 shows that
--- its commits were taken: block 1 is no child of block 1.
+-- The same of COMMITs and of NEWVIEWs of one view, the second of each pair of a later boot, which no list of calls issues: the two count for
+-- one, and beside another replica's each of them is taken. For the Prepare, 6 shows that its commits were taken: block 1 is no child of
+-- block 1.
 unfoldable pub signersDifferByReplica : Case
 signersDifferByReplica =
     record {

@@ -34,3 +34,4 @@ pub mod refusal;
 pub mod script;
 pub mod script_file;
 pub mod steps;
+pub mod tell;

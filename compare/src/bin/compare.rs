@@ -2,6 +2,7 @@
 //! firmware and Rust's own formatting on numbers.
 //!
 //! compare --yard PATH --second PATH [--scenarios DIR] [--seconds N | --scripts N] [--seed N]   scripts, byte for byte
+//! compare --yard PATH --tell PATH [the same]    the numbers that tell tells, in yard's columns, beside yard's output
 //!         --once-across-cuts                    without those that ask for a certificate again after its signer's cut
 //! compare --memories [--seconds N] [--seed N]   memories: the firmware (feature `firmware`), else the library itself
 //! compare --nettings [--seconds N] [--seed N]   lists of movements on memories, the same two
@@ -28,6 +29,7 @@ use judge::generate::scripts::script;
 use judge::mistake::{Correct, Mistake};
 use judge::options::Options;
 use judge::script::{run, ANSWER_BYTES, MAX_LINE_BYTES};
+use judge::tell::text::numbers_told;
 use std::io::Write;
 use std::process::ExitCode;
 use std::time::{Duration, Instant};
@@ -47,8 +49,19 @@ const LIBRARY: &str = "the library";
 const FORMATTING: &str = "Rust's own formatting";
 
 fn main() -> ExitCode {
-    let known =
-        ["yard", "second", "scenarios", "seconds", "seed", "script", "scripts", "count", "netting-count", "mistake"];
+    let known = [
+        "yard",
+        "second",
+        "tell",
+        "scenarios",
+        "seconds",
+        "seed",
+        "script",
+        "scripts",
+        "count",
+        "netting-count",
+        "mistake",
+    ];
     let flags = ["memories", "nettings", "numbers", "number-edges", "self", "mistakes", "coverage", "once-across-cuts"];
     match Options::read(&known, &flags).and_then(|options| work(&options)) {
         Ok(()) => ExitCode::SUCCESS,
@@ -95,16 +108,22 @@ fn work(options: &Options) -> Result<(), String> {
 
 /// Two programs on scenarios, where their directory is given, and on generated scripts.
 fn compare_programs(options: &Options, seed: u64, time: Duration) -> Result<(), String> {
-    let (Some(yard), Some(second)) = (options.text("yard"), options.text("second")) else {
+    let other = options.text("second").or(options.text("tell"));
+    let (Some(yard), Some(other)) = (options.text("yard"), other) else {
         let flags = "--memories, --nettings, --numbers, --number-edges, --self, --mistakes or --coverage";
-        return Err(format!("give --yard PATH and --second PATH, or {flags}"));
+        return Err(format!("give --yard PATH and --second PATH or --tell PATH, or {flags}"));
+    };
+    let told = options.text("second").is_none();
+    let one = |text: &[u8], arrival| output(yard, text, arrival);
+    let other = |text: &[u8], arrival| match output(other, text, arrival) {
+        Ok(words) if told => numbers_told(&String::from_utf8_lossy(&words)),
+        answers => answers,
     };
     if let Some(directory) = options.text("scenarios") {
-        compare_scenarios(directory, &[yard, second])?;
+        compare_scenarios(directory, &[&one, &other])?;
     }
-    let run = |program| move |text: &[u8], arrival| output(program, text, arrival);
     let (count, once_across_cuts) = (options.number("scripts"), options.flag("once-across-cuts"));
-    compare_scripts(&run(yard), &run(second), Scripts { seed, count, time, once_across_cuts })
+    compare_scripts(&one, &other, Scripts { seed, count, time, once_across_cuts })
 }
 
 /// The harness alone: what it tells of a mistake, or that it tells nothing without one.
@@ -239,7 +258,7 @@ fn tell_numbers(compared: Result<u64, String>) -> Result<(), String> {
 }
 
 /// Every NAME.txt of the directory gives its NAME.out.
-fn compare_scenarios(directory: &str, programs: &[&str]) -> Result<(), String> {
+fn compare_scenarios(directory: &str, programs: &[Run]) -> Result<(), String> {
     let listing = std::fs::read_dir(directory).map_err(|error| format!("{directory}: {error}"))?;
     let mut paths: Vec<_> = listing.filter_map(|entry| Some(entry.ok()?.path())).collect();
     paths.retain(|path| path.extension().is_some_and(|extension| extension == "txt"));
@@ -250,9 +269,9 @@ fn compare_scenarios(directory: &str, programs: &[&str]) -> Result<(), String> {
     for path in &paths {
         let read = |path: &std::path::Path| std::fs::read(path).map_err(|error| format!("{}: {error}", path.display()));
         let (input, expected) = (read(path)?, read(&path.with_extension("out"))?);
-        for program in programs {
-            if let Some(line) = first_difference(&output(program, &input, Arrival::File)?, &expected) {
-                return Err(format!("{program} differs on {} at line {line}", path.display()));
+        for (program, name) in programs.iter().zip(["the first program", "the second"]) {
+            if let Some(line) = first_difference(&program(&input, Arrival::File)?, &expected) {
+                return Err(format!("{name} differs on {} at line {line}", path.display()));
             }
         }
     }

@@ -1,0 +1,93 @@
+//! `tell`: a script in words, as a picture, or made from calls by name. Over the library: a second opinion, and no part of
+//! what is proved.
+
+use judge::tell::columns::columns;
+use judge::tell::form::CALLS;
+use judge::tell::picture::Picture;
+use judge::tell::recount::Recount;
+use judge::tell::text::told;
+use std::io::{BufRead, ErrorKind, IsTerminal, Write};
+use std::path::Path;
+use std::process::ExitCode;
+
+const USAGE: &str = "\
+usage: ./tell < SCRIPT              each line in words: what it asks, what is answered and why; the ledger at the end
+       ./tell --svg FILE < SCRIPT   the same as a picture, written to FILE
+       ./tell --columns < CALLS     calls by name become a script for ./yard and ./tell
+       ./tell --help
+
+A script has a call a line, in fields of eight columns: ./yard runs it. tell is a second opinion, over the second
+program in compare/, written from the documents: no part of what is proved.
+
+Calls by name, blanks between, a call a line; what follows a # is a comment:
+";
+
+/// Status of a command line that is none.
+const BAD_USAGE: u8 = 2;
+
+fn main() -> ExitCode {
+    let arguments: Vec<String> = std::env::args().skip(1).collect();
+    let arguments: Vec<&str> = arguments.iter().map(String::as_str).collect();
+    let outcome = match arguments.as_slice() {
+        [] => input("a script").and_then(|script| print(told(&Recount::of(&script)).as_bytes())),
+        ["--svg", file] => input("a script").and_then(|script| draw(file, &script)),
+        ["--columns"] => make_columns(),
+        ["--help"] => print(usage().as_bytes()),
+        _ => {
+            eprint!("{}", usage());
+            return ExitCode::from(BAD_USAGE);
+        }
+    };
+    match outcome {
+        Ok(()) => ExitCode::SUCCESS,
+        Err(message) => {
+            eprintln!("tell: {message}");
+            ExitCode::FAILURE
+        }
+    }
+}
+
+fn usage() -> String {
+    let calls: String = CALLS.iter().map(|form| format!("  {}\n", form.usage())).collect();
+    format!("{USAGE}{calls}  verbatim LINE    (stands in the script as it is, to show a line that is no call)\n")
+}
+
+/// All of standard input. Who sits at a terminal is told what is read.
+fn input(what: &str) -> Result<Vec<u8>, String> {
+    let mut stdin = std::io::stdin().lock();
+    if stdin.is_terminal() {
+        eprintln!("tell: reading {what} from the terminal, up to its end (Ctrl-D)");
+    }
+    let mut bytes = Vec::new();
+    loop {
+        let read = stdin.fill_buf().map_err(|error| format!("standard input: {error}"))?;
+        let count = read.len();
+        if count == 0 {
+            return Ok(bytes);
+        }
+        bytes.extend_from_slice(read);
+        stdin.consume(count);
+    }
+}
+
+/// A reader that goes away, as `head` does, has what it wants.
+fn print(bytes: &[u8]) -> Result<(), String> {
+    let mut stdout = std::io::stdout().lock();
+    match stdout.write_all(bytes).and_then(|()| stdout.flush()) {
+        Err(error) if error.kind() != ErrorKind::BrokenPipe => Err(format!("standard output: {error}")),
+        _ => Ok(()),
+    }
+}
+
+fn draw(file: &str, script: &[u8]) -> Result<(), String> {
+    let name = Path::new(file).file_stem().unwrap_or_default().to_string_lossy();
+    let picture = Picture::of(&name, script);
+    std::fs::write(file, picture.svg).map_err(|error| format!("{file}: {error}"))?;
+    print(format!("{file}: {}\n", picture.drawn).as_bytes())
+}
+
+/// Every line that is wrong is told, and then nothing is printed.
+fn make_columns() -> Result<(), String> {
+    let script = columns(&input("calls")?).map_err(|wrong| wrong.join("\ntell: "))?;
+    print(&script)
+}

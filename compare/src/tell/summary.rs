@@ -1,0 +1,99 @@
+//! The ledger at the end of a script: its replicas with their panels, its certificates, the chain of decided blocks.
+
+use super::recount::{Entry, Ledger, Recount, Shown};
+use super::words::*;
+use crate::call::{Outcome, DECIDE};
+use std::collections::BTreeMap;
+
+pub fn summary(recount: &Recount) -> String {
+    let Some(ledger) = &recount.ledger else { return "\nNo ledger is open.\n".to_string() };
+    [replicas(ledger), certificates(ledger), chain(ledger, recount.since_opening())].concat()
+}
+
+fn replicas(ledger: &Ledger) -> String {
+    let heads = ["Replica", "status", "boot", "lowest view", "limit", "flag", "stored", "decided", "panel"];
+    let rows = ledger.replicas.iter().enumerate().map(|(number, shown)| replica(number, shown));
+    let rows: Vec<[String; 9]> = [heads.map(str::to_string)].into_iter().chain(rows).collect();
+    let width = |column: usize| rows.iter().map(|row| row[column].len()).max().unwrap_or(0);
+    let line = |row: &[String; 9]| {
+        let cells = row.iter().enumerate().map(|(column, cell)| format!("{cell:width$}", width = width(column)));
+        cells.collect::<Vec<_>>().join("  ").trim_end().to_string() + "\n"
+    };
+    let steps = format!("Steps of the counter: {}.\n", joined(&ledger.steps.0));
+    format!("\nThe ledger at the end: f = {}, {} replicas\n\n", ledger.f, ledger.replicas.len())
+        + &rows.iter().map(line).collect::<String>()
+        + &steps
+}
+
+fn replica(number: usize, shown: &Shown) -> [String; 9] {
+    let r = shown.replica;
+    let of_view = |block, view| if view == 0 { "-".to_string() } else { format!("block {block}, view {view}") };
+    [
+        number.to_string(),
+        status_name(r.status).to_string(),
+        r.boot.to_string(),
+        r.min_view.to_string(),
+        r.view_limit.to_string(),
+        r.flag.to_string(),
+        of_view(r.stored_block, r.stored_view),
+        of_view(r.decided_block, r.decided_view),
+        shown.panel.to_string(),
+    ]
+}
+
+fn certificates(ledger: &Ledger) -> String {
+    let width = ledger.certificates.len().to_string().len();
+    let line = |(number, c): (usize, _)| format!("{number:width$}  {}\n", signed(c));
+    let lines: String = ledger.certificates.iter().copied().enumerate().map(line).collect();
+    format!("\nCertificates: {}\n\n{lines}", ledger.certificates.len())
+}
+
+fn signed(c: crate::certificate::Certificate) -> String {
+    format!("{:<7}  {}", kind_name(c.kind), says(c))
+}
+
+/// The blocks that accepted decides named: who decided each, and in which view.
+fn decisions(entries: &[Entry]) -> BTreeMap<u32, Vec<(u32, u32)>> {
+    let mut decisions: BTreeMap<u32, Vec<(u32, u32)>> = BTreeMap::new();
+    for entry in entries.iter().filter(|entry| entry.is_accepted(DECIDE)) {
+        let Outcome { first: block, second: view, .. } = entry.outcome;
+        let deciders = decisions.entry(block).or_default();
+        let decider = (entry.call.as_ref().map_or(0, |call| call.replica), view);
+        if !deciders.contains(&decider) {
+            deciders.push(decider);
+        }
+    }
+    decisions
+}
+
+/// Block 0 and the others in the line of the highest decided block, then the rest.
+fn chain(ledger: &Ledger, entries: &[Entry]) -> String {
+    let decisions = decisions(entries);
+    let height = |block: u32| ledger.blocks[block as usize].height;
+    let highest = decisions.keys().copied().max_by_key(|&block| height(block)).unwrap_or(0);
+    let mut line = vec![highest];
+    while let Some(&block) = line.last().filter(|&&block| block != 0) {
+        line.push(ledger.blocks[block as usize].parent);
+    }
+    let mut text = "\nThe chain of decided blocks\n\n".to_string();
+    for &block in line.iter().rev() {
+        let deciders = decisions.get(&block).map_or(String::new(), |deciders| format!(", decided by {}", by(deciders)));
+        text += &format!("height {}: block {block}{deciders}\n", height(block));
+    }
+    let rest = (0..ledger.blocks.len() as u32).filter(|block| !line.contains(block));
+    for block in rest {
+        let against = if decisions.contains_key(&block) { "DECIDED, AND NOT IN THIS CHAIN" } else { "not decided" };
+        text += &format!(
+            "block {block} on block {}, of height {}: {against}\n",
+            ledger.blocks[block as usize].parent,
+            height(block)
+        );
+    }
+    text
+}
+
+fn by(deciders: &[(u32, u32)]) -> String {
+    let words: Vec<String> =
+        deciders.iter().map(|(replica, view)| format!("replica {replica} in view {view}")).collect();
+    joined(&words)
+}

@@ -1,0 +1,115 @@
+//! Calls by name: the script that they become, what is wrong with other lines, and the program `tell` on both. The
+//! scenarios are made from this form.
+
+use judge::driver::Line;
+use judge::tell::columns::columns;
+use judge::tell::form::CALLS;
+use std::io::Write;
+use std::path::{Path, PathBuf};
+use std::process::{Command, Output, Stdio};
+
+#[test]
+fn calls_by_name() {
+    let calls = b"# a comment\n\nopen 1 # f is 1\n  view\t0   01\nverbatim x # y\nprepare-on-acc 1 1 2\nverbatim \nrecover 2 7 8";
+    let script = "       0       1       0\n       5       0       1\nx # y\n       2       1       1       2\n\n      12       2       0       7       8";
+    assert_eq!(String::from_utf8(columns(calls).unwrap()).unwrap(), script);
+}
+
+#[test]
+fn lines_that_are_no_call_by_name() {
+    let wrong = columns(
+        b"open 1\nacumulate 0 1\nview 0\nreboot 0 1\nview 0 +1\nview 0 100000000\nprepare-on-acc 0 1\nverbatim\n",
+    )
+    .unwrap_err();
+    let calls = "the calls are open, block, prepare-on-acc, prepare-on-commits, store, view, accumulate, decide, reboot, reserve, request, reply, recover";
+    assert_eq!(
+        wrong,
+        [
+            format!("line 2: no call 'acumulate': {calls}"),
+            "line 3: 1 number, where 2 must stand: view REPLICA VIEW".to_string(),
+            "line 4: 2 numbers, where 1 must stand: reboot REPLICA".to_string(),
+            "line 5: '+1' is no number".to_string(),
+            "line 6: 100000000 is above 99,999,999, the greatest number of eight columns".to_string(),
+            "line 7: 2 numbers, where 3 must stand: prepare-on-acc REPLICA BLOCK ACC".to_string(),
+            format!("line 8: no call 'verbatim': {calls}"),
+        ]
+    );
+    let long = format!("decide 0{}\n", " 1".repeat(32));
+    assert_eq!(
+        columns(long.as_bytes()).unwrap_err(),
+        ["line 1: 33 numbers, where 1 to 32 must stand: decide REPLICA COMMIT.."]
+    );
+}
+
+/// Every call by its name is the line of its code, with each number in its field.
+#[test]
+fn every_call() {
+    let cases = [
+        ("open 1", Line::new(0, 1, 0, &[])),
+        ("open 1 2 3", Line::new(0, 1, 0, &[2, 3])),
+        ("block 5", Line::new(1, 0, 5, &[])),
+        ("prepare-on-acc 1 2 3", Line::new(2, 1, 2, &[3])),
+        ("prepare-on-commits 1 2 3 4", Line::new(3, 1, 2, &[3, 4])),
+        ("store 1 2", Line::new(4, 1, 2, &[])),
+        ("view 1 2", Line::new(5, 1, 2, &[])),
+        ("accumulate 1 2 3", Line::new(6, 1, 0, &[2, 3])),
+        ("decide 1 2 3", Line::new(7, 1, 0, &[2, 3])),
+        ("reboot 1", Line::new(8, 1, 0, &[])),
+        ("reserve 1", Line::new(9, 1, 0, &[])),
+        ("request 1", Line::new(10, 1, 0, &[])),
+        ("reply 1 2", Line::new(11, 1, 2, &[])),
+        ("recover 1 2 3", Line::new(12, 1, 0, &[2, 3])),
+    ];
+    for (call, line) in &cases {
+        assert_eq!(columns(call.as_bytes()).unwrap(), line.text().into_bytes(), "{call}");
+    }
+    assert!(CALLS.iter().all(|form| cases.iter().any(|(_, line)| line.code == form.code)));
+}
+
+fn with_extension(extension: &str) -> Vec<PathBuf> {
+    let directory = Path::new(env!("CARGO_MANIFEST_DIR")).join("../scenarios");
+    let paths = std::fs::read_dir(directory).unwrap().map(|entry| entry.unwrap().path());
+    paths.filter(|path| path.extension().is_some_and(|found| found == extension)).collect()
+}
+
+#[test]
+fn scenarios_are_made_from_calls() {
+    let scripts = with_extension("txt");
+    assert_eq!(scripts.len(), with_extension("calls").len());
+    for script in scripts {
+        let calls = std::fs::read(script.with_extension("calls")).unwrap();
+        let made = columns(&calls).unwrap();
+        assert!(made == std::fs::read(&script).unwrap(), "{} is not made from its calls", script.display());
+    }
+}
+
+/// The program with these arguments on this input.
+fn tell(arguments: &[&str], input: &str) -> Output {
+    let program = env!("CARGO_BIN_EXE_tell");
+    let piped = Stdio::piped;
+    let mut child =
+        Command::new(program).args(arguments).stdin(piped()).stdout(piped()).stderr(piped()).spawn().unwrap();
+    // One that is not read, as with --help, may be closed already.
+    let _ = child.stdin.take().unwrap().write_all(input.as_bytes());
+    child.wait_with_output().unwrap()
+}
+
+#[test]
+fn the_program() {
+    let made = tell(&["--columns"], "open 1\n");
+    assert_eq!((made.status.code(), made.stdout.as_slice()), (Some(0), b"       0       1       0\n".as_slice()));
+    let wrong = tell(&["--columns"], "open 1\nopen\nview x\n");
+    assert_eq!((wrong.status.code(), wrong.stdout.len()), (Some(1), 0));
+    let errors = "tell: line 2: 0 numbers, where 1 to 32 must stand: open F STEP..\ntell: line 3: 'x' is no number\n";
+    assert_eq!(String::from_utf8(wrong.stderr).unwrap(), errors);
+    let help = tell(&["--help"], "");
+    assert_eq!(help.status.code(), Some(0));
+    assert!(String::from_utf8(help.stdout).unwrap().starts_with("usage: ./tell"));
+    for arguments in [&["FILE"] as &[&str], &["--svg"], &["--columns", "FILE"]] {
+        let bad = tell(arguments, "");
+        assert_eq!((bad.status.code(), bad.stdout.len()), (Some(2), 0), "{arguments:?}");
+        assert!(String::from_utf8(bad.stderr).unwrap().starts_with("usage: ./tell"));
+    }
+    let nowhere = tell(&["--svg", "/no/such/folder/picture.svg"], "");
+    assert_eq!((nowhere.status.code(), nowhere.stdout.len()), (Some(1), 0));
+}

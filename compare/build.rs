@@ -9,13 +9,17 @@ fn main() {
         return;
     }
     let root = format!("{}/..", std::env::var("CARGO_MANIFEST_DIR").unwrap_or_default());
-    let directory = match std::env::var("FIRMWARE_DIR") {
-        Ok(directory) => {
-            let older = printed_by(Command::new(format!("{root}/tools/older")).arg(format!("{directory}/libfirmware.a")));
-            older.lines().for_each(|line| println!("cargo:warning={line}"));
+    let directory = match std::env::var("FIRMWARE_DIR").ok().filter(|directory| !directory.is_empty()) {
+        Some(directory) => {
+            let archive = format!("{directory}/libfirmware.a");
+            let words = printed_by(Command::new(format!("{root}/tools/older")).arg(archive));
+            words.lines().for_each(|line| println!("cargo:warning={line}"));
             directory
         }
-        Err(_) => printed_by(&mut Command::new(format!("{root}/archive"))).trim_end().trim_end_matches("/libfirmware.a").to_string(),
+        None => {
+            printed_by(&mut Command::new(format!("{root}/archive")));
+            format!("{root}/target/staticlib")
+        }
     };
     for source in [format!("{root}/crates"), format!("{root}/crates.txt"), format!("{directory}/libfirmware.a")] {
         println!("cargo:rerun-if-changed={source}");

@@ -1,7 +1,7 @@
 //! With the feature `firmware`: links libfirmware.a from FIRMWARE_DIR, and warns where that is older than its sources; or else the one that
 //! ../archive makes, which never is.
 
-use std::process::{Command, Stdio, exit};
+use std::process::{exit, Command, Stdio};
 
 fn main() {
     println!("cargo:rerun-if-env-changed=FIRMWARE_DIR");

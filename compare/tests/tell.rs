@@ -259,11 +259,11 @@ fn cuts_and_recoveries() {
         &[
             (
                 "reboot 0",
-                "accepted, 1 and 64: boot 1, it is recovering, and what it stored is forgotten; from view 64 on, its old limit",
+                "accepted, 1 and 64: boot 1: it is recovering, what it stored is forgotten, and its lowest view is its old limit, 64",
             ),
             (
                 "reboot 2\nrequest 2",
-                "accepted, 6 and 0: REQ 6 is added: replica 2 asks from boot 1, to come back at view 64; signed at boot 1",
+                "accepted, 6 and 0: REQ 6 is added: replica 2, at boot 1, asks to come back at view 64; signed at boot 1",
             ),
         ],
     );
@@ -334,7 +334,7 @@ Certificates: 6
 
 0  NEWVIEW  replica 0 enters view 1 with nothing stored
 1  NEWVIEW  replica 1 enters view 1 with nothing stored
-2  ACC      replica 0 may propose in view 1 on block 0, as none of them has stored any
+2  ACC      replica 0 accumulated view 1: a proposal stands on block 0, as nothing is stored
 3  PROP     replica 0 proposes block 1 in view 1
 4  COMMIT   replica 0 has stored block 1 in view 1
 5  COMMIT   replica 1 has stored block 1 in view 1

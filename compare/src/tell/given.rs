@@ -51,7 +51,7 @@ fn rebooted(change: Change) -> String {
         (RETIRED, RETIRED) => "it is retired for good".to_string(),
         (RETIRED, _) => format!("the counter would pass {}: it is retired for good", thousands(CEILING)),
         _ => format!(
-            "boot {boot}, it is recovering, and what it stored is forgotten; from view {min_view} on, its old limit"
+            "boot {boot}: it is recovering, what it stored is forgotten, and its lowest view is its old limit, {min_view}"
         ),
     }
 }

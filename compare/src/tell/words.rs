@@ -84,6 +84,15 @@ pub fn stored(block: u32, view: u32) -> String {
     }
 }
 
+/// Why an ACC names its block.
+fn basis(of_view: u32) -> String {
+    if of_view == 0 {
+        "as nothing is stored".to_string()
+    } else {
+        format!("the last stored, in view {of_view}")
+    }
+}
+
 /// What a certificate says.
 pub fn says(c: Certificate) -> String {
     let Certificate { signer, view, block, of_view, subject, subject_boot, .. } = c;
@@ -91,13 +100,10 @@ pub fn says(c: Certificate) -> String {
         PROP => format!("replica {signer} proposes block {block} in view {view}"),
         COMMIT => format!("replica {signer} has stored block {block} in view {view}"),
         NEWVIEW => format!("replica {signer} enters view {view} with {}", stored(block, of_view)),
-        ACC if of_view == 0 => {
-            format!("replica {signer} may propose in view {view} on block 0, as none of them has stored any")
-        }
         ACC => {
-            format!("replica {signer} may propose in view {view} on block {block}, the last stored, in view {of_view}")
+            format!("replica {signer} accumulated view {view}: a proposal stands on block {block}, {}", basis(of_view))
         }
-        REQ => format!("replica {signer} asks from boot {subject_boot}, to come back at view {view}"),
+        REQ => format!("replica {signer}, at boot {subject_boot}, asks to come back at view {view}"),
         _ => format!(
             "replica {signer} answers replica {subject} of boot {subject_boot}, at view {view}, with {}",
             stored(block, of_view)

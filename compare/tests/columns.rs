@@ -72,6 +72,10 @@ fn with_extension(extension: &str) -> Vec<PathBuf> {
     paths.filter(|path| path.extension().is_some_and(|found| found == extension)).collect()
 }
 
+fn feeds(text: &[u8]) -> usize {
+    text.iter().filter(|&&byte| byte == b'\n').count()
+}
+
 #[test]
 fn scenarios_are_made_from_calls() {
     let scripts = with_extension("txt");
@@ -80,6 +84,7 @@ fn scenarios_are_made_from_calls() {
         let calls = std::fs::read(script.with_extension("calls")).unwrap();
         let made = columns(&calls).unwrap();
         assert!(made == std::fs::read(&script).unwrap(), "{} is not made from its calls", script.display());
+        assert_eq!(feeds(&calls), feeds(&made), "{}: a line of its calls is no line of it", script.display());
     }
 }
 

@@ -38,6 +38,8 @@ struct Arrow {
 
 /// Hundredths of an arrow at which its label is tried, the best first.
 const PLACES: [i32; 9] = [50, 40, 60, 30, 70, 20, 80, 12, 88];
+/// How far above or below the arrow, where no place on it is free.
+const SHIFTS: [i32; 5] = [0, -9, 9, -18, 18];
 
 pub fn draw(canvas: &mut Canvas, layout: &Layout) {
     let arrows = arrows(layout);
@@ -63,8 +65,9 @@ fn arrows(layout: &Layout) -> Vec<Arrow> {
         let to = place(layout, row);
         let is_found = row.entry.issued.is_some() && row.entry.outcome.second == FOUND;
         let is_pale = is_found || !row.entry.outcome.is_accepted();
-        for &filed in &row.entry.named {
-            if let Some(&from) = added.get(&filed.number) {
+        for (place, &filed) in row.entry.named.iter().enumerate() {
+            let is_again = row.entry.named[..place].iter().any(|earlier| earlier.number == filed.number);
+            if let Some(&from) = added.get(&filed.number).filter(|_| !is_again) {
                 arrows.push(Arrow { filed, is_pale, from, to });
             }
         }
@@ -126,9 +129,13 @@ impl Arrow {
     /// The first place that is free, else the middle.
     fn label_place(&self, taken: &[Area]) -> (Point, Area) {
         let half = 3 * self.label().len() as i32;
-        let area = |part: i32| (self.along(part), Area::around(self.along(part), half, 6));
-        let free = PLACES.iter().map(|&part| area(part)).find(|(_, area)| !taken.iter().any(|other| other.meets(area)));
-        free.unwrap_or_else(|| area(PLACES[0]))
+        let place = |part: i32, shift: i32| {
+            let at = self.along(part).shifted(0, shift);
+            (at, Area::around(at, half, 6))
+        };
+        let mut places = SHIFTS.iter().flat_map(|&shift| PLACES.iter().map(move |&part| place(part, shift)));
+        let free = places.find(|(_, area)| !taken.iter().any(|other| other.meets(area)));
+        free.unwrap_or_else(|| place(PLACES[0], SHIFTS[0]))
     }
 }
 

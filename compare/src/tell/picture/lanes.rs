@@ -7,6 +7,10 @@ use crate::memory::{replica_count, LIVE};
 use crate::tell::recount::{Recount, Shown};
 use crate::tell::words::{status_name, stored};
 
+const LEGEND: &str =
+    "dot: a certificate is added, hollow: found; square: a decision; red bar: a power cut, dashed up to the recovery; \
+                      red number: refused; pale arrow: nothing came of it";
+
 pub fn draw(canvas: &mut Canvas, layout: &Layout, recount: &Recount) {
     heads(canvas, layout);
     for row in &layout.rows {
@@ -20,6 +24,9 @@ pub fn draw(canvas: &mut Canvas, layout: &Layout, recount: &Recount) {
     let replicas = recount.ledger.iter().flat_map(|ledger| &ledger.replicas);
     for (shown, number) in replicas.zip(0..MAX_LANES) {
         foot(canvas, Point::new(lane_x(number as i32), layout.end), shown);
+    }
+    if recount.ledger.is_some() {
+        canvas.text("quiet", layout.legend(), Anchor::Start, LEGEND);
     }
 }
 

@@ -16,7 +16,8 @@ const SIDE: i32 = 170;
 const TEXT: i32 = 430;
 const ROW: i32 = 26;
 pub const TEXT_LINE: i32 = 14;
-const BOTTOM: i32 = 130;
+const BOTTOM: i32 = 136;
+const MARGIN: i32 = 16;
 /// Characters of a text line.
 const MOST_CHARACTERS: usize = 74;
 
@@ -93,6 +94,14 @@ impl<'a> Layout<'a> {
 
     pub fn heads(&self) -> i32 {
         TOP - 30
+    }
+
+    pub fn legend(&self) -> Point {
+        Point::new(MARGIN, self.end + BOTTOM - MARGIN)
+    }
+
+    pub fn title(&self) -> Point {
+        Point::new(MARGIN, MARGIN + 10)
     }
 }
 

@@ -9,7 +9,7 @@ pub mod marks;
 
 use crate::tell::recount::Recount;
 use crate::tell::words::thousands;
-use canvas::{Anchor, Canvas, Point};
+use canvas::{Anchor, Canvas};
 use layout::{Layout, MAX_LANES, MAX_ROWS};
 
 pub struct Picture {
@@ -45,7 +45,7 @@ fn drawn(recount: &Recount, lines: usize) -> String {
 fn svg(recount: &Recount, title: &str) -> String {
     let layout = Layout::of(recount);
     let mut canvas = Canvas::default();
-    canvas.text("title", Point::new(16, 26), Anchor::Start, title);
+    canvas.text("title", layout.title(), Anchor::Start, title);
     lanes::draw(&mut canvas, &layout, recount);
     arrows::draw(&mut canvas, &layout);
     marks::draw(&mut canvas, &layout);

@@ -53,7 +53,7 @@ extern "C" {
 #define YARD_ROW_WORDS 9
 #define YARD_ROW(replica) (YARD_HEADER_WORDS + YARD_STEPS + YARD_ROW_WORDS * (replica)) /* where a replica's row begins */
 #define YARD_TABLE_WORDS(f) YARD_ROW(2 * (f) + 1)
-#define YARD_TABLE_F 0
+#define YARD_TABLE_F 0            /* of 2f+1 replicas f+1 decide */
 #define YARD_TABLE_CERTIFICATES 1 /* issued so far; the next gets this number */
 #define YARD_TABLE_BLOCKS 2       /* added so far */
 #define YARD_TABLE_STEPS 3        /* the first of the steps, those of boots 0 to 7 */
@@ -138,12 +138,13 @@ extern "C" {
  *
  * Memory. A caller lends three slices: a table of YARD_TABLE_WORDS(f) words, f from 1 to YARD_MAX_F; a log of whole certificates, at most
  * YARD_MAX_CERTIFICATES or none; blocks of whole records, 1 to YARD_MAX_BLOCKS. What they hold before an open does not matter.
+ * Nothing is ever taken out: where no slot is free a call that must add gives YARD_REFUSED_ROOM. An open begins another ledger.
  *
  * The ledger. One table has the rows of all replicas and one log every certificate: the slices are the ledger of the whole pool and not one
  * box's part of it. The log stands for the signatures, as all that is in it was issued by calls, and a message is a certificate's number
  * given to a call. A call acts for one replica and changes words of its row alone, beside what it adds to the log or the blocks and their
- * counts; only an open writes all rows. How firms that stand apart share one ledger is outside of this archive, and so are wires,
- * signatures and clocks.
+ * counts; only an open writes all rows. Of a block the ledger has its number, parent and height; what the block says is the caller's. How
+ * firms that stand apart share one ledger is outside of this archive, and so are wires, signatures and clocks.
  *
  * The promise. Take any calls in any order after one accepted open, up to the next, each lent the same slices as the last left them, where
  * nothing else writes. Then of two decided blocks one is in the other's line of parents, and no panel's height falls. Of slices that
@@ -192,9 +193,10 @@ uint32_t yard_version(void);
  * an ACC without just one, and a number or a replica other than the 0 above give YARD_REFUSED_UNREADABLE. Every call but an open tests the
  * form of all words up to the counts, and reads none past them.
  *
- * A decision. Replicas enter a view; its leader accumulates f+1 of their NEWVIEWs, which gives an ACC, and proposes a block on the ACC's;
- * replicas store the PROP; f+1 COMMITs of different replicas decide. Among n replicas (v - 1) mod n leads view v; view 0 has no leader. An
- * ACC serves its signer alone, in its own view. On COMMITs of view v the leader of view v + 1 may propose without NEWVIEWs and ACC.
+ * A decision. A view is a round with one leader. Replicas enter it; the leader accumulates f+1 of their NEWVIEWs, which gives an ACC, and
+ * proposes a block on the ACC's; replicas store the PROP; f+1 COMMITs of different replicas decide. Among n replicas (v - 1) mod n leads
+ * view v; view 0 has no leader. An ACC serves its signer alone, in its own view. On COMMITs of view v the leader of view v + 1 may propose
+ * without NEWVIEWs and ACC.
  *
  * Status. A live replica prepares, stores, enters views, accumulates and replies; a recovering one requests and recovers; all but a retired
  * one reserve. A decide and a reboot are taken from any.

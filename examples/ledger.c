@@ -1,6 +1,6 @@
 /* A ledger of three replicas in C: open it, decide a block, cut one replica's power, recover it; calls whose answers got lost are made
- * again, and a wrong height is told. Then it is opened anew with steps of the pool's own. Its status is 1 if an answer was
- * wrong. */
+ * again, and a wrong height is told. Then it is opened anew, with steps of the pool's own and without a log. Its status is 1 if an answer
+ * was wrong. */
 #include "yard.h"
 
 #include <stdio.h>
@@ -89,6 +89,16 @@ static void open_anew(void) {
     call(YARD_CALL_REBOOT, 0, 0, NULL, 0, YARD_ACCEPTED, 1, 256);
 }
 
+/* A log without slots, lent as NULL: there is no room for a certificate. No movements are lent as NULL too. */
+static void without_log(void) {
+    uint32_t first, second;
+    int32_t balance;
+    if (yard_call(YARD_CALL_OPEN, 1, 0, NULL, 0, table, TABLE, NULL, 0, blocks, BLOCKS, &first, &second) != YARD_ACCEPTED ||
+        yard_call(YARD_CALL_VIEW, 0, 1, NULL, 0, table, TABLE, NULL, 0, blocks, BLOCKS, &first, &second) != YARD_REFUSED_ROOM ||
+        yard_balance(table, TABLE, NULL, 0, blocks, BLOCKS, NULL, 0, 0, 0, &balance) != YARD_ACCEPTED || balance != 0)
+        wrong = 1;
+}
+
 int main(void) {
     if (yard_version() != YARD_VERSION) {
         puts("the archive is not the header's");
@@ -98,6 +108,7 @@ int main(void) {
     another_height();
     recover();
     open_anew();
+    without_log();
     puts(wrong ? "wrong" : "right");
     return wrong;
 }

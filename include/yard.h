@@ -28,7 +28,7 @@ extern "C" {
 #define YARD_CALL_REPLY 11
 #define YARD_CALL_RECOVER 12
 
-/* Answers. Where several refusals are due the lowest is given, but by an open, whose order is 2, 12, 1. */
+/* Answers. 10 comes before all other refusals. Of those the lowest that is due is given, but by an open, whose order is 2, 12, 1. */
 #define YARD_ACCEPTED 0
 #define YARD_REFUSED_FORM 1        /* wrong form or lengths of what is lent */
 #define YARD_REFUSED_RANGE 2       /* f, a replica, a view to enter or the length of a list of certificates is out of range */

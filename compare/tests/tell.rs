@@ -171,6 +171,10 @@ fn refusals_of_the_counter() {
     tells(
         stored,
         &[
+            (
+                "view 1 152",
+                "accepted, 6 and 0: NEWVIEW 6 is added: replica 1 enters view 152 with block 1 stored in view 151",
+            ),
             ("store 2 3", "8: view 151 is not below replica 2's limit, 64: 2 reserves of 64 more"),
             (
                 "reboot 2\nrequest 2\nreply 0 6\nreply 1 6\nrecover 2 7 8",
@@ -188,9 +192,10 @@ fn refusals_for_want_of_room() {
     let blocks = format!("open 1\n{}", "block 0\n".repeat(1023));
     tells(&blocks, &[("block 0", "9: no room: all 1,024 blocks are added")]);
     let reserves = "reserve 0\n".repeat(40);
-    let views: String = (1..=2048).map(|view| format!("view 0 {view}\n")).collect();
-    let full = format!("open 1\n{reserves}{views}");
-    tells(&full, &[("view 1 1", "9: no room: the log has 2,048 certificates, and none equal to this one")]);
+    let views: String = (1..2048).map(|view| format!("view 0 {view}\n")).collect();
+    let full = format!("open 1\nreboot 1\nrequest 1\n{reserves}{views}");
+    let no_room = "9: no room: the log has 2,048 certificates, and none equal to this one";
+    tells(&full, &[("view 2 1", no_room), ("reply 2 0", no_room)]);
 }
 
 #[test]

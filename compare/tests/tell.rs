@@ -202,7 +202,8 @@ fn refusals_for_want_of_room() {
 fn unreadable_lines() {
     let cases: &[(&str, &str)] = &[
         ("", "10: the line is empty"),
-        ("view", "10: 4 columns: a field has 8, and the last is not whole"),
+        ("view 0 1", "10: 'view' is a call by name: ./tell --columns makes a script of such lines"),
+        ("5 0 1", "10: 5 columns: a field has 8, and the last is not whole"),
         (
             "       5       0       1\r",
             "10: 25 columns: a field has 8, and the last is not whole; it ends with a carriage return",

@@ -1,13 +1,11 @@
 /* A ledger of three replicas in C: open it, decide a block, cut one replica's power, recover it; calls whose answers got lost are made
- * again, and a wrong height is told. Then it is opened anew with steps of the pool's own. Its status is 1 if an answer was
- * wrong. */
-#include "../include/yard.h"
+ * again, and a wrong height is told. Then it is opened anew, with steps of the pool's own and without a log. Its status is 1 if an answer
+ * was wrong. */
+#include "yard.h"
 
 #include <stdio.h>
 
-enum { TABLE = YARD_TABLE_WORDS(1), LOG = 16 * YARD_CERTIFICATE_WORDS, BLOCKS = 4 * YARD_BLOCK_WORDS, COLUMNS = 8 };
-
-enum { OPEN, BLOCK, PREPARE, PREPARE_ON_COMMITS, STORE, VIEW, ACCUMULATE, DECIDE, REBOOT, RESERVE, REQUEST, REPLY, RECOVER };
+enum { TABLE = YARD_TABLE_WORDS(1), LOG = 16 * YARD_CERTIFICATE_WORDS, BLOCKS = 4 * YARD_BLOCK_WORDS };
 
 static uint32_t table[TABLE], log_words[LOG], blocks[BLOCKS];
 
@@ -27,59 +25,90 @@ static void call(uint32_t code, uint32_t replica, uint32_t number, const uint32_
 /* A replica's height as its panel shows it, in eight columns. */
 static void panel(uint32_t replica, uint32_t answer, uint32_t height) {
     uint32_t shown = 0;
-    uint8_t columns[COLUMNS] = {0};
+    uint8_t columns[YARD_COLUMNS] = {0};
     uint32_t got = yard_panel(table, TABLE, log_words, LOG, blocks, BLOCKS, replica, &shown);
-    uint32_t wrote = yard_write_number(shown, columns, COLUMNS);
-    printf("panel of %u: %u |%.*s|\n", replica, got, COLUMNS, (const char *)columns);
-    if (got != answer || shown != height || wrote != 0 || yard_read_number(columns, COLUMNS) != shown)
+    uint32_t wrote = yard_write_number(shown, columns, YARD_COLUMNS);
+    printf("panel of %u: %u |%.*s|\n", replica, got, YARD_COLUMNS, (const char *)columns);
+    if (got != answer || shown != height || wrote != YARD_ACCEPTED || yard_read_number(columns, YARD_COLUMNS) != shown)
         wrong = 1;
 }
 
 /* Another height in the record of block 1: calls and panel give 1, until the right one stands there again. */
 static void another_height(void) {
-    enum { HEIGHT_OF_1 = YARD_BLOCK_WORDS + 1 };
+    enum { HEIGHT_OF_1 = YARD_BLOCK_WORDS + YARD_BLOCK_HEIGHT };
     blocks[HEIGHT_OF_1] = 2;
-    panel(0, 1, 0);
-    call(VIEW, 0, 2, NULL, 0, 1, 0, 0);
+    panel(0, YARD_REFUSED_FORM, 0);
+    call(YARD_CALL_VIEW, 0, 2, NULL, 0, YARD_REFUSED_FORM, 0, 0);
     blocks[HEIGHT_OF_1] = 1;
-    panel(0, 0, 1);
+    panel(0, YARD_ACCEPTED, 1);
+}
+
+/* Replicas 0 and 2 decide block 1; the power of replica 1 fails meanwhile. */
+static void decide(void) {
+    const uint32_t views[] = {0, 1}, acc[] = {2}, commits[] = {4, 5};
+    call(YARD_CALL_OPEN, 1, 0, NULL, 0, YARD_ACCEPTED, 3, 0);
+    call(YARD_CALL_VIEW, 0, 1, NULL, 0, YARD_ACCEPTED, 0, YARD_ADDED);
+    call(YARD_CALL_VIEW, 0, 1, NULL, 0, YARD_ACCEPTED, 0, YARD_FOUND);
+    call(YARD_CALL_VIEW, 1, 1, NULL, 0, YARD_ACCEPTED, 1, YARD_ADDED);
+    call(YARD_CALL_ACCUMULATE, 0, 0, views, 2, YARD_ACCEPTED, 2, YARD_ADDED);
+    call(YARD_CALL_ACCUMULATE, 0, 0, views, 2, YARD_ACCEPTED, 2, YARD_FOUND);
+    call(YARD_CALL_BLOCK, 0, 0, NULL, 0, YARD_ACCEPTED, 1, 0);
+    call(YARD_CALL_PREPARE_ON_ACC, 0, 1, acc, 1, YARD_ACCEPTED, 3, YARD_ADDED);
+    call(YARD_CALL_PREPARE_ON_ACC, 0, 1, acc, 1, YARD_REFUSED_VIEW, 0, 0);
+    call(YARD_CALL_STORE, 0, 3, NULL, 0, YARD_ACCEPTED, 4, YARD_ADDED);
+    call(YARD_CALL_STORE, 0, 3, NULL, 0, YARD_REFUSED_VIEW, 0, 0);
+    call(YARD_CALL_REBOOT, 1, 0, NULL, 0, YARD_ACCEPTED, 1, 64);
+    call(YARD_CALL_STORE, 1, 3, NULL, 0, YARD_REFUSED_STATUS, 0, 0);
+    call(YARD_CALL_STORE, 2, 3, NULL, 0, YARD_ACCEPTED, 5, YARD_ADDED);
+    call(YARD_CALL_DECIDE, 0, 0, commits, 2, YARD_ACCEPTED, 1, 1);
+    panel(0, YARD_ACCEPTED, 1);
+    panel(1, YARD_ACCEPTED, 0);
+}
+
+/* Replica 1 asks, the others reply, and it comes back with the block that they stored in view 1. */
+static void recover(void) {
+    const uint32_t replies[] = {7, 8};
+    call(YARD_CALL_REQUEST, 1, 0, NULL, 0, YARD_ACCEPTED, 6, YARD_ADDED);
+    call(YARD_CALL_REQUEST, 1, 0, NULL, 0, YARD_ACCEPTED, 6, YARD_FOUND);
+    call(YARD_CALL_REPLY, 0, 6, NULL, 0, YARD_ACCEPTED, 7, YARD_ADDED);
+    call(YARD_CALL_REPLY, 0, 6, NULL, 0, YARD_ACCEPTED, 7, YARD_FOUND);
+    call(YARD_CALL_REPLY, 2, 6, NULL, 0, YARD_ACCEPTED, 8, YARD_ADDED);
+    call(YARD_CALL_RECOVER, 1, 0, replies, 2, YARD_ACCEPTED, 64, 1);
+}
+
+/* What is no call, and what is no opening; then a ledger with steps of the pool's own. */
+static void open_anew(void) {
+    const uint32_t steps[YARD_STEPS] = {256, 256, 512, 512, 1024, 1024, 2048, YARD_MAX_STEP};
+    call(YARD_CALL_RECOVER + 1, 0, 0, NULL, 0, YARD_REFUSED_UNREADABLE, 0, 0);
+    call(YARD_CALL_OPEN, 1, 0, steps, YARD_STEPS - 1, YARD_REFUSED_STEPS, 0, 0);
+    panel(0, YARD_ACCEPTED, 1);
+    call(YARD_CALL_OPEN, 1, 0, steps, YARD_STEPS, YARD_ACCEPTED, 3, 0);
+    panel(0, YARD_ACCEPTED, 0);
+    call(YARD_CALL_VIEW, 0, 255, NULL, 0, YARD_ACCEPTED, 0, YARD_ADDED);
+    call(YARD_CALL_VIEW, 0, 256, NULL, 0, YARD_REFUSED_COUNTER, 0, 0);
+    call(YARD_CALL_REBOOT, 0, 0, NULL, 0, YARD_ACCEPTED, 1, 256);
+}
+
+/* A log without slots, lent as NULL: there is no room for a certificate. No movements are lent as NULL too. */
+static void without_log(void) {
+    uint32_t first, second;
+    int32_t balance;
+    if (yard_call(YARD_CALL_OPEN, 1, 0, NULL, 0, table, TABLE, NULL, 0, blocks, BLOCKS, &first, &second) != YARD_ACCEPTED ||
+        yard_call(YARD_CALL_VIEW, 0, 1, NULL, 0, table, TABLE, NULL, 0, blocks, BLOCKS, &first, &second) != YARD_REFUSED_ROOM ||
+        yard_balance(table, TABLE, NULL, 0, blocks, BLOCKS, NULL, 0, 0, 0, &balance) != YARD_ACCEPTED || balance != 0)
+        wrong = 1;
 }
 
 int main(void) {
-    const uint32_t views[] = {0, 1}, acc[] = {2}, commits[] = {4, 5}, replies[] = {7, 8};
-    const uint32_t steps[YARD_STEPS] = {256, 256, 512, 512, 1024, 1024, 2048, YARD_MAX_STEP};
-    call(OPEN, 1, 0, NULL, 0, 0, 3, 0);
-    call(VIEW, 0, 1, NULL, 0, 0, 0, YARD_ADDED);
-    call(VIEW, 0, 1, NULL, 0, 0, 0, YARD_FOUND);
-    call(VIEW, 1, 1, NULL, 0, 0, 1, YARD_ADDED);
-    call(ACCUMULATE, 0, 0, views, 2, 0, 2, YARD_ADDED);
-    call(ACCUMULATE, 0, 0, views, 2, 0, 2, YARD_FOUND);
-    call(BLOCK, 0, 0, NULL, 0, 0, 1, 0);
-    call(PREPARE, 0, 1, acc, 1, 0, 3, YARD_ADDED);
-    call(PREPARE, 0, 1, acc, 1, 7, 0, 0);
-    call(STORE, 0, 3, NULL, 0, 0, 4, YARD_ADDED);
-    call(STORE, 0, 3, NULL, 0, 7, 0, 0);
-    call(REBOOT, 1, 0, NULL, 0, 0, 1, 64);
-    call(STORE, 1, 3, NULL, 0, 4, 0, 0);
-    call(STORE, 2, 3, NULL, 0, 0, 5, YARD_ADDED);
-    call(DECIDE, 0, 0, commits, 2, 0, 1, 1);
-    panel(0, 0, 1);
-    panel(1, 0, 0);
+    if (yard_version() != YARD_VERSION) {
+        puts("the archive is not the header's");
+        return 1;
+    }
+    decide();
     another_height();
-    call(REQUEST, 1, 0, NULL, 0, 0, 6, YARD_ADDED);
-    call(REQUEST, 1, 0, NULL, 0, 0, 6, YARD_FOUND);
-    call(REPLY, 0, 6, NULL, 0, 0, 7, YARD_ADDED);
-    call(REPLY, 0, 6, NULL, 0, 0, 7, YARD_FOUND);
-    call(REPLY, 2, 6, NULL, 0, 0, 8, YARD_ADDED);
-    call(RECOVER, 1, 0, replies, 2, 0, 64, 1);
-    call(13, 0, 0, NULL, 0, 10, 0, 0);
-    call(OPEN, 1, 0, steps, YARD_STEPS - 1, 12, 0, 0);
-    panel(0, 0, 1);
-    call(OPEN, 1, 0, steps, YARD_STEPS, 0, 3, 0);
-    panel(0, 0, 0);
-    call(VIEW, 0, 255, NULL, 0, 0, 0, YARD_ADDED);
-    call(VIEW, 0, 256, NULL, 0, 8, 0, 0);
-    call(REBOOT, 0, 0, NULL, 0, 0, 1, 256);
+    recover();
+    open_anew();
+    without_log();
     puts(wrong ? "wrong" : "right");
     return wrong;
 }

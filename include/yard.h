@@ -1,111 +1,263 @@
-/* The agreement core of a ledger box: five functions of the archive that `rt staticlib firmware` writes.
- *
- * What a caller owes: each pointer with its true length, and slices that overlap neither one another nor what is written beside them (the
- * two values, which are two words, the height or the balance). An empty list, of a call's or of movements, and an empty log may be NULL
- * with length 0. Nothing else but room on the stack: any contents of the slices, the movements too, and any numbers are answered, and what
- * is refused changes no word of a slice. */
+/* The agreement core of a ledger box: the six functions of the archive libfirmware.a. First the numbers, then what a caller must know, then
+ * a section for each function. docs/CALLS.md has more of the calls: what each needs, in order, and which words it changes. */
 #ifndef YARD_H
 #define YARD_H
 
 #include <stddef.h>
 #include <stdint.h>
 
-/* The words that a caller lends: a table for f, from 1 to 30, of three words, the steps of the counter and nine words a replica; room for
- * at most 4096 certificates; and for 1 to 4096 blocks, of two words each, parent and height, which the calls write. A length that is no
- * whole number of records gives 1. Whoever lent a word a block before must lend two: the old length, if even, is taken, with half the room.
- * Blocks kept from then are no records, and calls give 1: open anew, or write each one's parent and height.
- *
- * A certificate is eight words: kind (1 PROP, 2 COMMIT, 3 NEWVIEW, 4 ACC, 5 REQ, 6 REPLY), signer, view, block, of-view, subject, the
- * subject's boot (both 0 in kinds other than REQ and REPLY), and the boot of its signer when it was issued. The last tells a certificate
- * from before a power cut from the one after it; examples/cuts.c prints it. Whoever lent seven words a certificate before must lend eight:
- * an old length that is a multiple of eight is taken, with fewer slots. Never lend a log kept from then, as its words would be read as
- * eights: open anew. */
-#define YARD_STEPS 8
-#define YARD_TABLE_WORDS(f) (3 + YARD_STEPS + 9 * (2 * (f) + 1))
-#define YARD_CERTIFICATE_WORDS 8
-#define YARD_BLOCK_WORDS 2
+#ifdef __cplusplus
+extern "C" {
+#endif
 
-/* The largest step that an open may be given. */
-#define YARD_MAX_STEP 4096
+/* The number of this interface. It goes up when a function, a number or a word's place changes; yard_version gives the archive's. */
+#define YARD_VERSION 1
 
-/* The second value of an accepted call that issues a certificate: it was added to the log, or an equal one was found there. Where a call is
- * refused both values are 0, so look at the answer first. */
+/* Codes of calls. Their arguments and values are in the table at yard_call. */
+#define YARD_CALL_OPEN 0
+#define YARD_CALL_BLOCK 1
+#define YARD_CALL_PREPARE_ON_ACC 2
+#define YARD_CALL_PREPARE_ON_COMMITS 3
+#define YARD_CALL_STORE 4
+#define YARD_CALL_VIEW 5
+#define YARD_CALL_ACCUMULATE 6
+#define YARD_CALL_DECIDE 7
+#define YARD_CALL_REBOOT 8
+#define YARD_CALL_RESERVE 9
+#define YARD_CALL_REQUEST 10
+#define YARD_CALL_REPLY 11
+#define YARD_CALL_RECOVER 12
+
+/* Answers. 10 comes before all other refusals. Of those the lowest that is due is given, but by an open, whose order is 2, 12, 1. */
+#define YARD_ACCEPTED 0
+#define YARD_REFUSED_FORM 1        /* wrong form or lengths of what is lent */
+#define YARD_REFUSED_RANGE 2       /* f, a replica, a view to enter or the length of a list of certificates is out of range */
+#define YARD_REFUSED_NUMBER 3      /* no such certificate or block */
+#define YARD_REFUSED_STATUS 4      /* the replica's status is not the one needed */
+#define YARD_REFUSED_CERTIFICATE 5 /* a certificate does not fit, a signer counts twice, or the replica does not lead */
+#define YARD_REFUSED_BLOCK 6       /* the proposed block is block 0, or not on the block that the ACC or the COMMITs name */
+#define YARD_REFUSED_VIEW 7        /* the view is past; of a proposal also: it is not entered yet, or has its proposal */
+#define YARD_REFUSED_COUNTER 8     /* the counter must be moved first, or is at its end */
+#define YARD_REFUSED_ROOM 9        /* no free slot for the block or the certificate */
+#define YARD_REFUSED_UNREADABLE 10 /* no such code, or other arguments than its own; of yard_write_number: nothing is written */
+#define YARD_REFUSED_MOVEMENT 11   /* of yard_balance alone: a movement breaks its rules */
+#define YARD_REFUSED_STEPS 12      /* of an open alone: the steps break their rules, or are not eight */
+
+/* The second value of an accepted call that issues a certificate: it was added to the log, or an equal one was found there. */
 #define YARD_ADDED 0
 #define YARD_FOUND 1
 
-/* Bytes of stack that a balance takes for the longest line, of 4096 blocks, measured on x86-64 with the arguments, and at most 256 to
- * spare: 32 for every 16 blocks, beside 4.4 KB. examples/stack.c measures it. The other functions do not recurse: of them 404 bytes were
- * the most, of a panel 196. */
-#define YARD_BALANCE_STACK 12800
+/* The table: three words of header, the steps of the counter, then a row for each of the 2f+1 replicas. */
+#define YARD_HEADER_WORDS 3
+#define YARD_STEPS 8
+#define YARD_ROW_WORDS 9
+#define YARD_ROW(replica) (YARD_HEADER_WORDS + YARD_STEPS + YARD_ROW_WORDS * (replica)) /* where a replica's row begins */
+#define YARD_TABLE_WORDS(f) YARD_ROW(2 * (f) + 1)
+#define YARD_TABLE_F 0            /* of 2f+1 replicas f+1 decide */
+#define YARD_TABLE_CERTIFICATES 1 /* issued so far; the next gets this number */
+#define YARD_TABLE_BLOCKS 2       /* added so far */
+#define YARD_TABLE_STEPS 3        /* the first of the steps, those of boots 0 to 7 */
 
-/* Lent to yard_balance alone: at most 2048 movements of four words each (block, giver, taker, pallets). */
+/* A replica's row: table[YARD_ROW(replica) + YARD_ROW_LIMIT]. */
+#define YARD_ROW_STATUS 0
+#define YARD_ROW_BOOT 1        /* how often its power was cut */
+#define YARD_ROW_LOWEST_VIEW 2 /* in which it may still propose, store or enter */
+#define YARD_ROW_LIMIT 3       /* the first view in which it may not, before its counter is moved */
+#define YARD_ROW_FLAG 4        /* whether it has proposed in its lowest view */
+#define YARD_ROW_STORED_VIEW 5
+#define YARD_ROW_STORED_BLOCK 6
+#define YARD_ROW_DECIDED_VIEW 7
+#define YARD_ROW_DECIDED_BLOCK 8
+
+#define YARD_STATUS_LIVE 0
+#define YARD_STATUS_RECOVERING 1
+#define YARD_STATUS_RETIRED 2
+
+#define YARD_FLAG_LOWERED 0
+#define YARD_FLAG_RAISED 1
+
+/* A certificate in the log: log[YARD_CERTIFICATE_WORDS * number + YARD_CERTIFICATE_KIND]. */
+#define YARD_CERTIFICATE_WORDS 8
+#define YARD_CERTIFICATE_KIND 0
+#define YARD_CERTIFICATE_SIGNER 1
+#define YARD_CERTIFICATE_VIEW 2
+#define YARD_CERTIFICATE_BLOCK 3
+#define YARD_CERTIFICATE_OF_VIEW 4      /* the view in which the block was stored */
+#define YARD_CERTIFICATE_SUBJECT 5      /* the replica that is to recover; 0 but in a REQ and a REPLY */
+#define YARD_CERTIFICATE_SUBJECT_BOOT 6 /* and its boot */
+#define YARD_CERTIFICATE_SIGNER_BOOT 7  /* the boot of the signer when it was issued */
+
+#define YARD_KIND_PROP 1
+#define YARD_KIND_COMMIT 2
+#define YARD_KIND_NEWVIEW 3
+#define YARD_KIND_ACC 4
+#define YARD_KIND_REQ 5
+#define YARD_KIND_REPLY 6
+
+/* A block's record: blocks[YARD_BLOCK_WORDS * number + YARD_BLOCK_PARENT]. */
+#define YARD_BLOCK_WORDS 2
+#define YARD_BLOCK_PARENT 0
+#define YARD_BLOCK_HEIGHT 1
+
+/* A movement of pallets, lent to yard_balance alone. */
 #define YARD_MOVEMENT_WORDS 4
+#define YARD_MOVEMENT_BLOCK 0
+#define YARD_MOVEMENT_GIVER 1
+#define YARD_MOVEMENT_TAKER 2
+#define YARD_MOVEMENT_PALLETS 3
+
+/* Limits. */
+#define YARD_MAX_F 30
+#define YARD_MAX_REPLICAS 61
+#define YARD_MAX_CERTIFICATES 4096 /* slots of a log; it may have none */
+#define YARD_MAX_BLOCKS 4096       /* slots of the blocks; there is at least one */
+#define YARD_MAX_LIST 31           /* numbers in a call's list */
+#define YARD_MAX_COUNTER 1000000   /* where the counter ends: no replica's limit passes it */
+#define YARD_MAX_VIEW 1000000
+#define YARD_MAX_BOOT 1000000
+#define YARD_MAX_STEP 4096
 #define YARD_MAX_MOVEMENTS 2048
+#define YARD_MAX_PALLETS 10000    /* of a movement */
+#define YARD_MAX_BALANCE 20480000 /* either way */
 
-/* The number that eight columns hold, or 4,294,967,295 for bytes that are no such field. */
-uint32_t yard_read_number(const uint8_t *bytes, size_t length);
+/* A number in columns. */
+#define YARD_COLUMNS 8
+#define YARD_MAX_NUMBER 99999999
+#define YARD_NO_NUMBER 4294967295u /* what reading gives for bytes that are no number */
 
-/* Writes a number right-justified into eight columns: 0; or 10 with nothing written where the length is not eight or the number is above
- * 99,999,999. examples/columns.c prints the first and the last number of each digit count. */
-uint32_t yard_write_number(uint32_t number, uint8_t *bytes, size_t length);
+/* Bytes of stack that each function takes, with its arguments and the return address: measured on x86-64 by examples/stack.c, and at most
+ * 256 to spare. A balance takes 32 for every 16 blocks of the line, here the longest, beside 4.4 KB; the others do not recurse. */
+#define YARD_VERSION_STACK 64
+#define YARD_CALL_STACK 512
+#define YARD_PANEL_STACK 256
+#define YARD_BALANCE_STACK 12800
+#define YARD_READ_NUMBER_STACK 64
+#define YARD_WRITE_NUMBER_STACK 64
 
-/* A call: 0, or the number of its refusal with no word changed. Codes, unused arguments and list lengths are those of a script line: 0 open
- * (f as replica, the steps as list), 1 block (parent as number), 2 prepare on an ACC (block as number, the ACC as the one list number), 3
- * prepare on commits, 4 store, 5 view, 6 accumulate, 7 decide, 8 reboot, 9 reserve, 10 request, 11 reply, 12 recover. A code above 12, a
- * list where none belongs, one of more than 31 numbers, a prepare on an ACC without just one, or an unused argument that is not 0 gives 10.
- * The other refusals: 1 wrong form or lengths, 2 out of range, 3 no such certificate or block, 4 wrong status, 5 wrong certificates or not
- * the leader, 6 wrong block, 7 wrong view, 8 the counter must be moved or is at its end, 9 no room, 12 wrong steps.
+/* What a caller must know
  *
- * An open with an empty list takes the steps 64, 64, 128, 128, 256, 256, 512 and 1024. A pool's own are YARD_STEPS numbers, each 1 to
- * YARD_MAX_STEP and none smaller than the one before; any other list of at most 31 numbers gives 12. The table keeps them, and they are
- * those of boots 0 to 7; later boots have the last. Every replica's limit begins at the first step. A reserve adds the step of the
- * replica's boot, a reboot that of the new boot, and each is a write of the counter: larger steps need fewer writes, and fewer cuts
- * bring it to its end, as it never passes 1,000,000. An open looks at f (2), then at the steps (12), then at the lengths (1), and at no
- * word of the slices.
+ * Memory. A caller lends three slices: a table of YARD_TABLE_WORDS(f) words, f from 1 to YARD_MAX_F; a log of whole certificates, at most
+ * YARD_MAX_CERTIFICATES or none; blocks of whole records, 1 to YARD_MAX_BLOCKS. What they hold before an open does not matter.
+ * Nothing is ever taken out: where no slot is free a call that must add gives YARD_REFUSED_ROOM. An open begins another ledger.
  *
- * Replicas propose in turn: among n, replica (v - 1) mod n leads view v, so replica 0 leads view 1; view 0 has no leader. The view of a
- * prepare is its ACC's, or the one above its commits'; so on commits of view v it is the turn of replica v mod n.
+ * The ledger. One table has the rows of all replicas and one log every certificate: the slices are the ledger of the whole pool and not one
+ * box's part of it. The log stands for the signatures, as all that is in it was issued by calls, and a message is a certificate's number
+ * given to a call. A call acts for one replica and changes words of its row alone, beside what it adds to the log or the blocks and their
+ * counts; only an open writes all rows. Of a block the ledger has its number, parent and height; what the block says is the caller's. How
+ * firms that stand apart share one ledger is outside of this archive, and so are wires, signatures and clocks.
  *
- * Both values are always written, as 0 and 0 where the call is refused. A call that issues a certificate (codes 2 to 6, 10 and 11) gives
- * its number, and YARD_ADDED; or YARD_FOUND where one of the same eight words was issued before: then the number is that one's, and the
- * log stays as it was. So an ACC or a REPLY that says what the same replica signed before a reboot is added, under a number of its own (or
- * gives 9, in a full log); the earlier one is still good where a certificate is asked for. The other calls give: open the number of
- * replicas and 0, block its number and 0, decide the block and its view, reboot the boot and the lowest view as they then are, reserve the
- * limit and 0, recover the lowest view and the view in which the block that it brought back was stored, 0 if none.
+ * The promise. Take any calls in any order after one accepted open, up to the next, each lent the same slices as the last left them, where
+ * nothing else writes. Then of two decided blocks one is in the other's line of parents, and no panel's height falls. Of slices that
+ * something else wrote, or of an older copy that was put back, this is not promised; every call is still answered without a fault.
  *
- * Where an answer got lost, and no other call was made since: a view, an accumulate, a request or a reply may be made again. If it was
- * accepted, it gives the same number and YARD_FOUND, and changes no word; if it was refused, it is refused again. A prepare or a store that
- * was accepted gives 7 when made again, and so may one that was refused: look for its certificate in the log, where it would be the last. A
- * decide gives the same again, a recover that was accepted 4. A block, a reboot and a reserve made again do their work once more. So does
- * an open: made again at once it leaves what it left, later it empties the ledger. Where the steps are to stay, copy them out of the table
- * first: the list may not lie in it. */
+ * Power. All words of the three slices must outlive a power cut. A replica forgets by its reboot and not by losing words: the reboot clears
+ * its stored view and block and its flag, and moves its lowest view up to its old limit. It is all that tells a replica that its power
+ * failed. Whoever runs the replica makes it, once after each cut and before any other call for that replica. The replica is then
+ * recovering: it makes a request, f+1 other replicas reply, and it recovers by their REPLYs. Power must not fail within a call, and the
+ * caller sees to that: for one, it makes the call on a copy of the slices, then puts the copy in use by a single write, and only then
+ * tells anybody the answer.
+ *
+ * Pointers. Each comes with its true length, in words (of columns: in bytes), and is aligned as its type, words to 4 bytes. A list, a log
+ * or movements of length 0 may be NULL. The slices and what is written beside them (the two values, the height, the balance) must not
+ * overlap. Where they do nothing is promised: a refused call may change words, and rival blocks may be decided, as examples/overlap.c
+ * shows. Nothing else is asked: any words in the slices and any numbers are answered, and what is refused changes no word of a slice.
+ *
+ * Threads. No function keeps anything: the archive has no data of its own. Calls on different memory may run at once. Calls on the same
+ * memory must not; yard_panel and yard_balance only read the slices, and may run beside one another, but not beside yard_call.
+ *
+ * Linking. Objects for x86-64 Linux (ELF, the System V calling convention, SSE2), words in the machine's own byte order. Of the C library
+ * they want memset alone. Nothing allocates, prints, waits or ends the program. */
+
+/* The archive's YARD_VERSION. Where it is not the header's, the two do not belong together: make no call. */
+uint32_t yard_version(void);
+
+/* A call: YARD_ACCEPTED, or the number of its refusal with no word of the slices changed. Both values are always written, as 0 and 0 where
+ * it is refused, so look at the answer first.
+ *
+ *   YARD_CALL_..         replica  number  list               first         second
+ *   OPEN                 f        0       none, or 8 steps   replicas      0
+ *   BLOCK                0        parent  none               the block     0
+ *   PREPARE_ON_ACC       replica  block   the ACC            the PROP      added or found
+ *   PREPARE_ON_COMMITS   replica  block   f+1 COMMITs        the PROP      added or found
+ *   STORE                replica  PROP    none               the COMMIT    added or found
+ *   VIEW                 replica  view    none               the NEWVIEW   added or found
+ *   ACCUMULATE           replica  0       f+1 NEWVIEWs       the ACC       added or found
+ *   DECIDE               replica  0       f+1 COMMITs        the block     its view
+ *   REBOOT               replica  0       none               its boot      its lowest view
+ *   RESERVE              replica  0       none               its limit     0
+ *   REQUEST              replica  0       none               the REQ       added or found
+ *   REPLY                replica  REQ     none               the REPLY     added or found
+ *   RECOVER              replica  0       f+1 REPLYs         lowest view   the view in which its block was stored, 0 if none
+ *
+ * Certificates and blocks are numbers from 0. Another code, a list where none belongs or of more than YARD_MAX_LIST numbers, a prepare on
+ * an ACC without just one, and a number or a replica other than the 0 above give YARD_REFUSED_UNREADABLE. Every call but an open tests the
+ * form of all words up to the counts, and reads none past them.
+ *
+ * A decision. A view is a round with one leader. Replicas enter it; the leader accumulates f+1 of their NEWVIEWs, which gives an ACC, and
+ * proposes a block on the ACC's; replicas store the PROP; f+1 COMMITs of different replicas decide. Among n replicas (v - 1) mod n leads
+ * view v; view 0 has no leader. An ACC serves its signer alone, in its own view. On COMMITs of view v the leader of view v + 1 may propose
+ * without NEWVIEWs and ACC.
+ *
+ * Status. A live replica prepares, stores, enters views, accumulates and replies; a recovering one requests and recovers; all but a retired
+ * one reserve. A decide and a reboot are taken from any.
+ *
+ * Views. A replica proposes once, in its lowest view; it stores and enters there or above, below its limit. Entering a view makes that the
+ * lowest, storing in it the next one; a reply raises it to the REQ's view, which must not be above the replier's limit.
+ *
+ * The counter. A replica may propose, store and enter below its limit, which begins at the first step. A reserve adds the step of its boot,
+ * a reboot that of the new boot, and each is a write of the counter, which ends at YARD_MAX_COUNTER: a reserve past it is refused, and a
+ * reboot past it retires the replica for good. An open without steps takes 64, 64, 128, 128, 256, 256, 512 and 1024; a pool's own are
+ * YARD_STEPS numbers, each 1 to YARD_MAX_STEP and none smaller than the one before. They are those of boots 0 to 7; later boots have the
+ * last. An open reads no word of the slices.
+ *
+ * Found. A certificate that has all eight words of an issued one is not added again: the number is that one's. The signer's boot is among
+ * them, so an ACC or a REPLY issued again after a cut gets a number of its own; the earlier one stays good. examples/cuts.c prints both.
+ *
+ * A lost answer, where no other call was made since. A view, an accumulate, a request and a reply may be made again: accepted before, it
+ * gives the same number and YARD_FOUND, and changes nothing; refused before, it is refused again. A prepare or a store that was accepted
+ * gives 7 when made again, and so may one that was refused: its certificate would be the last in the log. A decide gives the same again, a
+ * recover that was accepted 4. A block, a reboot and a reserve do their work once more. An open empties the ledger; where the steps are to
+ * stay, copy them out of the table first, as the list must not lie in it.
+ *
+ * Slices from an earlier layout (a table without steps, a certificate of seven words, a block of one) are not read as what they were: open
+ * anew, at the lengths above. */
 uint32_t yard_call(uint32_t code, uint32_t replica, uint32_t number, const uint32_t *list, size_t list_length, uint32_t *table,
                    size_t table_length, uint32_t *log, size_t log_length, uint32_t *blocks, size_t blocks_length, uint32_t *first,
                    uint32_t *second);
 
-/* The height of a replica's decided block: 0, or 1 for wrong form and 2 for a replica out of range with a height of 0. It is a word of the
- * block's record, so a panel takes as long as the form test, whatever the height. */
+/* The height of a replica's decided block: YARD_ACCEPTED; or YARD_REFUSED_FORM or YARD_REFUSED_RANGE, with a height of 0. It is a word of
+ * the block's record, so a panel takes as long as the form test, whatever the height. */
 uint32_t yard_panel(const uint32_t *table, size_t table_length, const uint32_t *log, size_t log_length, const uint32_t *blocks,
                     size_t blocks_length, uint32_t replica, uint32_t *height);
 
 /* The balance of a replica's firm at a block: the pallets that the firm received less those that it gave, by the movements that count.
  *
- * A movement says that in its block the firm of replica `giver` gave pallets to the firm of replica `taker`: block, giver, taker, pallets,
- * in this order. Its block is an added one other than 0, giver and taker are two different replicas, and the pallets are 1 to 10,000. It
- * counts if its block is in the line of `block`: that block itself, its parent, the parent of that, and so on to block 0. The order of the
- * list does not matter; a movement that stands there twice counts twice. movements_length counts words, YARD_MOVEMENT_WORDS for each
- * movement.
+ * A movement says that in its block the firm of replica `giver` gave pallets to the firm of replica `taker`. Its block is an added one
+ * other than 0, giver and taker are two different replicas, and the pallets are 1 to YARD_MAX_PALLETS. It counts if its block is in the
+ * line of `block`: that block itself, its parent, the parent of that, and so on to block 0. The order of the list does not matter; a
+ * movement that stands there twice counts twice. movements_length counts words.
  *
  * A firm that gave 5 pallets has -5 by that, and the one that took them 5: the balances of all firms at one block add up to 0. At block 0
  * each is 0. Any added block may be chosen, decided or not; a decided one is the first value of an accepted decide. That the list holds
  * what the firms put into their blocks is the caller's word: nothing here compares the two.
  *
- * Returns 0; or the lowest of these that holds: 1 wrong form or lengths of the first three slices, more than YARD_MAX_MOVEMENTS movements,
- * or a length that is no multiple of YARD_MOVEMENT_WORDS; 2 a replica out of range; 3 no such block; 11 a movement, counted or not, that
- * breaks the rules above. The balance is always written: 0 where refused, so look at the answer first, and never beyond 20,480,000 either
- * way. No word of the four slices changes. */
+ * Returns YARD_ACCEPTED; or the lowest that is due of YARD_REFUSED_FORM (of the four slices; more than YARD_MAX_MOVEMENTS, or no whole
+ * number of them), YARD_REFUSED_RANGE (the replica), YARD_REFUSED_NUMBER (the block) and YARD_REFUSED_MOVEMENT (any movement, counted or
+ * not). The balance is always written: 0 where refused, so look at the answer first. */
 uint32_t yard_balance(const uint32_t *table, size_t table_length, const uint32_t *log, size_t log_length, const uint32_t *blocks,
                       size_t blocks_length, const uint32_t *movements, size_t movements_length, uint32_t block, uint32_t replica,
                       int32_t *balance);
+
+/* The number that YARD_COLUMNS bytes hold: decimal digits to the last column, after blanks, without leading zeros. YARD_NO_NUMBER for other
+ * bytes and other lengths. */
+uint32_t yard_read_number(const uint8_t *bytes, size_t length);
+
+/* Writes a number right-justified into YARD_COLUMNS bytes: YARD_ACCEPTED; or YARD_REFUSED_UNREADABLE with nothing written where the length
+ * is another or the number is above YARD_MAX_NUMBER. examples/columns.c prints the first and the last number of each digit count. */
+uint32_t yard_write_number(uint32_t number, uint8_t *bytes, size_t length);
+
+#ifdef __cplusplus
+}
+#endif
 
 #endif

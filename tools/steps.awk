@@ -23,6 +23,7 @@ kind == "begun" {
 }
 $2 == "must-fail" { ended(substr($3, 1, length($3) - 1)); next }
 $3 == "proved" || $3 == "NOT" { ended($2) }
+$2 ~ /^target\/staticlib\// { name = $2; gsub(/.*\/lib|\.a$/, "", name); ended(name) }
 
 END {
     for (i = 1; i <= count; i++) {

@@ -18,7 +18,7 @@ fn calls_by_name() {
 #[test]
 fn lines_that_are_no_call_by_name() {
     let wrong = columns(
-        b"open 1\nacumulate 0 1\nview 0\nreboot 0 1\nview 0 +1\nview 0 100000000\nprepare-on-acc 0 1\nverbatim\n",
+        b"open 1\nacumulate 0 1\nview 0\nreboot 0 1\nview 0 +1\nview 0 100000000\nprepare-on-acc 0 1\nverbatim\n       5       0       1\n",
     )
     .unwrap_err();
     let calls = "the calls are open, block, prepare-on-acc, prepare-on-commits, store, view, accumulate, decide, reboot, reserve, request, reply, recover";
@@ -32,6 +32,7 @@ fn lines_that_are_no_call_by_name() {
             "line 6: 100000000 is above 99,999,999, the greatest number of eight columns".to_string(),
             "line 7: 2 numbers, where 3 must stand: prepare-on-acc REPLICA BLOCK ACC".to_string(),
             format!("line 8: no call 'verbatim': {calls}"),
+            "line 9: '5' is no call's name: is this a script already?".to_string(),
         ]
     );
     let long = format!("decide 0{}\n", " 1".repeat(32));

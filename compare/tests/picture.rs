@@ -146,6 +146,12 @@ fn what_stands_in_a_picture() {
     assert_eq!(count(&svg, r#"<circle class="refused""#), 3);
     assert_eq!(count(&svg, r#"<line class="cut""#), 1);
     assert_eq!(count(&svg, r#"<line class="recovering""#), 1);
+    let attribute = |element: &str, name: &str| {
+        let (_, rest) = svg.split_once(&format!(r#"class="{element}""#)).unwrap();
+        rest.split(&format!(r#" {name}=""#)).nth(1).unwrap().split('"').next().unwrap().to_string()
+    };
+    assert_eq!(attribute("recovering", "y1"), attribute("cut", "y1"));
+    assert_eq!(attribute("recovering", "y2"), attribute("back", "cy"));
     assert_eq!(count(&svg, r#"<rect class="panel""#), 3);
     for words in ["power cut: boot 1", "back at view 64", "decides block 1", "panel of 0: 1", "10: 1 column"] {
         assert!(svg.contains(words), "{words}");

@@ -171,6 +171,10 @@ fn refusals_of_the_counter() {
     tells(
         stored,
         &[
+            (
+                "view 1 152",
+                "accepted, 6 and 0: NEWVIEW 6 is added: replica 1 enters view 152 with block 1 stored in view 151",
+            ),
             ("store 2 3", "8: view 151 is not below replica 2's limit, 64: 2 reserves of 64 more"),
             (
                 "reboot 2\nrequest 2\nreply 0 6\nreply 1 6\nrecover 2 7 8",
@@ -188,16 +192,18 @@ fn refusals_for_want_of_room() {
     let blocks = format!("open 1\n{}", "block 0\n".repeat(1023));
     tells(&blocks, &[("block 0", "9: no room: all 1,024 blocks are added")]);
     let reserves = "reserve 0\n".repeat(40);
-    let views: String = (1..=2048).map(|view| format!("view 0 {view}\n")).collect();
-    let full = format!("open 1\n{reserves}{views}");
-    tells(&full, &[("view 1 1", "9: no room: the log has 2,048 certificates, and none equal to this one")]);
+    let views: String = (1..2048).map(|view| format!("view 0 {view}\n")).collect();
+    let full = format!("open 1\nreboot 1\nrequest 1\n{reserves}{views}");
+    let no_room = "9: no room: the log has 2,048 certificates, and none equal to this one";
+    tells(&full, &[("view 2 1", no_room), ("reply 2 0", no_room)]);
 }
 
 #[test]
 fn unreadable_lines() {
     let cases: &[(&str, &str)] = &[
         ("", "10: the line is empty"),
-        ("view", "10: 4 columns: a field has 8, and the last is not whole"),
+        ("view 0 1", "10: 'view' is a call by name: ./tell --columns makes a script of such lines"),
+        ("5 0 1", "10: 5 columns: a field has 8, and the last is not whole"),
         (
             "       5       0       1\r",
             "10: 25 columns: a field has 8, and the last is not whole; it ends with a carriage return",
@@ -318,19 +324,19 @@ fn what_changed() {
 
 #[test]
 fn the_ledger_at_the_end() {
-    let calls = COMMITTED.to_string() + "decide 0 4 5\ndecide 2 5 4\nreboot 1\n";
-    let text = told(&Recount::of(&columns(calls.as_bytes()).unwrap()));
+    let going_on = "decide 0 4 5\nblock 1\nprepare-on-commits 1 3 4 5\nstore 0 6\nstore 1 6\ndecide 2 7 8\ndecide 2 5 4\nreboot 1\n";
+    let text = told(&Recount::of(&columns((COMMITTED.to_string() + going_on).as_bytes()).unwrap()));
     let (_, end) = text.split_once("\n\n").unwrap();
     let expected = "\
 The ledger at the end: f = 1, 3 replicas
 
 Replica  status      boot  lowest view  limit  flag  stored           decided          panel
-0        live        0     2            64     0     block 1, view 1  block 1, view 1  1
+0        live        0     3            64     0     block 3, view 2  block 1, view 1  1
 1        recovering  1     64           128    0     -                -                0
-2        live        0     1            64     0     -                block 1, view 1  1
+2        live        0     1            64     0     -                block 3, view 2  2
 Steps of the counter: 64, 64, 128, 128, 256, 256, 512 and 1024.
 
-Certificates: 6
+Certificates: 9
 
 0  NEWVIEW  replica 0 enters view 1 with nothing stored
 1  NEWVIEW  replica 1 enters view 1 with nothing stored
@@ -338,11 +344,15 @@ Certificates: 6
 3  PROP     replica 0 proposes block 1 in view 1
 4  COMMIT   replica 0 has stored block 1 in view 1
 5  COMMIT   replica 1 has stored block 1 in view 1
+6  PROP     replica 1 proposes block 3 in view 2
+7  COMMIT   replica 0 has stored block 3 in view 2
+8  COMMIT   replica 1 has stored block 3 in view 2
 
 The chain of decided blocks
 
 height 0: block 0
 height 1: block 1, decided by replica 0 in view 1 and replica 2 in view 1
+height 2: block 3, decided by replica 2 in view 2
 block 2 on block 0, of height 1: not decided
 ";
     assert_eq!(end, expected);

@@ -8,7 +8,7 @@ use crate::mistake::Rules;
 use crate::panel::panel;
 use crate::refusal::ACCEPTED;
 
-/// The five functions of the C interface.
+/// The functions of the C interface, all six but the one that gives its version.
 pub trait Checker {
     fn call(&self, sample: &mut Sample) -> Outcome;
     /// Number returned and height.

@@ -39,14 +39,17 @@ fn script_line(text: &[u8]) -> Result<Option<Vec<u8>>, String> {
     let words = String::from_utf8_lossy(code);
     let mut words = words.split_whitespace();
     let Some(name) = words.next() else { return Ok(None) };
-    let form = CallForm::named(name).ok_or_else(|| format!("no call '{name}': {}", names()))?;
+    let form = CallForm::named(name).ok_or_else(|| no_call(name))?;
     let numbers: Vec<u32> = words.map(number).collect::<Result<_, _>>()?;
     Ok(Some(call(form, &numbers)?.text().into_bytes()))
 }
 
-fn names() -> String {
+fn no_call(name: &str) -> String {
+    if number(name).is_ok() {
+        return format!("'{name}' is no call's name: is this a script already?");
+    }
     let names: Vec<&str> = CALLS.iter().map(|form| form.name).collect();
-    format!("the calls are {}", names.join(", "))
+    format!("no call '{name}': the calls are {}", names.join(", "))
 }
 
 fn number(word: &str) -> Result<u32, String> {

@@ -10,7 +10,7 @@ use crate::script::{MAX_FIELDS, MIN_FIELDS};
 
 /// The call of a line without its line feed, or why there is none.
 pub fn read_call(text: &[u8]) -> Result<Line, String> {
-    let fields = read_fields(text)?;
+    let fields = read_fields(text).map_err(|why| by_name(text).unwrap_or(why))?;
     let line = Line::new(fields[0], fields[1], fields[2], &fields[MIN_FIELDS..]);
     let form = CallForm::of_code(line.code)
         .ok_or_else(|| format!("code {}: the calls have the codes 0 to {LAST_CODE}", thousands(line.code)))?;
@@ -18,6 +18,13 @@ pub fn read_call(text: &[u8]) -> Result<Line, String> {
     unused_is_zero(form, "replica", form.replica.is_none(), line.replica)?;
     unused_is_zero(form, "number", form.number.is_none(), line.number)?;
     Ok(line)
+}
+
+/// Of a line that has no fields but begins with a call's name.
+fn by_name(text: &[u8]) -> Option<String> {
+    let text = String::from_utf8_lossy(text);
+    let form = CallForm::named(text.split_whitespace().next()?)?;
+    Some(format!("'{}' is a call by name: ./tell --columns makes a script of such lines", form.name))
 }
 
 fn read_fields(text: &[u8]) -> Result<Vec<u32>, String> {

@@ -6,6 +6,17 @@ ghost use Rattle.ledger.specs.Called.{called};
 ghost use Rattle.panel.specs.Panel.{panelAnswer};
 ghost use Rattle.netting.specs.Netting.{nettingOutcome, netting};
 ghost use Rattle.field.specs.Field.{readField, written, writeField};
+ghost use Rattle.firmware.specs.Version.{version};
+
+const VERSION: u32 = 1;
+
+// The number of this interface, for a caller to hold against its header's.
+#[no_mangle]
+pub extern "C" fn yard_version() -> u32
+    ensures { λ r. ⌜ r ≡ version ⌝ }
+{
+    VERSION
+}
 
 // A call by its code; both values are always written.
 #[no_mangle]

@@ -1,4 +1,5 @@
-//! Certificates as arrows, each from where it was added to where it is used, labelled where there is room.
+//! Certificates as arrows, each from where it was added to where it is used, bent around what stands there already and
+//! labelled where there is room.
 
 use super::canvas::{kind_class, Anchor, Canvas, Point};
 use super::layout::{Layout, Row};
@@ -19,12 +20,16 @@ struct Area {
 }
 
 impl Area {
+    fn around(at: Point, x: i32, y: i32) -> Area {
+        Area { left: at.x - x, right: at.x + x, top: at.y - y, bottom: at.y + y }
+    }
+
     fn meets(&self, other: &Area) -> bool {
         self.left < other.right && other.left < self.right && self.top < other.bottom && other.top < self.bottom
     }
 
-    fn around(at: Point, x: i32, y: i32) -> Area {
-        Area { left: at.x - x, right: at.x + x, top: at.y - y, bottom: at.y + y }
+    fn holds(&self, point: Point) -> bool {
+        self.meets(&Area::around(point, 1, 1))
     }
 }
 
@@ -34,16 +39,25 @@ struct Arrow {
     is_pale: bool,
     from: Point,
     to: Point,
+    /// What it bends towards; halfway where it is straight.
+    bend: Point,
 }
 
+/// How far an arrow is bent up or down, in quarters of its height, the best first: it never goes back in time.
+const BENDS: [i32; 5] = [0, -1, 1, -2, 2];
+const MOST_BENT: i32 = 60;
+/// How far an arrow within one lane leaves it, beside what its length asks for.
+const BULGES: [i32; 3] = [0, 10, 20];
+/// Hundredths of an arrow at which it is looked whether something stands there.
+const STEPS: [i32; 16] = [6, 12, 18, 24, 30, 36, 42, 48, 54, 60, 66, 72, 78, 84, 90, 95];
 /// Hundredths of an arrow at which its label is tried, the best first.
 const PLACES: [i32; 9] = [50, 40, 60, 30, 70, 20, 80, 12, 88];
 /// How far above or below the arrow, where no place on it is free.
 const SHIFTS: [i32; 5] = [0, -9, 9, -18, 18];
 
 pub fn draw(canvas: &mut Canvas, layout: &Layout) {
-    let arrows = arrows(layout);
     let mut taken: Vec<Area> = layout.rows.iter().flat_map(|row| areas(layout, row)).collect();
+    let arrows = arrows(layout, &taken);
     for arrow in &arrows {
         canvas.arrow(arrow.filed.certificate.kind, &arrow.path(), arrow.is_pale);
     }
@@ -56,7 +70,7 @@ pub fn draw(canvas: &mut Canvas, layout: &Layout) {
     }
 }
 
-fn arrows(layout: &Layout) -> Vec<Arrow> {
+fn arrows(layout: &Layout, taken: &[Area]) -> Vec<Arrow> {
     let (mut added, mut arrows) = (HashMap::new(), Vec::new());
     for row in &layout.rows {
         if row.entry.is_accepted(OPEN) {
@@ -68,7 +82,7 @@ fn arrows(layout: &Layout) -> Vec<Arrow> {
         for (place, &filed) in row.entry.named.iter().enumerate() {
             let is_again = row.entry.named[..place].iter().any(|earlier| earlier.number == filed.number);
             if let Some(&from) = added.get(&filed.number).filter(|_| !is_again) {
-                arrows.push(Arrow { filed, is_pale, from, to });
+                arrows.push(Arrow { filed, is_pale, from, to, bend: from }.bent(taken));
             }
         }
         if let Some(filed) = row.entry.issued.filter(|_| !is_found) {
@@ -89,25 +103,33 @@ fn areas(layout: &Layout, row: &Row) -> [Area; 2] {
 }
 
 impl Arrow {
-    /// How far an arrow within one lane leaves it.
-    fn bulge(&self) -> i32 {
-        if self.from.x == self.to.x {
-            (20 + (self.to.y - self.from.y) / 8).min(44)
-        } else {
-            0
-        }
+    /// With the bend that meets least of what stands there.
+    fn bent(self, taken: &[Area]) -> Arrow {
+        let bends = if self.from.x == self.to.x { BULGES.as_slice() } else { BENDS.as_slice() };
+        let others: Vec<&Area> = taken.iter().filter(|area| !area.holds(self.from) && !area.holds(self.to)).collect();
+        let met = |bend: Point| {
+            let arrow = Arrow { bend, ..self };
+            STEPS.iter().filter(|&&part| others.iter().any(|area| area.holds(arrow.along(part)))).count()
+        };
+        let best = bends.iter().map(|&aside| self.bend_by(aside)).min_by_key(|&bend| met(bend));
+        Arrow { bend: best.unwrap_or(self.bend), ..self }
     }
 
-    /// Halfway, moved aside: a curve's middle is drawn half as far.
-    fn bend(&self) -> Point {
-        Point::new((self.from.x + self.to.x) / 2 - 2 * self.bulge(), (self.from.y + self.to.y) / 2)
+    /// A curve's middle is drawn half as far from the straight line as what it bends towards.
+    fn bend_by(&self, aside: i32) -> Point {
+        let halfway = Point::new((self.from.x + self.to.x) / 2, (self.from.y + self.to.y) / 2);
+        if self.from.x == self.to.x {
+            let bulge = (20 + (self.to.y - self.from.y) / 8).min(44) + aside;
+            return halfway.shifted(-2 * bulge, 0);
+        }
+        halfway.shifted(0, (aside * (self.to.y - self.from.y) / 4).clamp(-MOST_BENT, MOST_BENT))
     }
 
     /// From the edge of one mark to the edge of the other.
     fn path(&self) -> String {
-        let bend = self.bend();
-        let (from, to) = (towards(self.from, bend, RADIUS), towards(self.to, bend, RADIUS + 2));
-        if self.bulge() == 0 {
+        let (from, to, bend) =
+            (towards(self.from, self.bend, RADIUS), towards(self.to, self.bend, RADIUS + 2), self.bend);
+        if bend == self.bend_by(0) && self.from.x != self.to.x {
             return format!("M{} {}L{} {}", from.x, from.y, to.x, to.y);
         }
         format!("M{} {}Q{} {} {} {}", from.x, from.y, bend.x, bend.y, to.x, to.y)
@@ -119,11 +141,11 @@ impl Arrow {
 
     /// So many hundredths along the arrow.
     fn along(&self, part: i32) -> Point {
-        let (bend, rest) = (self.bend(), 100 - part);
+        let rest = 100 - part;
         let mix = |from: i32, bend: i32, to: i32| {
             (from * rest * rest + 2 * bend * rest * part + to * part * part + 5_000) / 10_000
         };
-        Point::new(mix(self.from.x, bend.x, self.to.x), mix(self.from.y, bend.y, self.to.y))
+        Point::new(mix(self.from.x, self.bend.x, self.to.x), mix(self.from.y, self.bend.y, self.to.y))
     }
 
     /// The first place that is free, else the middle.

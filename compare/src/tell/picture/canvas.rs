@@ -59,6 +59,7 @@ text { font-family: 'DejaVu Sans', Verdana, sans-serif; font-size: 11px; fill: #
 .tick, .back { fill: #1f2328; }
 .box { fill: #ffffff; stroke: #57606a; stroke-width: 1; }
 .decided { fill: #1a7f37; stroke: #1a7f37; }
+.known { fill: #ffffff; stroke: #1a7f37; stroke-width: 1.5; }
 .on-decided { fill: #ffffff; font-weight: bold; }
 .panel { fill: #1f2328; }
 .on-panel { fill: #7ee787; font-size: 15px; font-weight: bold; }

@@ -123,8 +123,12 @@ fn added(canvas: &mut Canvas, layout: &Layout, row: &Row, parent: u32) {
 
 fn decided(canvas: &mut Canvas, layout: &Layout, row: &Row) {
     let (Some(call), Some(change)) = (&row.entry.call, row.entry.change) else { return };
-    let shows = format!("panel of {}: {}", call.replica, change.after.panel);
-    block(canvas, layout, row, ("decided", "on-decided"), &shows);
+    let (replica, panel) = (call.replica, change.after.panel);
+    if row.entry.outcome.second > change.before.replica.decided_view {
+        block(canvas, layout, row, ("decided", "on-decided"), &format!("panel of {replica}: {panel}"));
+    } else {
+        block(canvas, layout, row, ("known", "label"), &format!("panel of {replica} stays {panel}"));
+    }
 }
 
 /// A block in its box, in the column of blocks, and words beside it.

@@ -28,7 +28,7 @@ extern "C" {
 #define YARD_CALL_REPLY 11
 #define YARD_CALL_RECOVER 12
 
-/* Answers. 10 comes before all other refusals. Of those the lowest that is due is given, but by an open, whose order is 2, 12, 1. */
+/* Answers. Where several are due the lowest is given; but 10 comes before all others, and an open looks for 2, then 12, then 1. */
 #define YARD_ACCEPTED 0
 #define YARD_REFUSED_FORM 1        /* wrong form or lengths of what is lent */
 #define YARD_REFUSED_RANGE 2       /* f, a replica, a view to enter or the length of a list of certificates is out of range */
@@ -37,7 +37,7 @@ extern "C" {
 #define YARD_REFUSED_CERTIFICATE 5 /* a certificate does not fit, a signer counts twice, or the replica does not lead */
 #define YARD_REFUSED_BLOCK 6       /* the proposed block is block 0, or not on the block that the ACC or the COMMITs name */
 #define YARD_REFUSED_VIEW 7        /* the view is past; of a proposal also: it is not entered yet, or has its proposal */
-#define YARD_REFUSED_COUNTER 8     /* the counter must be moved first, or is at its end */
+#define YARD_REFUSED_COUNTER 8     /* the limit is too low: reserve, once or more; of a reserve itself: the counter is at its end */
 #define YARD_REFUSED_ROOM 9        /* no free slot for the block or the certificate */
 #define YARD_REFUSED_UNREADABLE 10 /* no such code, or other arguments than its own; of yard_write_number: nothing is written */
 #define YARD_REFUSED_MOVEMENT 11   /* of yard_balance alone: a movement breaks its rules */
@@ -51,17 +51,19 @@ extern "C" {
 #define YARD_HEADER_WORDS 3
 #define YARD_STEPS 8
 #define YARD_ROW_WORDS 9
+#define YARD_REPLICAS(f) (2 * (f) + 1)
+#define YARD_QUORUM(f) ((f) + 1)                                                        /* numbers in a list of certificates */
 #define YARD_ROW(replica) (YARD_HEADER_WORDS + YARD_STEPS + YARD_ROW_WORDS * (replica)) /* where a replica's row begins */
-#define YARD_TABLE_WORDS(f) YARD_ROW(2 * (f) + 1)
-#define YARD_TABLE_F 0            /* of 2f+1 replicas f+1 decide */
+#define YARD_TABLE_WORDS(f) YARD_ROW(YARD_REPLICAS(f))
+#define YARD_TABLE_F 0
 #define YARD_TABLE_CERTIFICATES 1 /* issued so far; the next gets this number */
-#define YARD_TABLE_BLOCKS 2       /* added so far */
+#define YARD_TABLE_BLOCKS 2       /* added so far, block 0 among them: 1 after an open */
 #define YARD_TABLE_STEPS 3        /* the first of the steps, those of boots 0 to 7 */
 
 /* A replica's row: table[YARD_ROW(replica) + YARD_ROW_LIMIT]. */
 #define YARD_ROW_STATUS 0
-#define YARD_ROW_BOOT 1        /* how often its power was cut */
-#define YARD_ROW_LOWEST_VIEW 2 /* in which it may still propose, store or enter */
+#define YARD_ROW_BOOT 1        /* its reboots so far, but for those that find or make it retired */
+#define YARD_ROW_LOWEST_VIEW 2 /* in which it may still propose, store or enter: 1 after an open */
 #define YARD_ROW_LIMIT 3       /* the first view in which it may not, before its counter is moved */
 #define YARD_ROW_FLAG 4        /* whether it has proposed in its lowest view */
 #define YARD_ROW_STORED_VIEW 5
@@ -82,8 +84,8 @@ extern "C" {
 #define YARD_CERTIFICATE_SIGNER 1
 #define YARD_CERTIFICATE_VIEW 2
 #define YARD_CERTIFICATE_BLOCK 3
-#define YARD_CERTIFICATE_OF_VIEW 4      /* the view in which the block was stored */
-#define YARD_CERTIFICATE_SUBJECT 5      /* the replica that is to recover; 0 but in a REQ and a REPLY */
+#define YARD_CERTIFICATE_OF_VIEW 4 /* of NEWVIEW, ACC and REPLY: the view in which the block was stored; 0 if none, and in other kinds */
+#define YARD_CERTIFICATE_SUBJECT 5 /* the replica that is to recover; 0 but in a REQ and a REPLY */
 #define YARD_CERTIFICATE_SUBJECT_BOOT 6 /* and its boot */
 #define YARD_CERTIFICATE_SIGNER_BOOT 7  /* the boot of the signer when it was issued */
 
@@ -112,8 +114,8 @@ extern "C" {
 #define YARD_MAX_CERTIFICATES 4096 /* slots of a log; it may have none */
 #define YARD_MAX_BLOCKS 4096       /* slots of the blocks; there is at least one */
 #define YARD_MAX_LIST 31           /* numbers in a call's list */
-#define YARD_MAX_COUNTER 1000000   /* where the counter ends: no replica's limit passes it */
-#define YARD_MAX_VIEW 1000000
+#define YARD_MAX_COUNTER 1000000   /* no replica's limit passes it; a step that would is refused, and not cut short */
+#define YARD_MAX_VIEW 1000000      /* not out of range; to be entered a view must be below a limit */
 #define YARD_MAX_BOOT 1000000
 #define YARD_MAX_STEP 4096
 #define YARD_MAX_MOVEMENTS 2048
@@ -125,8 +127,9 @@ extern "C" {
 #define YARD_MAX_NUMBER 99999999
 #define YARD_NO_NUMBER 4294967295u /* what reading gives for bytes that are no number */
 
-/* Bytes of stack that each function takes, with its arguments and the return address: measured on x86-64 by examples/stack.c, and at most
- * 256 to spare. A balance takes 32 for every 16 blocks of the line, here the longest, beside 4.4 KB; the others do not recurse. */
+/* Bytes of stack that each function takes, with its arguments and the return address: what examples/stack.c measures on x86-64, and at most
+ * 256 more. A balance recurses along the line of its block; its figure is for the longest line, of YARD_MAX_BLOCKS. Do not scale it down
+ * for shorter ones: it also covers memset, which a balance calls, and what binds memset at the first call. */
 #define YARD_VERSION_STACK 64
 #define YARD_CALL_STACK 512
 #define YARD_PANEL_STACK 256
@@ -143,24 +146,32 @@ extern "C" {
  * The ledger. One table has the rows of all replicas and one log every certificate: the slices are the ledger of the whole pool and not one
  * box's part of it. The log stands for the signatures, as all that is in it was issued by calls, and a message is a certificate's number
  * given to a call. A call acts for one replica and changes words of its row alone, beside what it adds to the log or the blocks and their
- * counts; only an open writes all rows. Of a block the ledger has its number, parent and height; what the block says is the caller's. How
- * firms that stand apart share one ledger is outside of this archive, and so are wires, signatures and clocks.
+ * counts; only an open writes all rows. What a block says, and how firms that stand apart share one ledger, is outside of this archive.
  *
- * The promise. Take any calls in any order after one accepted open, up to the next, each lent the same slices as the last left them, where
- * nothing else writes. Then of two decided blocks one is in the other's line of parents, and no panel's height falls. Of slices that
- * something else wrote, or of an older copy that was put back, this is not promised; every call is still answered without a fault.
+ * The promise. Take any calls in any order after one accepted open, up to the next, each lent the same slices, of the same lengths, as the
+ * last left them, where nothing else writes. Then of two decided blocks one is in the other's line of parents, and no panel's height falls.
+ * Of slices that something else wrote, or of an older copy that was put back, this is not promised; every call is still answered without a
+ * fault. That a decision is ever reached is not promised either.
  *
- * Power. All words of the three slices must outlive a power cut. A replica forgets by its reboot and not by losing words: the reboot clears
- * its stored view and block and its flag, and moves its lowest view up to its old limit. It is all that tells a replica that its power
- * failed. Whoever runs the replica makes it, once after each cut and before any other call for that replica. The replica is then
- * recovering: it makes a request, f+1 other replicas reply, and it recovers by their REPLYs. Power must not fail within a call, and the
- * caller sees to that: for one, it makes the call on a copy of the slices, then puts the copy in use by a single write, and only then
- * tells anybody the answer.
+ * Power. All words of the three slices must outlive a power cut, and their lengths, which are no words of theirs. A replica forgets by its
+ * reboot and not by losing words: the reboot clears its stored view and block and its flag, and moves its lowest view up to its old limit.
+ * (One that retires it changes its status alone.) It is all that tells a replica that its power failed. Whoever runs the replica makes it,
+ * once after each cut of that replica's own power and before any other call for it. A program that keeps the whole pool's slices, stops
+ * and goes on with every word in its place has cut no replica. Power must not fail within a call, and the caller sees to that: for one, it
+ * makes the call on a copy of the slices, then puts the copy in use by a single write, and only then tells anybody the answer.
+ *
+ * Recovery. After a reboot a replica is recovering: it makes a request, f+1 others that are live reply to the REQ, and it recovers by their
+ * REPLYs. So let no more than f replicas be recovering or retired at once: with fewer than f+1 live ones there may be nobody left to reply,
+ * and the ledger comes to a stand for good. A REQ has the lowest view of its replica, which is the old limit. Whoever replies leaves the
+ * views below that one, and must reserve before it enters a view where its own limit is no higher. A REQ of an earlier boot is still
+ * answered, but its REPLYs serve nobody. A recover takes the stored block of greatest view and makes the lowest view one above that, if it
+ * was lower; where this passes the limit it gives YARD_REFUSED_COUNTER: reserve, and recover by the same REPLYs.
  *
  * Pointers. Each comes with its true length, in words (of columns: in bytes), and is aligned as its type, words to 4 bytes. A list, a log
- * or movements of length 0 may be NULL. The slices and what is written beside them (the two values, the height, the balance) must not
- * overlap. Where they do nothing is promised: a refused call may change words, and rival blocks may be decided, as examples/overlap.c
- * shows. Nothing else is asked: any words in the slices and any numbers are answered, and what is refused changes no word of a slice.
+ * or movements of length 0 may be NULL. The slices, the list or the movements, and what is written beside them (the two values, the height,
+ * the balance) must not overlap. Where they do nothing is promised: a refused call may change words, and rival blocks may be decided, as
+ * examples/overlap.c shows. Nothing else is asked: any words in the slices and any numbers are answered, and what is refused changes no
+ * word of a slice.
  *
  * Threads. No function keeps anything: the archive has no data of its own. Calls on different memory may run at once. Calls on the same
  * memory must not; yard_panel and yard_balance only read the slices, and may run beside one another, but not beside yard_call.
@@ -193,10 +204,10 @@ uint32_t yard_version(void);
  * an ACC without just one, and a number or a replica other than the 0 above give YARD_REFUSED_UNREADABLE. Every call but an open tests the
  * form of all words up to the counts, and reads none past them.
  *
- * A decision. A view is a round with one leader. Replicas enter it; the leader accumulates f+1 of their NEWVIEWs, which gives an ACC, and
- * proposes a block on the ACC's; replicas store the PROP; f+1 COMMITs of different replicas decide. Among n replicas (v - 1) mod n leads
- * view v; view 0 has no leader. An ACC serves its signer alone, in its own view. On COMMITs of view v the leader of view v + 1 may propose
- * without NEWVIEWs and ACC.
+ * A decision. A view is a round with one leader: among n replicas (v - 1) mod n leads view v, and view 0 has none. Replicas enter the view;
+ * one accumulates f+1 of their NEWVIEWs, which gives an ACC; the leader proposes a block on the ACC's; replicas store the PROP; f+1 COMMITs
+ * of different replicas decide. Any live replica may accumulate, but an ACC serves its signer alone, as the leader of the ACC's view. On
+ * COMMITs of view v the leader of view v + 1 may propose without NEWVIEWs and ACC; where it has not stored in view v it enters v + 1 first.
  *
  * Status. A live replica prepares, stores, enters views, accumulates and replies; a recovering one requests and recovers; all but a retired
  * one reserve. A decide and a reboot are taken from any.
@@ -215,12 +226,10 @@ uint32_t yard_version(void);
  *
  * A lost answer, where no other call was made since. A view, an accumulate, a request and a reply may be made again: accepted before, it
  * gives the same number and YARD_FOUND, and changes nothing; refused before, it is refused again. A prepare or a store that was accepted
- * gives 7 when made again, and so may one that was refused: its certificate would be the last in the log. A decide gives the same again, a
- * recover that was accepted 4. A block, a reboot and a reserve do their work once more. An open empties the ledger; where the steps are to
- * stay, copy them out of the table first, as the list must not lie in it.
- *
- * Slices from an earlier layout (a table without steps, a certificate of seven words, a block of one) are not read as what they were: open
- * anew, at the lengths above. */
+ * gives YARD_REFUSED_VIEW when made again, and so may one that was refused: it was accepted if the last certificate in the log is the one
+ * that it was to issue. A decide gives the same again, a recover that was accepted YARD_REFUSED_STATUS. A block, a reboot and a reserve do
+ * their work once more. An open empties the ledger; where the steps are to stay, copy them out of the table first, as the list must not lie
+ * in it. */
 uint32_t yard_call(uint32_t code, uint32_t replica, uint32_t number, const uint32_t *list, size_t list_length, uint32_t *table,
                    size_t table_length, uint32_t *log, size_t log_length, uint32_t *blocks, size_t blocks_length, uint32_t *first,
                    uint32_t *second);
@@ -241,9 +250,9 @@ uint32_t yard_panel(const uint32_t *table, size_t table_length, const uint32_t *
  * each is 0. Any added block may be chosen, decided or not; a decided one is the first value of an accepted decide. That the list holds
  * what the firms put into their blocks is the caller's word: nothing here compares the two.
  *
- * Returns YARD_ACCEPTED; or the lowest that is due of YARD_REFUSED_FORM (of the four slices; more than YARD_MAX_MOVEMENTS, or no whole
- * number of them), YARD_REFUSED_RANGE (the replica), YARD_REFUSED_NUMBER (the block) and YARD_REFUSED_MOVEMENT (any movement, counted or
- * not). The balance is always written: 0 where refused, so look at the answer first. */
+ * Returns YARD_ACCEPTED; or the lowest that is due of YARD_REFUSED_FORM (of the three slices; more than YARD_MAX_MOVEMENTS, or no
+ * whole number of movements), YARD_REFUSED_RANGE (the replica), YARD_REFUSED_NUMBER (the block) and YARD_REFUSED_MOVEMENT (any movement,
+ * counted or not). The balance is always written: 0 where refused, so look at the answer first. */
 uint32_t yard_balance(const uint32_t *table, size_t table_length, const uint32_t *log, size_t log_length, const uint32_t *blocks,
                       size_t blocks_length, const uint32_t *movements, size_t movements_length, uint32_t block, uint32_t replica,
                       int32_t *balance);

@@ -10,18 +10,22 @@ use std::process::{Command, Output, Stdio};
 
 #[test]
 fn calls_by_name() {
-    let calls = b"# a comment\n\nopen 1 # f is 1\n  view\t0   01\nverbatim x # y\nprepare-on-acc 1 1 2\nverbatim \nrecover 2 7 8";
-    let script = "       0       1       0\n       5       0       1\nx # y\n       2       1       1       2\n\n      12       2       0       7       8";
+    let calls = b"# a comment\n\nopen 1 # f is 1\n  view\t0   01\nverbatim x # y\n\
+        prepare-on-acc 1 1 2\nverbatim \nrecover 2 7 8";
+    let script = "       0       1       0\n       5       0       1\nx # y\n\
+        \x20      2       1       1       2\n\n      12       2       0       7       8";
     assert_eq!(String::from_utf8(columns(calls).unwrap()).unwrap(), script);
 }
 
 #[test]
 fn lines_that_are_no_call_by_name() {
     let wrong = columns(
-        b"open 1\nacumulate 0 1\nview 0\nreboot 0 1\nview 0 +1\nview 0 100000000\nprepare-on-acc 0 1\nverbatim\n       5       0       1\n",
+        b"open 1\nacumulate 0 1\nview 0\nreboot 0 1\nview 0 +1\nview 0 100000000\nprepare-on-acc 0 1\nverbatim\n\
+            \x20      5       0       1\n",
     )
     .unwrap_err();
-    let calls = "the calls are open, block, prepare-on-acc, prepare-on-commits, store, view, accumulate, decide, reboot, reserve, request, reply, recover";
+    let calls = "the calls are open, block, prepare-on-acc, prepare-on-commits, store, view, accumulate, decide, \
+                 reboot, reserve, request, reply, recover";
     assert_eq!(
         wrong,
         [

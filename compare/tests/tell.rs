@@ -248,9 +248,19 @@ fn accepted_calls() {
         &[
             ("block 1", "accepted, 3 and 0: block 3 is added, of height 2"),
             ("decide 0 4 5", "accepted, 1 and 1: block 1 of view 1 is decided, the panel shows 1"),
-            ("decide 0 4 5\ndecide 0 5 4", "accepted, 1 and 1: block 1 of view 1 is decided; view 1 is not above view 1, so the panel stays at 1"),
-            ("view 0 5", "accepted, 6 and 0: NEWVIEW 6 is added: replica 0 enters view 5 with block 1 stored in view 1"),
-            ("view 0 2\nview 0 2", "accepted, 6 and 1: NEWVIEW 6 is found, nothing new is signed: replica 0 enters view 2 with block 1 stored in view 1"),
+            (
+                "decide 0 4 5\ndecide 0 5 4",
+                "accepted, 1 and 1: block 1 of view 1 is decided; view 1 is not above view 1, so the panel stays at 1",
+            ),
+            (
+                "view 0 5",
+                "accepted, 6 and 0: NEWVIEW 6 is added: replica 0 enters view 5 with block 1 stored in view 1",
+            ),
+            (
+                "view 0 2\nview 0 2",
+                "accepted, 6 and 1: NEWVIEW 6 is found, nothing new is signed: \
+                 replica 0 enters view 2 with block 1 stored in view 1",
+            ),
             ("store 2 3", "accepted, 6 and 0: COMMIT 6 is added: replica 2 has stored block 1 in view 1"),
             ("reserve 2", "accepted, 128 and 0: the limit is 128"),
         ],
@@ -310,9 +320,15 @@ fn what_changed() {
         ("reserve 0", Some("limit 64 to 128")),
         (
             "reboot 0",
-            Some("status live to recovering, boot 0 to 1, lowest view 2 to 64, limit 64 to 128, stored view 1 to 0, stored block 1 to 0"),
+            Some(
+                "status live to recovering, boot 0 to 1, lowest view 2 to 64, limit 64 to 128, \
+                 stored view 1 to 0, stored block 1 to 0",
+            ),
         ),
-        ("reboot 2\nrequest 2\nreply 0 6\nreply 1 6\nrecover 2 7 8", Some("status recovering to live, stored view 0 to 1, stored block 0 to 1")),
+        (
+            "reboot 2\nrequest 2\nreply 0 6\nreply 1 6\nrecover 2 7 8",
+            Some("status recovering to live, stored view 0 to 1, stored block 0 to 1"),
+        ),
     ];
     for (call, words) in cases {
         let words = words.map(|words| format!("changed: {words}"));
@@ -324,7 +340,7 @@ fn what_changed() {
 
 #[test]
 fn the_ledger_at_the_end() {
-    let going_on = "decide 0 4 5\nblock 1\nprepare-on-commits 1 3 4 5\nstore 0 6\nstore 1 6\ndecide 2 7 8\ndecide 2 5 4\nreboot 1\n";
+    let going_on = "decide 0 4 5\ndecide 0 5 4\nblock 1\nprepare-on-commits 1 3 4 5\nstore 0 6\nstore 1 6\ndecide 2 7 8\ndecide 2 5 4\nreboot 1\n";
     let text = told(&Recount::of(&columns((COMMITTED.to_string() + going_on).as_bytes()).unwrap()));
     let (_, end) = text.split_once("\n\n").unwrap();
     let expected = "\

@@ -1,13 +1,9 @@
 //! What `tell` says: each kind of refusal and each kind of unreadable line by its sentence, what accepted calls give, the
-//! table at the end; and the numbers that it tells on the scenarios and on generated scripts.
+//! table at the end.
 
-use judge::generate::scripts::script;
-use judge::mistake::Correct;
-use judge::script::run;
 use judge::tell::columns::columns;
 use judge::tell::recount::Recount;
-use judge::tell::text::{answer, changed, numbers_told, told};
-use std::path::Path;
+use judge::tell::text::{answer, changed, told};
 
 /// The calls of a decision by replicas 0 and 1 up to their COMMITs 4 and 5, with a rival block 2 beside block 1.
 const COMMITTED: &str =
@@ -185,6 +181,13 @@ fn refusals_of_the_counter() {
     );
     let reserves = format!("open 1\n{}", "reserve 0\n".repeat(15_624));
     tells(&reserves, &[("reserve 0", "8: the limit is 1,000,000, and a step of 64 more would pass 1,000,000")]);
+}
+
+/// An opening leaves the log's words: a number that is not issued since has no kind.
+#[test]
+fn certificates_of_an_earlier_ledger() {
+    let script = columns(b"open 1\nview 0 1\nopen 1\nstore 0 0\n").unwrap();
+    assert_eq!(Recount::of(&script).entries[3].asks, "replica 0 stores certificate 0");
 }
 
 #[test]
@@ -373,30 +376,4 @@ block 2 on block 0, of height 1: not decided
 ";
     assert_eq!(end, expected);
     assert!(told(&Recount::of(b"")).ends_with("No ledger is open.\n"));
-}
-
-/// Every generated script and every scenario: the numbers in the words are those of the program.
-#[test]
-fn the_numbers_told() {
-    let scenarios = Path::new(env!("CARGO_MANIFEST_DIR")).join("../scenarios");
-    let paths = std::fs::read_dir(scenarios).unwrap().map(|entry| entry.unwrap().path());
-    let stored = paths.filter(|path| path.extension().is_some_and(|extension| extension == "txt"));
-    let stored: Vec<Vec<u8>> = stored.map(|path| std::fs::read(path).unwrap()).collect();
-    assert!(!stored.is_empty());
-    let generated = (0..60).map(|seed| script(seed).text);
-    for script in stored.into_iter().chain(generated) {
-        let text = told(&Recount::of(&script));
-        assert!(numbers_told(&text).unwrap() == run(Correct, &script), "{text}");
-    }
-}
-
-#[test]
-fn numbers_that_cannot_be_read() {
-    assert_eq!(
-        numbers_told("1  x\n   accepted, 3 and 0: y\n   changed: z\n2  x\n   7: y\n\nend").unwrap(),
-        b"       1       0       3       0\n       2       7       0       0\n"
-    );
-    for text in ["1  x\n", "1  x\n   y\n", "x\n   7: y\n", "1  x\n   accepted, 3: y\n"] {
-        assert!(numbers_told(text).is_err(), "{text:?}");
-    }
 }

@@ -157,3 +157,11 @@ fn what_stands_in_a_picture() {
         assert!(svg.contains(words), "{words}");
     }
 }
+
+/// With f = 4 one lane stands for replicas 7 and 8: their cuts are marked, and it is no replica's own status that it shows.
+#[test]
+fn a_lane_for_the_others() {
+    let svg = drawn("open 4\nreboot 7\nreboot 8\n").svg;
+    assert_eq!((count(&svg, ">replica 6<"), count(&svg, ">replica 7<"), count(&svg, ">the others<")), (1, 0, 1));
+    assert_eq!((count(&svg, r#"<line class="cut""#), count(&svg, r#"<line class="recovering""#)), (2, 0));
+}

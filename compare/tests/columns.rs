@@ -6,7 +6,7 @@ use judge::tell::columns::columns;
 use judge::tell::form::CALLS;
 use std::io::Write;
 use std::path::{Path, PathBuf};
-use std::process::{Command, Output, Stdio};
+use std::process::{Child, Command, Output, Stdio};
 
 #[test]
 fn calls_by_name() {
@@ -93,12 +93,15 @@ fn scenarios_are_made_from_calls() {
     }
 }
 
-/// The program with these arguments on this input.
-fn tell(arguments: &[&str], input: &str) -> Output {
+fn started(arguments: &[&str]) -> Child {
     let program = env!("CARGO_BIN_EXE_tell");
     let piped = Stdio::piped;
-    let mut child =
-        Command::new(program).args(arguments).stdin(piped()).stdout(piped()).stderr(piped()).spawn().unwrap();
+    Command::new(program).args(arguments).stdin(piped()).stdout(piped()).stderr(piped()).spawn().unwrap()
+}
+
+/// The program with these arguments on this input.
+fn tell(arguments: &[&str], input: &str) -> Output {
+    let mut child = started(arguments);
     // One that is not read, as with --help, may be closed already.
     let _ = child.stdin.take().unwrap().write_all(input.as_bytes());
     child.wait_with_output().unwrap()
@@ -122,4 +125,13 @@ fn the_program() {
     }
     let nowhere = tell(&["--svg", "/no/such/folder/picture.svg"], "");
     assert_eq!((nowhere.status.code(), nowhere.stdout.len()), (Some(1), 0));
+}
+
+#[test]
+fn a_reader_that_goes_away() {
+    let mut child = started(&["--columns"]);
+    drop(child.stdout.take());
+    child.stdin.take().unwrap().write_all(b"open 1\n").unwrap();
+    let ended = child.wait_with_output().unwrap();
+    assert_eq!((ended.status.code(), ended.stderr.len()), (Some(0), 0));
 }

@@ -343,7 +343,8 @@ fn what_changed() {
 
 #[test]
 fn the_ledger_at_the_end() {
-    let going_on = "decide 0 4 5\ndecide 0 5 4\nblock 1\nprepare-on-commits 1 3 4 5\nstore 0 6\nstore 1 6\ndecide 2 7 8\ndecide 2 5 4\nreboot 1\n";
+    let going_on = "decide 0 4 5\ndecide 0 5 4\nblock 1\nprepare-on-commits 1 3 4 5\nstore 0 6\nstore 1 6\n\
+                    decide 2 7 8\ndecide 2 5 4\nreboot 1\n";
     let text = told(&Recount::of(&columns((COMMITTED.to_string() + going_on).as_bytes()).unwrap()));
     let (_, end) = text.split_once("\n\n").unwrap();
     let expected = "\

@@ -6,22 +6,26 @@ use judge::tell::columns::columns;
 use judge::tell::form::CALLS;
 use std::io::Write;
 use std::path::{Path, PathBuf};
-use std::process::{Command, Output, Stdio};
+use std::process::{Child, Command, Output, Stdio};
 
 #[test]
 fn calls_by_name() {
-    let calls = b"# a comment\n\nopen 1 # f is 1\n  view\t0   01\nverbatim x # y\nprepare-on-acc 1 1 2\nverbatim \nrecover 2 7 8";
-    let script = "       0       1       0\n       5       0       1\nx # y\n       2       1       1       2\n\n      12       2       0       7       8";
+    let calls = b"# a comment\n\nopen 1 # f is 1\n  view\t0   01\nverbatim x # y\n\
+        prepare-on-acc 1 1 2\nverbatim \nrecover 2 7 8";
+    let script = "       0       1       0\n       5       0       1\nx # y\n\
+        \x20      2       1       1       2\n\n      12       2       0       7       8";
     assert_eq!(String::from_utf8(columns(calls).unwrap()).unwrap(), script);
 }
 
 #[test]
 fn lines_that_are_no_call_by_name() {
     let wrong = columns(
-        b"open 1\nacumulate 0 1\nview 0\nreboot 0 1\nview 0 +1\nview 0 100000000\nprepare-on-acc 0 1\nverbatim\n       5       0       1\n",
+        b"open 1\nacumulate 0 1\nview 0\nreboot 0 1\nview 0 +1\nview 0 100000000\nprepare-on-acc 0 1\nverbatim\n\
+            \x20      5       0       1\n",
     )
     .unwrap_err();
-    let calls = "the calls are open, block, prepare-on-acc, prepare-on-commits, store, view, accumulate, decide, reboot, reserve, request, reply, recover";
+    let calls = "the calls are open, block, prepare-on-acc, prepare-on-commits, store, view, accumulate, decide, \
+                 reboot, reserve, request, reply, recover";
     assert_eq!(
         wrong,
         [
@@ -89,12 +93,15 @@ fn scenarios_are_made_from_calls() {
     }
 }
 
-/// The program with these arguments on this input.
-fn tell(arguments: &[&str], input: &str) -> Output {
+fn started(arguments: &[&str]) -> Child {
     let program = env!("CARGO_BIN_EXE_tell");
     let piped = Stdio::piped;
-    let mut child =
-        Command::new(program).args(arguments).stdin(piped()).stdout(piped()).stderr(piped()).spawn().unwrap();
+    Command::new(program).args(arguments).stdin(piped()).stdout(piped()).stderr(piped()).spawn().unwrap()
+}
+
+/// The program with these arguments on this input.
+fn tell(arguments: &[&str], input: &str) -> Output {
+    let mut child = started(arguments);
     // One that is not read, as with --help, may be closed already.
     let _ = child.stdin.take().unwrap().write_all(input.as_bytes());
     child.wait_with_output().unwrap()
@@ -118,4 +125,13 @@ fn the_program() {
     }
     let nowhere = tell(&["--svg", "/no/such/folder/picture.svg"], "");
     assert_eq!((nowhere.status.code(), nowhere.stdout.len()), (Some(1), 0));
+}
+
+#[test]
+fn a_reader_that_goes_away() {
+    let mut child = started(&["--columns"]);
+    drop(child.stdout.take());
+    child.stdin.take().unwrap().write_all(b"open 1\n").unwrap();
+    let ended = child.wait_with_output().unwrap();
+    assert_eq!((ended.status.code(), ended.stderr.len()), (Some(0), 0));
 }

@@ -95,7 +95,7 @@ fn what_is_not_well_formed() {
 fn pictures_of(scripts: impl Iterator<Item = Vec<u8>>) -> usize {
     let mut count = 0;
     for script in scripts {
-        let Picture { svg, .. } = Picture::of("a < b", &script);
+        let Picture { svg, .. } = Picture::of("a < b\u{1}", &script);
         assert_eq!(well_formed(&svg), Ok(()));
         assert!(!svg.contains("<script") && svg.contains("<text"));
         count += 1;
@@ -136,14 +136,14 @@ fn count(svg: &str, piece: &str) -> usize {
 fn what_stands_in_a_picture() {
     let calls =
         "open 1\nview 0 1\nview 1 1\nview 1 1\naccumulate 0 0 1\nblock 0\nprepare-on-acc 0 1 2\nstore 0 3\nstore 1 3\n\
-                 store 1 3\ndecide 0 4 5\ndecide 0 4 4\nreboot 2\nrequest 2\nreply 0 6\nreply 1 6\nrecover 2 7 8\nverbatim x\n";
+                 store 1 3\ndecide 0 4 5\ndecide 0 4 4\nreboot 2\nrequest 2\nreply 0 6\nreply 1 6\nrecover 2 7 8\nverbatim x\nopen 1 0 1\n";
     let svg = drawn(calls).svg;
     let arrows = |kind: &str| count(&svg, &format!(r#"<path class="arrow {kind}-line""#));
     let pale = |kind: &str| count(&svg, &format!(r#"<path class="arrow {kind}-line pale""#));
     let kinds = ["newview", "acc", "prop", "commit", "req", "reply"];
     assert_eq!((kinds.map(arrows), kinds.map(pale)), ([2, 1, 2, 2, 2, 2], [0, 0, 1, 1, 0, 0]));
     assert_eq!(count(&svg, r#"class="found newview-line""#), 1);
-    assert_eq!(count(&svg, r#"<circle class="refused""#), 3);
+    assert_eq!(count(&svg, r#"<circle class="refused""#), 4);
     assert_eq!(count(&svg, r#"<line class="cut""#), 1);
     assert_eq!(count(&svg, r#"<line class="recovering""#), 1);
     let attribute = |element: &str, name: &str| {
@@ -156,4 +156,12 @@ fn what_stands_in_a_picture() {
     for words in ["power cut: boot 1", "back at view 64", "decides block 1", "panel of 0: 1", "10: 1 column"] {
         assert!(svg.contains(words), "{words}");
     }
+}
+
+/// With f = 4 one lane stands for replicas 7 and 8: their cuts are marked, and it is no replica's own status that it shows.
+#[test]
+fn a_lane_for_the_others() {
+    let svg = drawn("open 4\nreboot 7\nreboot 8\n").svg;
+    assert_eq!((count(&svg, ">replica 6<"), count(&svg, ">replica 7<"), count(&svg, ">the others<")), (1, 0, 1));
+    assert_eq!((count(&svg, r#"<line class="cut""#), count(&svg, r#"<line class="recovering""#)), (2, 0));
 }

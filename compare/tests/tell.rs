@@ -1,13 +1,9 @@
 //! What `tell` says: each kind of refusal and each kind of unreadable line by its sentence, what accepted calls give, the
-//! table at the end; and the numbers that it tells on the scenarios and on generated scripts.
+//! table at the end.
 
-use judge::generate::scripts::script;
-use judge::mistake::Correct;
-use judge::script::run;
 use judge::tell::columns::columns;
 use judge::tell::recount::Recount;
-use judge::tell::text::{answer, changed, numbers_told, told};
-use std::path::Path;
+use judge::tell::text::{answer, changed, told};
 
 /// The calls of a decision by replicas 0 and 1 up to their COMMITs 4 and 5, with a rival block 2 beside block 1.
 const COMMITTED: &str =
@@ -187,6 +183,13 @@ fn refusals_of_the_counter() {
     tells(&reserves, &[("reserve 0", "8: the limit is 1,000,000, and a step of 64 more would pass 1,000,000")]);
 }
 
+/// An opening leaves the log's words: a number that is not issued since has no kind.
+#[test]
+fn certificates_of_an_earlier_ledger() {
+    let script = columns(b"open 1\nview 0 1\nopen 1\nstore 0 0\n").unwrap();
+    assert_eq!(Recount::of(&script).entries[3].asks, "replica 0 stores certificate 0");
+}
+
 #[test]
 fn refusals_for_want_of_room() {
     let blocks = format!("open 1\n{}", "block 0\n".repeat(1023));
@@ -248,9 +251,19 @@ fn accepted_calls() {
         &[
             ("block 1", "accepted, 3 and 0: block 3 is added, of height 2"),
             ("decide 0 4 5", "accepted, 1 and 1: block 1 of view 1 is decided, the panel shows 1"),
-            ("decide 0 4 5\ndecide 0 5 4", "accepted, 1 and 1: block 1 of view 1 is decided; view 1 is not above view 1, so the panel stays at 1"),
-            ("view 0 5", "accepted, 6 and 0: NEWVIEW 6 is added: replica 0 enters view 5 with block 1 stored in view 1"),
-            ("view 0 2\nview 0 2", "accepted, 6 and 1: NEWVIEW 6 is found, nothing new is signed: replica 0 enters view 2 with block 1 stored in view 1"),
+            (
+                "decide 0 4 5\ndecide 0 5 4",
+                "accepted, 1 and 1: block 1 of view 1 is decided; view 1 is not above view 1, so the panel stays at 1",
+            ),
+            (
+                "view 0 5",
+                "accepted, 6 and 0: NEWVIEW 6 is added: replica 0 enters view 5 with block 1 stored in view 1",
+            ),
+            (
+                "view 0 2\nview 0 2",
+                "accepted, 6 and 1: NEWVIEW 6 is found, nothing new is signed: \
+                 replica 0 enters view 2 with block 1 stored in view 1",
+            ),
             ("store 2 3", "accepted, 6 and 0: COMMIT 6 is added: replica 2 has stored block 1 in view 1"),
             ("reserve 2", "accepted, 128 and 0: the limit is 128"),
         ],
@@ -310,9 +323,15 @@ fn what_changed() {
         ("reserve 0", Some("limit 64 to 128")),
         (
             "reboot 0",
-            Some("status live to recovering, boot 0 to 1, lowest view 2 to 64, limit 64 to 128, stored view 1 to 0, stored block 1 to 0"),
+            Some(
+                "status live to recovering, boot 0 to 1, lowest view 2 to 64, limit 64 to 128, \
+                 stored view 1 to 0, stored block 1 to 0",
+            ),
         ),
-        ("reboot 2\nrequest 2\nreply 0 6\nreply 1 6\nrecover 2 7 8", Some("status recovering to live, stored view 0 to 1, stored block 0 to 1")),
+        (
+            "reboot 2\nrequest 2\nreply 0 6\nreply 1 6\nrecover 2 7 8",
+            Some("status recovering to live, stored view 0 to 1, stored block 0 to 1"),
+        ),
     ];
     for (call, words) in cases {
         let words = words.map(|words| format!("changed: {words}"));
@@ -324,7 +343,8 @@ fn what_changed() {
 
 #[test]
 fn the_ledger_at_the_end() {
-    let going_on = "decide 0 4 5\nblock 1\nprepare-on-commits 1 3 4 5\nstore 0 6\nstore 1 6\ndecide 2 7 8\ndecide 2 5 4\nreboot 1\n";
+    let going_on = "decide 0 4 5\ndecide 0 5 4\nblock 1\nprepare-on-commits 1 3 4 5\nstore 0 6\nstore 1 6\n\
+                    decide 2 7 8\ndecide 2 5 4\nreboot 1\n";
     let text = told(&Recount::of(&columns((COMMITTED.to_string() + going_on).as_bytes()).unwrap()));
     let (_, end) = text.split_once("\n\n").unwrap();
     let expected = "\
@@ -357,30 +377,4 @@ block 2 on block 0, of height 1: not decided
 ";
     assert_eq!(end, expected);
     assert!(told(&Recount::of(b"")).ends_with("No ledger is open.\n"));
-}
-
-/// Every generated script and every scenario: the numbers in the words are those of the program.
-#[test]
-fn the_numbers_told() {
-    let scenarios = Path::new(env!("CARGO_MANIFEST_DIR")).join("../scenarios");
-    let paths = std::fs::read_dir(scenarios).unwrap().map(|entry| entry.unwrap().path());
-    let stored = paths.filter(|path| path.extension().is_some_and(|extension| extension == "txt"));
-    let stored: Vec<Vec<u8>> = stored.map(|path| std::fs::read(path).unwrap()).collect();
-    assert!(!stored.is_empty());
-    let generated = (0..60).map(|seed| script(seed).text);
-    for script in stored.into_iter().chain(generated) {
-        let text = told(&Recount::of(&script));
-        assert!(numbers_told(&text).unwrap() == run(Correct, &script), "{text}");
-    }
-}
-
-#[test]
-fn numbers_that_cannot_be_read() {
-    assert_eq!(
-        numbers_told("1  x\n   accepted, 3 and 0: y\n   changed: z\n2  x\n   7: y\n\nend").unwrap(),
-        b"       1       0       3       0\n       2       7       0       0\n"
-    );
-    for text in ["1  x\n", "1  x\n   y\n", "x\n   7: y\n", "1  x\n   accepted, 3: y\n"] {
-        assert!(numbers_told(text).is_err(), "{text:?}");
-    }
 }

@@ -6,6 +6,8 @@ use judge::tell::form::CALLS;
 use judge::tell::picture::Picture;
 use judge::tell::recount::Recount;
 use judge::tell::text::told;
+use std::borrow::Cow;
+use std::ffi::OsString;
 use std::io::{BufRead, ErrorKind, IsTerminal, Write};
 use std::path::Path;
 use std::process::ExitCode;
@@ -26,11 +28,12 @@ Calls by name, blanks between, a call a line; what follows a # is a comment:
 const BAD_USAGE: u8 = 2;
 
 fn main() -> ExitCode {
-    let arguments: Vec<String> = std::env::args().skip(1).collect();
-    let arguments: Vec<&str> = arguments.iter().map(String::as_str).collect();
-    let outcome = match arguments.as_slice() {
+    let arguments: Vec<OsString> = std::env::args_os().skip(1).collect();
+    let words: Vec<Cow<str>> = arguments.iter().map(|argument| argument.to_string_lossy()).collect();
+    let words: Vec<&str> = words.iter().map(Cow::as_ref).collect();
+    let outcome = match words.as_slice() {
         [] => input("a script").and_then(|script| print(told(&Recount::of(&script)).as_bytes())),
-        ["--svg", file] => input("a script").and_then(|script| draw(file, &script)),
+        ["--svg", _] => input("a script").and_then(|script| draw(Path::new(&arguments[1]), &script)),
         ["--columns"] => make_columns(),
         ["--help"] => print(usage().as_bytes()),
         _ => {
@@ -79,11 +82,11 @@ fn print(bytes: &[u8]) -> Result<(), String> {
     }
 }
 
-fn draw(file: &str, script: &[u8]) -> Result<(), String> {
-    let name = Path::new(file).file_stem().unwrap_or_default().to_string_lossy();
+fn draw(file: &Path, script: &[u8]) -> Result<(), String> {
+    let name = file.file_stem().unwrap_or_default().to_string_lossy();
     let picture = Picture::of(&name, script);
-    std::fs::write(file, picture.svg).map_err(|error| format!("{file}: {error}"))?;
-    print(format!("{file}: {}\n", picture.drawn).as_bytes())
+    std::fs::write(file, picture.svg).map_err(|error| format!("{}: {error}", file.display()))?;
+    print(format!("{}: {}\n", file.display(), picture.drawn).as_bytes())
 }
 
 /// Every line that is wrong is told, and then nothing is printed.

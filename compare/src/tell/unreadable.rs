@@ -2,7 +2,7 @@
 
 use super::form::{CallForm, ListForm};
 use super::words::{counted, thousands};
-use crate::call::{LAST_CODE, MAX_LIST};
+use crate::call::LAST_CODE;
 use crate::driver::Line;
 use crate::field::{read_number, COLUMNS, NO_NUMBER};
 use crate::mistake::Correct;
@@ -68,6 +68,7 @@ fn read_field(bytes: &[u8]) -> Result<u32, String> {
     })
 }
 
+/// A list is never too long: a line has at most so many fields.
 fn list_fits(form: &CallForm, length: usize) -> Result<(), String> {
     let given = counted(length as u32, "number");
     match form.list {
@@ -76,7 +77,6 @@ fn list_fits(form: &CallForm, length: usize) -> Result<(), String> {
         ListForm::One(item) if length != 1 => {
             Err(format!("{} has a list of just one number, the {item}; here are {given}", form.name))
         }
-        ListForm::Any(_) if length > MAX_LIST => Err(format!("a list of {given}: the most is {MAX_LIST}")),
         _ => Ok(()),
     }
 }

@@ -4,7 +4,6 @@
 use super::canvas::{kind_class, Anchor, Canvas, Point};
 use super::layout::{Layout, Row};
 use super::marks::{label, place, RADIUS};
-use crate::call::OPEN;
 use crate::certificate::FOUND;
 use crate::tell::recount::Filed;
 use crate::tell::words::kind_name;
@@ -73,9 +72,6 @@ pub fn draw(canvas: &mut Canvas, layout: &Layout) {
 fn arrows(layout: &Layout, taken: &[Area]) -> Vec<Arrow> {
     let (mut added, mut arrows) = (HashMap::new(), Vec::new());
     for row in &layout.rows {
-        if row.entry.is_accepted(OPEN) {
-            added.clear();
-        }
         let to = place(layout, row);
         let is_found = row.entry.issued.is_some() && row.entry.outcome.second == FOUND;
         let is_pale = is_found || !row.entry.outcome.is_accepted();

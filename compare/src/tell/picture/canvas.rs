@@ -134,10 +134,9 @@ impl Canvas {
 
 fn head(kind: u32, colour: &str) -> String {
     let class = kind_class(kind);
-    format!(
-        r#"<marker id="{class}-head" viewBox="0 0 8 8" refX="7" refY="4" markerWidth="7" markerHeight="7" orient="auto"><path d="M0 0L8 4L0 8z" fill="{colour}"/></marker>
-"#
-    )
+    let form = r#"viewBox="0 0 8 8" refX="7" refY="4" markerWidth="7" markerHeight="7" orient="auto""#;
+    let path = format!(r#"<path d="M0 0L8 4L0 8z" fill="{colour}"/>"#);
+    format!("<marker id=\"{class}-head\" {form}>{path}</marker>\n")
 }
 
 fn kind_style(kind: u32, colour: &str) -> String {
@@ -145,6 +144,8 @@ fn kind_style(kind: u32, colour: &str) -> String {
     format!(".{class} {{ fill: {colour}; }}\n.{class}-line {{ stroke: {colour}; }}\n")
 }
 
-pub fn escaped(words: &str) -> String {
+/// XML has no control characters, not even escaped ones.
+fn escaped(words: &str) -> String {
+    let words = words.replace(char::is_control, "\u{fffd}");
     words.replace('&', "&amp;").replace('<', "&lt;").replace('>', "&gt;").replace('"', "&quot;")
 }

@@ -15,6 +15,7 @@ fn calls_by_name() {
     let script = "       0       1       0\n       5       0       1\nx # y\n\
         \x20      2       1       1       2\n\n      12       2       0       7       8";
     assert_eq!(String::from_utf8(columns(calls).unwrap()).unwrap(), script);
+    assert_eq!(columns(b"\xef\xbb\xbfopen 1\r\n").unwrap(), b"       0       1       0\n");
 }
 
 #[test]
@@ -123,6 +124,13 @@ fn the_program() {
         assert_eq!((bad.status.code(), bad.stdout.len()), (Some(2), 0), "{arguments:?}");
         assert!(String::from_utf8(bad.stderr).unwrap().starts_with("usage: ./tell"));
     }
+    let many = tell(&["--columns"], &"5 0 1\n".repeat(12));
+    let errors = String::from_utf8(many.stderr).unwrap();
+    assert_eq!((errors.lines().count(), errors.lines().last()), (11, Some("tell: and 2 lines more")));
+    let script = Path::new(env!("CARGO_TARGET_TMPDIR")).join("script.txt");
+    std::fs::write(&script, "kept").unwrap();
+    let kept = tell(&["--svg", script.to_str().unwrap()], "");
+    assert_eq!((kept.status.code(), std::fs::read(&script).unwrap()), (Some(1), b"kept".to_vec()));
     let nowhere = tell(&["--svg", "/no/such/folder/picture.svg"], "");
     assert_eq!((nowhere.status.code(), nowhere.stdout.len()), (Some(1), 0));
 }

@@ -120,7 +120,7 @@ fn drawn(calls: &str) -> Picture {
 #[test]
 fn how_much_is_drawn() {
     assert_eq!(drawn("open 1\nview 0 1\n").drawn, "all 2 lines");
-    assert_eq!(drawn("open 3\n").drawn, "all 1 lines");
+    assert_eq!(drawn("open 3\nview 7 1\nblock 1\n").drawn, "all 3 lines, 2 refused");
     assert_eq!(drawn("open 4\nview 8 1\n").drawn, "all 2 lines; replicas 7 to 8 in one lane");
     let long = format!("open 1\n{}", "reserve 0\n".repeat(2000));
     assert_eq!(drawn(&long).drawn, "lines 1 to 80 of 2,001");
@@ -153,7 +153,15 @@ fn what_stands_in_a_picture() {
     assert_eq!(attribute("recovering", "y1"), attribute("cut", "y1"));
     assert_eq!(attribute("recovering", "y2"), attribute("back", "cy"));
     assert_eq!(count(&svg, r#"<rect class="panel""#), 3);
-    for words in ["power cut: boot 1", "back at view 64", "decides block 1", "panel of 0: 1", "10: 1 column"] {
+    for words in [
+        "power cut: boot 1",
+        "back at view 64",
+        "decides block 1",
+        "stores PROP 3 (view 1, block 1)",
+        "decides on COMMITs 4 and 5 (view 1)",
+        "panel of 0: 1",
+        "10: 1 column",
+    ] {
         assert!(svg.contains(words), "{words}");
     }
 }

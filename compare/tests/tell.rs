@@ -54,8 +54,8 @@ fn refusals_1_to_4() {
             ("view 3 1", "2: there is no replica 3: with f = 1 they are 0 to 2"),
             ("view 0 0", "2: view 0: a view to be entered is 1 to 1,000,000"),
             ("view 0 1000001", "2: view 1,000,001: a view to be entered is 1 to 1,000,000"),
-            ("decide 0 4", "2: a list of 1 certificate: f + 1 = 2 are needed"),
-            ("accumulate 0", "2: a list of 0 certificates: f + 1 = 2 are needed"),
+            ("decide 0 4", "2: a list of 1 certificate: just f + 1 = 2 are needed"),
+            ("accumulate 0", "2: a list of 0 certificates: just f + 1 = 2 are needed"),
             ("block 1", "3: there is no block 1: only block 0 is added"),
             ("store 0 0", "3: there is no certificate 0: none is issued yet"),
             ("request 0", "4: replica 0 is live, and must be recovering"),
@@ -85,7 +85,7 @@ fn refusals_of_certificates() {
         &[
             ("store 2 0", "5: NEWVIEW 0 is no PROP"),
             ("prepare-on-acc 0 1 3", "5: PROP 3 is no ACC"),
-            ("prepare-on-acc 0 1 7", "5: ACC 7 was signed by replica 1, and only its signer may propose on it"),
+            ("prepare-on-acc 0 1 7", "5: ACC 7 was signed by replica 1, and only its signer may propose on it; view 1 is the turn of replica 0"),
             ("prepare-on-acc 1 1 7", "5: view 1 is the turn of replica 0"),
             (
                 "prepare-on-commits 0 1 4 5",
@@ -126,7 +126,10 @@ fn refusals_of_blocks_and_views() {
         COMMITTED,
         &[
             ("prepare-on-commits 1 0 4 5", "6: block 0 is never proposed"),
-            ("prepare-on-commits 1 2 4 5", "6: block 2 is on block 0, and must be on block 1"),
+            (
+                "prepare-on-commits 1 2 4 5",
+                "6: block 2 is on block 0; on COMMITs 4 and 5 only a block on block 1 can be proposed",
+            ),
             ("view 0 1", "7: view 1 is below replica 0's lowest view, 2"),
             ("store 0 3", "7: view 1 is below replica 0's lowest view, 2"),
             ("prepare-on-acc 0 1 2", "7: view 1 is below replica 0's lowest view, 2"),
@@ -211,6 +214,7 @@ fn unreadable_lines() {
             "       5       0       1\r",
             "10: 25 columns: a field has 8, and the last is not whole; it ends with a carriage return",
         ),
+        ("5\t0\t1", "10: 5 columns: a field has 8, and the last is not whole; column 2 is a tab"),
         ("       5       0", "10: 2 fields: a call has 3 to 34"),
         ("       5       0      01", "10: columns 17 to 24: a zero leads"),
         ("       5       0      1 ", "10: columns 17 to 24: a blank after a digit"),

@@ -6,22 +6,28 @@ use judge::tell::form::CALLS;
 use judge::tell::picture::Picture;
 use judge::tell::recount::Recount;
 use judge::tell::text::told;
+use judge::tell::words::counted;
 use std::borrow::Cow;
 use std::ffi::OsString;
 use std::io::{BufRead, ErrorKind, IsTerminal, Write};
 use std::path::Path;
 use std::process::ExitCode;
 
+const PICTURE: &str = "svg";
+/// Lines that are wrong and are told one by one.
+const MOST_TOLD: usize = 10;
+
 const USAGE: &str = "\
-usage: ./tell < SCRIPT              each line in words: what it asks, what is answered and why; the ledger at the end
-       ./tell --svg FILE < SCRIPT   the same as a picture, written to FILE
-       ./tell --columns < CALLS     calls by name become a script for ./yard and ./tell
+usage: ./tell < SCRIPT                  each line in words: what it asks, what is answered and why; the ledger at the end
+       ./tell --svg FILE.svg < SCRIPT   the same as a picture: up to 80 lines, a lane each for up to 7 replicas
+       ./tell --columns < CALLS         calls by name become a script for ./yard and ./tell
        ./tell --help
 
 A script has a call a line, in fields of eight columns: ./yard runs it. tell is a second opinion, over the second
 program in compare/, written from the documents: no part of what is proved.
 
-Calls by name, blanks between, a call a line; what follows a # is a comment:
+Calls by name, blanks between, a call a line; what follows a # is a comment. A list of certificates has just f+1
+numbers; an open has no steps, or eight:
 ";
 
 /// Status of a command line that is none.
@@ -83,14 +89,21 @@ fn print(bytes: &[u8]) -> Result<(), String> {
 }
 
 fn draw(file: &Path, script: &[u8]) -> Result<(), String> {
+    if file.extension().is_none_or(|extension| extension != PICTURE) {
+        return Err(format!("{}: a picture's name ends in .{PICTURE}; nothing is written", file.display()));
+    }
     let name = file.file_stem().unwrap_or_default().to_string_lossy();
     let picture = Picture::of(&name, script);
     std::fs::write(file, picture.svg).map_err(|error| format!("{}: {error}", file.display()))?;
     print(format!("{}: {}\n", file.display(), picture.drawn).as_bytes())
 }
 
-/// Every line that is wrong is told, and then nothing is printed.
+/// Where lines are wrong the first of them are told, and nothing is printed.
 fn make_columns() -> Result<(), String> {
-    let script = columns(&input("calls")?).map_err(|wrong| wrong.join("\ntell: "))?;
+    let script = columns(&input("calls")?).map_err(|wrong| {
+        let more = wrong.len().saturating_sub(MOST_TOLD);
+        let told = wrong[..wrong.len() - more].join("\ntell: ");
+        told + &if more == 0 { String::new() } else { format!("\ntell: and {} more", counted(more as u32, "line")) }
+    })?;
     print(&script)
 }

@@ -10,9 +10,12 @@ use crate::field::MAX_NUMBER;
 pub const VERBATIM: &str = "verbatim";
 
 const COMMENT: u8 = b'#';
+/// Some editors put it before the first line.
+const BYTE_ORDER_MARK: &[u8] = "\u{feff}".as_bytes();
 
 /// The script, or what is wrong with each line that is none of these: a call, a comment, blank, or verbatim.
 pub fn columns(calls: &[u8]) -> Result<Vec<u8>, Vec<String>> {
+    let calls = calls.strip_prefix(BYTE_ORDER_MARK).unwrap_or(calls);
     let (mut script, mut wrong) = (Vec::new(), Vec::new());
     for (line, number) in calls.split_inclusive(|&byte| byte == b'\n').zip(1..) {
         let text = line.strip_suffix(b"\n").unwrap_or(line);

@@ -123,7 +123,7 @@ impl Refused<'_> {
     fn list(&self) -> Test {
         let (given, needed) = (self.line.list.len() as u32, self.m.f() + 1);
         need(given == needed, OUT_OF_RANGE, || {
-            format!("a list of {}: f + 1 = {needed} are needed", counted(given, "certificate"))
+            format!("a list of {}: just f + 1 = {needed} are needed", counted(given, "certificate"))
         })?;
         self.line.list.iter().try_for_each(|&number| self.is_issued(number))
     }
@@ -157,7 +157,9 @@ impl Refused<'_> {
         self.leads(view)?;
         need(block != 0, WRONG_BLOCK, || "block 0 is never proposed".to_string())?;
         need(m.parent(block) == first.block, WRONG_BLOCK, || {
-            format!("block {block} is on block {}, and must be on block {}", m.parent(block), first.block)
+            let basis = certificates(m, list);
+            let (parent, base) = (m.parent(block), first.block);
+            format!("block {block} is on block {parent}; on {basis} only a block on block {base} can be proposed")
         })?;
         self.at_lowest(view)?;
         self.below_limit(view)
@@ -168,19 +170,23 @@ impl Refused<'_> {
         let acc = m.certificate(number);
         need(acc.kind == ACC, WRONG_CERTIFICATE, || not_of_kind(m, number, ACC))?;
         need(acc.signer == self.line.replica, WRONG_CERTIFICATE, || {
-            format!("ACC {number} was signed by replica {}, and only its signer may propose on it", acc.signer)
+            let turn = self.turn(acc.view);
+            format!("ACC {number} was signed by replica {}, and only its signer may propose on it; {turn}", acc.signer)
         })
     }
 
     fn leads(&self, view: u32) -> Test {
-        let replica = self.line.replica;
         let led = leader(view, self.m.replicas());
-        let turn = led.map_or("nobody".to_string(), |leader| format!("replica {leader}"));
         let on = match self.line.code {
             PREPARE_COMMITS => format!("COMMITs of view {} are for a proposal in view {view}: ", view - 1),
             _ => String::new(),
         };
-        need(led == Some(replica), WRONG_CERTIFICATE, || format!("{on}view {view} is the turn of {turn}"))
+        need(led == Some(self.line.replica), WRONG_CERTIFICATE, || format!("{on}{}", self.turn(view)))
+    }
+
+    fn turn(&self, view: u32) -> String {
+        let leader = leader(view, self.m.replicas()).map_or("nobody".to_string(), |leader| format!("replica {leader}"));
+        format!("view {view} is the turn of {leader}")
     }
 
     fn at_lowest(&self, view: u32) -> Test {

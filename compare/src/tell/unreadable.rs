@@ -36,14 +36,15 @@ fn read_fields(text: &[u8]) -> Result<Vec<u32>, String> {
 
 fn length_fits(text: &[u8]) -> Result<(), String> {
     let (columns, fields) = (text.len(), text.len() / COLUMNS);
-    let end = match text.last() {
-        Some(b'\r') => "; it ends with a carriage return",
-        _ => "",
+    let odd = match text.iter().position(|&byte| byte == b'\t') {
+        Some(place) => format!("; column {} is a tab", place + 1),
+        None if text.last() == Some(&b'\r') => "; it ends with a carriage return".to_string(),
+        None => String::new(),
     };
     if columns == 0 {
         Err("the line is empty".to_string())
     } else if !columns.is_multiple_of(COLUMNS) {
-        Err(format!("{}: a field has {COLUMNS}, and the last is not whole{end}", counted(columns as u32, "column")))
+        Err(format!("{}: a field has {COLUMNS}, and the last is not whole{odd}", counted(columns as u32, "column")))
     } else if !(MIN_FIELDS..=MAX_FIELDS).contains(&fields) {
         Err(format!("{}: a call has {MIN_FIELDS} to {MAX_FIELDS}", counted(fields as u32, "field")))
     } else {

@@ -7,14 +7,15 @@ use crate::memory::{replica_count, LIVE};
 use crate::tell::recount::{Recount, Shown};
 use crate::tell::words::{status_name, stored};
 
-const LEGEND: &str =
-    "dot: a certificate is added, hollow: found; square: a decision; red bar: a power cut, dashed up to the recovery; \
-                      red number: refused; pale arrow: nothing came of it";
+const LEGEND: [&str; 2] = [
+    "dot: a certificate is added, hollow: found; green square: a decision; red number: refused; pale arrow: nothing came of it",
+    "red bar: a power cut; dashed: recovering; black dot: back; tick: the limit is moved; black plate: the panel at the end",
+];
 
 pub fn draw(canvas: &mut Canvas, layout: &Layout, recount: &Recount) {
     heads(canvas, layout);
     for row in &layout.rows {
-        canvas.line("guide", Point::new(layout.guides(), row.y), Point::new(layout.text() - 8, row.y));
+        canvas.line("guide", Point::new(layout.guides(), row.y), Point::new(layout.side() - 8, row.y));
     }
     let openings: Vec<usize> = (0..layout.rows.len()).filter(|&row| layout.rows[row].entry.is_accepted(OPEN)).collect();
     for (place, &first) in openings.iter().enumerate() {
@@ -26,7 +27,9 @@ pub fn draw(canvas: &mut Canvas, layout: &Layout, recount: &Recount) {
         foot(canvas, Point::new(lane_x(number as i32), layout.end), shown);
     }
     if recount.ledger.is_some() {
-        canvas.text("quiet", layout.legend(), Anchor::Start, LEGEND);
+        for (line, words) in (0..).zip(LEGEND) {
+            canvas.text("quiet", layout.legend().shifted(0, TEXT_LINE * line), Anchor::Start, words);
+        }
     }
 }
 

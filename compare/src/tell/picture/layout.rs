@@ -1,6 +1,8 @@
 //! Where everything stands: a row for each line of the script, a lane for each replica.
 
 use super::canvas::Point;
+use crate::call::{Outcome, DECIDE};
+use crate::certificate::{Certificate, ACC, COMMIT, NEWVIEW};
 use crate::memory::replica_count;
 use crate::tell::recount::{Answered, Entry, Recount};
 
@@ -16,7 +18,7 @@ const SIDE: i32 = 170;
 const TEXT: i32 = 430;
 const ROW: i32 = 26;
 pub const TEXT_LINE: i32 = 14;
-const BOTTOM: i32 = 136;
+const BOTTOM: i32 = 150;
 const MARGIN: i32 = 16;
 /// Characters of a text line.
 const MOST_CHARACTERS: usize = 74;
@@ -41,7 +43,7 @@ impl<'a> Layout<'a> {
         let mut y = TOP;
         let mut rows = Vec::new();
         for entry in &recount.entries {
-            let asks = wrapped(&entry.asks);
+            let asks = wrapped(&(entry.asks.clone() + &aside(entry)));
             let why = match &entry.answered {
                 Answered::Refused(reason) => wrapped(&format!("{}: {}", reason.number, reason.words)),
                 Answered::Accepted(_) => Vec::new(),
@@ -97,7 +99,7 @@ impl<'a> Layout<'a> {
     }
 
     pub fn legend(&self) -> Point {
-        Point::new(MARGIN, self.end + BOTTOM - MARGIN)
+        Point::new(MARGIN, self.end + BOTTOM - MARGIN - TEXT_LINE)
     }
 
     pub fn title(&self) -> Point {
@@ -125,6 +127,19 @@ pub fn lane_x(lane: i32) -> i32 {
 
 pub fn at(replica: u32, y: i32) -> Point {
     Point::new(lane_x(lane(replica)), y)
+}
+
+/// What an accepted call's certificate or decision is of, where the call does not say it.
+fn aside(entry: &Entry) -> String {
+    let Some(Certificate { kind, view, block, .. }) = entry.issued.map(|filed| filed.certificate) else {
+        let Outcome { second: view, .. } = entry.outcome;
+        return if entry.is_accepted(DECIDE) { format!(" (view {view})") } else { String::new() };
+    };
+    match kind {
+        NEWVIEW => String::new(),
+        COMMIT | ACC => format!(" (view {view}, block {block})"),
+        _ => format!(" (view {view})"),
+    }
 }
 
 /// Words in lines that fit beside the lanes.

@@ -31,10 +31,12 @@ impl Picture {
 
 fn drawn(recount: &Recount, lines: usize) -> String {
     let shown = recount.entries.len();
-    let rows = match shown {
+    let refused = recount.entries.iter().filter(|entry| !entry.outcome.is_accepted()).count();
+    let lines = match shown {
         _ if shown < lines => format!("lines 1 to {shown} of {}", thousands(lines as u32)),
         _ => format!("all {shown} lines"),
     };
+    let rows = if refused == 0 { lines } else { format!("{lines}, {refused} refused") };
     let most = recount.entries.iter().map(|entry| 2 * entry.f).max().unwrap_or(0);
     if most < MAX_LANES {
         return rows;

@@ -40,6 +40,8 @@ fn lines_that_are_no_call_by_name() {
             "line 9: '5' is no call's name: is this a script already?".to_string(),
         ]
     );
+    assert_eq!(columns(b"view 0 \x1b[2J").unwrap_err(), ["line 1: '\\u{1b}[2J' is no number"]);
+    assert!(columns(b"\x1bopen 1").unwrap_err()[0].starts_with("line 1: no call '\\u{1b}open': "));
     let long = format!("decide 0{}\n", " 1".repeat(32));
     assert_eq!(
         columns(long.as_bytes()).unwrap_err(),

@@ -95,7 +95,7 @@ fn what_is_not_well_formed() {
 fn pictures_of(scripts: impl Iterator<Item = Vec<u8>>) -> usize {
     let mut count = 0;
     for script in scripts {
-        let Picture { svg, .. } = Picture::of("a < b\u{1}", &script);
+        let Picture { svg, .. } = Picture::of("a < b & c\u{1}", &script);
         assert_eq!(well_formed(&svg), Ok(()));
         assert!(!svg.contains("<script") && svg.contains("<text"));
         count += 1;

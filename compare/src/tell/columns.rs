@@ -52,12 +52,12 @@ fn no_call(name: &str) -> String {
         return format!("'{name}' is no call's name: is this a script already?");
     }
     let names: Vec<&str> = CALLS.iter().map(|form| form.name).collect();
-    format!("no call '{name}': the calls are {}", names.join(", "))
+    format!("no call '{}': the calls are {}", name.escape_debug(), names.join(", "))
 }
 
 fn number(word: &str) -> Result<u32, String> {
     if !word.bytes().all(|byte| byte.is_ascii_digit()) {
-        return Err(format!("'{word}' is no number"));
+        return Err(format!("'{}' is no number", word.escape_debug()));
     }
     let number = word.parse().ok().filter(|&number| number <= MAX_NUMBER);
     number.ok_or_else(|| format!("{word} is above {}, the greatest number of eight columns", thousands(MAX_NUMBER)))

@@ -120,6 +120,7 @@ fn drawn(calls: &str) -> Picture {
 #[test]
 fn how_much_is_drawn() {
     assert_eq!(drawn("open 1\nview 0 1\n").drawn, "all 2 lines");
+    assert_eq!(drawn("open 1\n").drawn, "1 line");
     assert_eq!(drawn("open 3\nview 7 1\nblock 1\n").drawn, "all 3 lines, 2 refused");
     assert_eq!(drawn("open 4\nview 8 1\n").drawn, "all 2 lines; replicas 7 to 8 in one lane");
     let long = format!("open 1\n{}", "reserve 0\n".repeat(2000));

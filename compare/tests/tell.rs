@@ -157,8 +157,8 @@ fn refusals_of_the_counter() {
             ("view 0 200", "8: view 200 is not below replica 0's limit, 64: 3 reserves of 64 more"),
             (
                 "view 0 1000000",
-                "8: view 1000000 is not below replica 0's limit, 64: \
-                 reserves of 64 end at 1000000, as the counter never passes 1,000,000",
+                "8: view 1,000,000 is not below replica 0's limit, 64: \
+                 reserves of 64 end at 1,000,000, as the counter never passes 1,000,000",
             ),
         ],
     );
@@ -377,7 +377,7 @@ The chain of decided blocks
 height 0: block 0
 height 1: block 1, decided by replica 0 in view 1 and replica 2 in view 1
 height 2: block 3, decided by replica 2 in view 2
-block 2 on block 0, of height 1: not decided
+beside it: block 2 on block 0, of height 1, not decided
 ";
     assert_eq!(end, expected);
     assert!(told(&Recount::of(b"")).ends_with("No ledger is open.\n"));

@@ -193,7 +193,11 @@ impl Refused<'_> {
         let (replica, r) = (self.line.replica, self.caller());
         need(r.min_view <= view, WRONG_VIEW, || self.below_lowest(view))?;
         need(r.min_view == view, WRONG_VIEW, || {
-            format!("replica {replica} has not entered view {view}: its lowest view is {}", r.min_view)
+            format!(
+                "replica {replica} has not entered view {}: its lowest view is {}",
+                thousands(view),
+                thousands(r.min_view)
+            )
         })?;
         need(r.flag == 0, WRONG_VIEW, || {
             format!("replica {replica} has proposed in view {view} already: its flag is raised")
@@ -202,7 +206,11 @@ impl Refused<'_> {
 
     fn below_lowest(&self, view: u32) -> String {
         let replica = self.line.replica;
-        format!("view {view} is below replica {replica}'s lowest view, {}", self.caller().min_view)
+        format!(
+            "view {} is below replica {replica}'s lowest view, {}",
+            thousands(view),
+            thousands(self.caller().min_view)
+        )
     }
 
     fn not_below_lowest(&self, view: u32) -> Test {
@@ -212,7 +220,8 @@ impl Refused<'_> {
     fn below_limit(&self, view: u32) -> Test {
         let (replica, limit) = (self.line.replica, self.caller().view_limit);
         need(view < limit, COUNTER_LIMIT, || {
-            format!("view {view} is not below replica {replica}'s limit, {limit}: {}", self.reserves(view + 1))
+            let (view, limit, reserves) = (thousands(view), thousands(limit), self.reserves(view + 1));
+            format!("view {view} is not below replica {replica}'s limit, {limit}: {reserves}")
         })
     }
 
@@ -223,11 +232,8 @@ impl Refused<'_> {
         let count = (needed - r.view_limit).div_ceil(step);
         let room = (CEILING - r.view_limit) / step;
         if count > room {
-            format!(
-                "reserves of {step} end at {}, as the counter never passes {}",
-                r.view_limit + room * step,
-                thousands(CEILING)
-            )
+            let (last, ceiling) = (thousands(r.view_limit + room * step), thousands(CEILING));
+            format!("reserves of {step} end at {last}, as the counter never passes {ceiling}")
         } else {
             format!("{} of {step} more", counted(count, "reserve"))
         }
@@ -286,7 +292,12 @@ impl Refused<'_> {
         })?;
         let limit = self.caller().view_limit;
         need(req.view <= limit, COUNTER_LIMIT, || {
-            format!("the limit is {limit}, the REQ asks for {}: {}", req.view, self.reserves(req.view))
+            format!(
+                "the limit is {}, the REQ asks for {}: {}",
+                thousands(limit),
+                thousands(req.view),
+                self.reserves(req.view)
+            )
         })
     }
 
@@ -299,7 +310,12 @@ impl Refused<'_> {
         by(WRONG_CERTIFICATE, different(m, list))?;
         let (needed, limit) = (m.greatest(list, false).of_view + 1, self.caller().view_limit);
         need(needed <= limit, COUNTER_LIMIT, || {
-            format!("a REPLY tells of view {}, the limit is {limit}: {}", needed - 1, self.reserves(needed))
+            format!(
+                "a REPLY tells of view {}, the limit is {}: {}",
+                thousands(needed - 1),
+                thousands(limit),
+                self.reserves(needed)
+            )
         })
     }
 

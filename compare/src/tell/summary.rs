@@ -77,23 +77,20 @@ fn chain(ledger: &Ledger, entries: &[Entry]) -> String {
     }
     let mut text = "\nThe chain of decided blocks\n\n".to_string();
     for &block in line.iter().rev() {
-        let deciders = decisions.get(&block).map_or(String::new(), |deciders| format!(", decided by {}", by(deciders)));
-        text += &format!("height {}: block {block}{deciders}\n", height(block));
+        text +=
+            &format!("height {}: block {block}{}\n", height(block), decided_by(&decisions, block).unwrap_or_default());
     }
-    let rest = (0..ledger.blocks.len() as u32).filter(|block| !line.contains(block));
-    for block in rest {
-        let against = if decisions.contains_key(&block) { "DECIDED, AND NOT IN THIS CHAIN" } else { "not decided" };
-        text += &format!(
-            "block {block} on block {}, of height {}: {against}\n",
-            ledger.blocks[block as usize].parent,
-            height(block)
-        );
+    for block in (0..ledger.blocks.len() as u32).filter(|block| !line.contains(block)) {
+        let (parent, height) = (ledger.blocks[block as usize].parent, height(block));
+        let decided = decided_by(&decisions, block).unwrap_or(", not decided".to_string());
+        text += &format!("beside it: block {block} on block {parent}, of height {height}{decided}\n");
     }
     text
 }
 
-fn by(deciders: &[(u32, u32)]) -> String {
-    let words: Vec<String> =
-        deciders.iter().map(|(replica, view)| format!("replica {replica} in view {view}")).collect();
-    joined(&words)
+/// ", decided by replica 0 in view 1".
+fn decided_by(decisions: &BTreeMap<u32, Vec<(u32, u32)>>, block: u32) -> Option<String> {
+    let words = |(replica, view): &(u32, u32)| format!("replica {replica} in view {view}");
+    let deciders: Vec<String> = decisions.get(&block)?.iter().map(words).collect();
+    Some(format!(", decided by {}", joined(&deciders)))
 }

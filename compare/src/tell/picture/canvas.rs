@@ -54,7 +54,6 @@ text { font-family: 'DejaVu Sans', Verdana, sans-serif; font-size: 11px; fill: #
 .cut { stroke: #b42318; stroke-width: 4; }
 .live { stroke: #57606a; stroke-width: 1.5; }
 .recovering { stroke: #b42318; stroke-width: 1.5; stroke-dasharray: 4 4; }
-.retired { stroke: #d0d7de; stroke-width: 1.5; stroke-dasharray: 1 5; }
 .opening { stroke: #1f2328; stroke-width: 1; }
 .tick, .back { fill: #1f2328; }
 .box { fill: #ffffff; stroke: #57606a; stroke-width: 1; }

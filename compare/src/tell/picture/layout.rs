@@ -6,7 +6,7 @@ use crate::certificate::{Certificate, ACC, COMMIT, NEWVIEW};
 use crate::memory::replica_count;
 use crate::tell::recount::{Answered, Entry, Recount};
 
-/// Most lines of a script that are drawn.
+/// Most lines of a script that are drawn. In so few no replica can be cut until it is retired.
 pub const MAX_ROWS: usize = 80;
 /// Most lanes of one replica each; a last one stands for all others.
 pub const MAX_LANES: u32 = 7;

@@ -4,8 +4,8 @@ use super::canvas::{kind_class, Anchor, Canvas, Point};
 use super::layout::{at, Layout, Row, TEXT_LINE};
 use crate::call::*;
 use crate::certificate::FOUND;
-use crate::memory::{replica_count, RETIRED};
-use crate::tell::recount::{Answered, Change, Entry};
+use crate::memory::replica_count;
+use crate::tell::recount::{Answered, Entry};
 
 pub const RADIUS: i32 = 5;
 const REFUSED_RADIUS: i32 = 9;
@@ -36,18 +36,11 @@ pub fn label(entry: &Entry) -> String {
     let (Some(call), Some(change)) = (&entry.call, entry.change) else { return String::new() };
     match call.code {
         DECIDE => format!("decides block {}", entry.outcome.first),
-        REBOOT => cut_label(change),
+        REBOOT => format!("power cut: boot {}", change.after.replica.boot),
         RESERVE => format!("limit {}", entry.outcome.first),
         RECOVER => format!("back at view {}", entry.outcome.first),
         _ => issued_label(entry),
     }
-}
-
-fn cut_label(change: Change) -> String {
-    if change.after.replica.status == RETIRED {
-        return "power cut: retired".to_string();
-    }
-    format!("power cut: boot {}", change.after.replica.boot)
 }
 
 fn issued_label(entry: &Entry) -> String {

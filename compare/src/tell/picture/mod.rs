@@ -34,6 +34,7 @@ fn drawn(recount: &Recount, lines: usize) -> String {
     let refused = recount.entries.iter().filter(|entry| !entry.outcome.is_accepted()).count();
     let lines = match shown {
         _ if shown < lines => format!("lines 1 to {shown} of {}", thousands(lines as u32)),
+        1 => "1 line".to_string(),
         _ => format!("all {shown} lines"),
     };
     let rows = if refused == 0 { lines } else { format!("{lines}, {refused} refused") };

@@ -85,7 +85,11 @@ fn refusals_of_certificates() {
         &[
             ("store 2 0", "5: NEWVIEW 0 is no PROP"),
             ("prepare-on-acc 0 1 3", "5: PROP 3 is no ACC"),
-            ("prepare-on-acc 0 1 7", "5: ACC 7 was signed by replica 1, and only its signer may propose on it; view 1 is the turn of replica 0"),
+            (
+                "prepare-on-acc 0 1 7",
+                "5: ACC 7 was signed by replica 1, and only its signer may propose on it; \
+                 view 1 is the turn of replica 0",
+            ),
             ("prepare-on-acc 1 1 7", "5: view 1 is the turn of replica 0"),
             (
                 "prepare-on-commits 0 1 4 5",

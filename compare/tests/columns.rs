@@ -129,10 +129,13 @@ fn the_program() {
     let many = tell(&["--columns"], &"5 0 1\n".repeat(12));
     let errors = String::from_utf8(many.stderr).unwrap();
     assert_eq!((errors.lines().count(), errors.lines().last()), (11, Some("tell: and 2 lines more")));
-    let script = Path::new(env!("CARGO_TARGET_TMPDIR")).join("script.txt");
-    std::fs::write(&script, "kept").unwrap();
-    let kept = tell(&["--svg", script.to_str().unwrap()], "");
-    assert_eq!((kept.status.code(), std::fs::read(&script).unwrap()), (Some(1), b"kept".to_vec()));
+    let file = Path::new(env!("CARGO_TARGET_TMPDIR")).join("file");
+    let draw = || tell(&["--svg", file.to_str().unwrap()], "       0       1       0\n").status.code();
+    std::fs::write(&file, "kept").unwrap();
+    assert_eq!((draw(), std::fs::read(&file).unwrap()), (Some(1), b"kept".to_vec()));
+    std::fs::remove_file(&file).unwrap();
+    assert_eq!((draw(), draw()), (Some(0), Some(0)));
+    assert!(std::fs::read(&file).unwrap().starts_with(b"<svg"));
     let nowhere = tell(&["--svg", "/no/such/folder/picture.svg"], "");
     assert_eq!((nowhere.status.code(), nowhere.stdout.len()), (Some(1), 0));
 }

@@ -13,13 +13,14 @@ use std::io::{BufRead, ErrorKind, IsTerminal, Write};
 use std::path::Path;
 use std::process::ExitCode;
 
-const PICTURE: &str = "svg";
+/// How a picture begins.
+const PICTURE: &[u8] = b"<svg";
 /// Lines that are wrong and are told one by one.
 const MOST_TOLD: usize = 10;
 
 const USAGE: &str = "\
 usage: ./tell < SCRIPT                  each line in words: what it asks, what is answered and why; the ledger at the end
-       ./tell --svg FILE.svg < SCRIPT   the same as a picture: up to 80 lines, a lane each for up to 7 replicas
+       ./tell --svg FILE < SCRIPT       the same as a picture: up to 80 lines, a lane each for up to 7 replicas
        ./tell --columns < CALLS         calls by name become a script for ./yard and ./tell
        ./tell --help
 
@@ -89,8 +90,9 @@ fn print(bytes: &[u8]) -> Result<(), String> {
 }
 
 fn draw(file: &Path, script: &[u8]) -> Result<(), String> {
-    if file.extension().is_none_or(|extension| extension != PICTURE) {
-        return Err(format!("{}: a picture's name ends in .{PICTURE}; nothing is written", file.display()));
+    let is_other = file.is_file() && std::fs::read(file).is_ok_and(|old| !old.is_empty() && !old.starts_with(PICTURE));
+    if is_other {
+        return Err(format!("{}: is there and is no picture; nothing is written", file.display()));
     }
     let name = file.file_stem().unwrap_or_default().to_string_lossy();
     let picture = Picture::of(&name, script);

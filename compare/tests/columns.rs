@@ -1,11 +1,14 @@
 //! Calls by name: the script that they become, what is wrong with other lines, and the program `tell` on both. The
 //! scenarios are made from this form.
 
+mod common;
+
+use common::scenario_files;
 use judge::driver::Line;
 use judge::tell::columns::columns;
 use judge::tell::form::CALLS;
 use std::io::Write;
-use std::path::{Path, PathBuf};
+use std::path::Path;
 use std::process::{Child, Command, Output, Stdio};
 
 #[test]
@@ -74,20 +77,14 @@ fn every_call() {
     assert!(CALLS.iter().all(|form| cases.iter().any(|(_, line)| line.code == form.code)));
 }
 
-fn with_extension(extension: &str) -> Vec<PathBuf> {
-    let directory = Path::new(env!("CARGO_MANIFEST_DIR")).join("../scenarios");
-    let paths = std::fs::read_dir(directory).unwrap().map(|entry| entry.unwrap().path());
-    paths.filter(|path| path.extension().is_some_and(|found| found == extension)).collect()
-}
-
 fn feeds(text: &[u8]) -> usize {
     text.iter().filter(|&&byte| byte == b'\n').count()
 }
 
 #[test]
 fn scenarios_are_made_from_calls() {
-    let scripts = with_extension("txt");
-    assert_eq!(scripts.len(), with_extension("calls").len());
+    let scripts = scenario_files("txt");
+    assert_eq!(scripts.len(), scenario_files("calls").len());
     for script in scripts {
         let calls = std::fs::read(script.with_extension("calls")).unwrap();
         let made = columns(&calls).unwrap();

@@ -1,9 +1,11 @@
 //! Pictures of scripts: well-formed XML without a script in it, what is drawn of a long script, and what stands in one.
 
+mod common;
+
+use common::scenario_files;
 use judge::generate::scripts::script;
 use judge::tell::columns::columns;
 use judge::tell::picture::Picture;
-use std::path::Path;
 
 /// The open elements up to the end of a text; what is wrong with it as XML, of the kind that pictures are: elements,
 /// attributes in double quotes, text with the five entities.
@@ -105,10 +107,8 @@ fn pictures_of(scripts: impl Iterator<Item = Vec<u8>>) -> usize {
 
 #[test]
 fn pictures_are_well_formed() {
-    let scenarios = Path::new(env!("CARGO_MANIFEST_DIR")).join("../scenarios");
-    let paths = std::fs::read_dir(scenarios).unwrap().map(|entry| entry.unwrap().path());
-    let stored = paths.filter(|path| path.extension().is_some_and(|extension| extension == "txt"));
-    assert!(pictures_of(stored.map(|path| std::fs::read(path).unwrap())) > 20);
+    let stored = scenario_files("txt").into_iter().map(|path| std::fs::read(path).unwrap());
+    assert!(pictures_of(stored) > 20);
     pictures_of((0..40).map(|seed| script(seed).text));
     pictures_of([Vec::new(), b"<&>\"\x01\xff\n".to_vec()].into_iter());
 }

@@ -1,6 +1,9 @@
 //! Every script of ../scenarios gives its expected output, and so do the reserves up to the ceiling. The stored second
 //! values are held against the stored first ones, without the library.
 
+mod common;
+
+use common::scenario_files;
 use judge::memory::CEILING;
 use judge::mistake::Correct;
 use judge::script::run;
@@ -16,11 +19,9 @@ struct Scenario {
 }
 
 fn scenarios() -> Vec<Scenario> {
-    let directory = Path::new(env!("CARGO_MANIFEST_DIR")).join("../scenarios");
-    let paths = std::fs::read_dir(directory).unwrap().map(|entry| entry.unwrap().path());
-    let scripts = paths.filter(|path| path.extension().is_some_and(|extension| extension == "txt"));
     let read = |path: &Path| std::fs::read(path).unwrap();
-    let all: Vec<Scenario> = scripts
+    let all: Vec<Scenario> = scenario_files("txt")
+        .into_iter()
         .map(|path| Scenario {
             name: path.display().to_string(),
             script: read(&path),

@@ -1,22 +1,20 @@
 //! The numbers that `tell` tells: those of the program, on the scenarios and on generated scripts.
 
+mod common;
+
+use common::scenario_files;
 use judge::generate::scripts::script;
 use judge::mistake::Correct;
 use judge::script::run;
 use judge::tell::recount::Recount;
 use judge::tell::text::{numbers_told, told};
-use std::path::Path;
 
 /// Every generated script and every scenario: the numbers in the words are those of the program.
 #[test]
 fn the_numbers_told() {
-    let scenarios = Path::new(env!("CARGO_MANIFEST_DIR")).join("../scenarios");
-    let paths = std::fs::read_dir(scenarios).unwrap().map(|entry| entry.unwrap().path());
-    let stored = paths.filter(|path| path.extension().is_some_and(|extension| extension == "txt"));
-    let stored: Vec<Vec<u8>> = stored.map(|path| std::fs::read(path).unwrap()).collect();
-    assert!(!stored.is_empty());
+    let stored = scenario_files("txt").into_iter().map(|path| std::fs::read(path).unwrap());
     let generated = (0..60).map(|seed| script(seed).text);
-    for script in stored.into_iter().chain(generated) {
+    for script in stored.chain(generated) {
         let text = told(&Recount::of(&script));
         assert!(numbers_told(&text).unwrap() == run(Correct, &script), "{text}");
     }

@@ -1,7 +1,6 @@
 //! One netting: the form test, one walk up the chosen block's ancestry and one pass over the movements.
 
 use super::fit::straight;
-use super::tables::thousands;
 use super::timing::best_in_turn;
 use super::Named;
 use crate::call::BLOCK;
@@ -14,6 +13,7 @@ use crate::memory::{MAX_BLOCKS, MAX_F, MAX_MOVEMENTS, MAX_PALLETS, MAX_REPLICAS}
 use crate::mistake::Correct;
 use crate::netting::Movement;
 use crate::script::BLOCK_SLOTS;
+use crate::tell::words::thousands;
 use std::hint::black_box;
 
 const HEIGHTS: [usize; 2] = [BLOCK_SLOTS - 1, MAX_BLOCKS - 1];

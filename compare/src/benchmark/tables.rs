@@ -9,6 +9,7 @@ use crate::comparison::programs::{output, Arrival};
 use crate::memory::MAX_F;
 use crate::script::{ANSWER_BYTES, CERTIFICATE_SLOTS};
 use crate::script_file::ScriptFile;
+use crate::tell::words::thousands;
 
 /// What is run and how often.
 pub struct Bench<'a> {
@@ -156,13 +157,4 @@ struct Row {
 /// Milliseconds of two programs and the first's ratio to the second.
 fn columns(seconds: &[f64]) -> String {
     format!("{:.1} | {:.1} | {:.2}", seconds[0] * 1e3, seconds[1] * 1e3, seconds[0] / seconds[1])
-}
-
-/// A number as a person writes it, up to 999,999,999: 1,000,000.
-pub fn thousands(number: usize) -> String {
-    match (number / 1_000_000, number / 1000 % 1000, number % 1000) {
-        (0, 0, ones) => ones.to_string(),
-        (0, thousands, ones) => format!("{thousands},{ones:03}"),
-        (millions, thousands, ones) => format!("{millions},{thousands:03},{ones:03}"),
-    }
 }

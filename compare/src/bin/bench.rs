@@ -9,11 +9,12 @@ use judge::benchmark::inputs::LONG_LINE;
 use judge::benchmark::machine;
 use judge::benchmark::netting::most_steps;
 use judge::benchmark::plot::svg;
-use judge::benchmark::tables::{fit, thousands, Bench};
+use judge::benchmark::tables::{fit, Bench};
 use judge::comparison::checkers::Checker;
 use judge::memory::{MAX_F, MAX_REPLICAS};
 use judge::options::Options;
 use judge::script::{BLOCK_SLOTS, CERTIFICATE_SLOTS};
+use judge::tell::words::thousands;
 use std::process::ExitCode;
 
 fn main() -> ExitCode {

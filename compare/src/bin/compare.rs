@@ -108,19 +108,19 @@ fn work(options: &Options) -> Result<(), String> {
 
 /// Two programs on scenarios, where their directory is given, and on generated scripts.
 fn compare_programs(options: &Options, seed: u64, time: Duration) -> Result<(), String> {
-    let other = options.text("second").or(options.text("tell"));
-    let (Some(yard), Some(other)) = (options.text("yard"), other) else {
+    let beside = options.text("second").or(options.text("tell"));
+    let (Some(yard), Some(beside)) = (options.text("yard"), beside) else {
         let flags = "--memories, --nettings, --numbers, --number-edges, --self, --mistakes or --coverage";
         return Err(format!("give --yard PATH and --second PATH or --tell PATH, or {flags}"));
     };
     let told = options.text("second").is_none();
     let one = |text: &[u8], arrival| output(yard, text, arrival);
-    let other = |text: &[u8], arrival| match output(other, text, arrival) {
+    let other = |text: &[u8], arrival| match output(beside, text, arrival) {
         Ok(words) if told => numbers_told(&String::from_utf8_lossy(&words)),
         answers => answers,
     };
     if let Some(directory) = options.text("scenarios") {
-        compare_scenarios(directory, &[&one, &other])?;
+        compare_scenarios(directory, &[(yard, &one), (beside, &other)])?;
     }
     let (count, once_across_cuts) = (options.number("scripts"), options.flag("once-across-cuts"));
     compare_scripts(&one, &other, Scripts { seed, count, time, once_across_cuts })
@@ -258,7 +258,7 @@ fn tell_numbers(compared: Result<u64, String>) -> Result<(), String> {
 }
 
 /// Every NAME.txt of the directory gives its NAME.out.
-fn compare_scenarios(directory: &str, programs: &[Run]) -> Result<(), String> {
+fn compare_scenarios(directory: &str, programs: &[(&str, Run)]) -> Result<(), String> {
     let listing = std::fs::read_dir(directory).map_err(|error| format!("{directory}: {error}"))?;
     let mut paths: Vec<_> = listing.filter_map(|entry| Some(entry.ok()?.path())).collect();
     paths.retain(|path| path.extension().is_some_and(|extension| extension == "txt"));
@@ -269,8 +269,8 @@ fn compare_scenarios(directory: &str, programs: &[Run]) -> Result<(), String> {
     for path in &paths {
         let read = |path: &std::path::Path| std::fs::read(path).map_err(|error| format!("{}: {error}", path.display()));
         let (input, expected) = (read(path)?, read(&path.with_extension("out"))?);
-        for (program, name) in programs.iter().zip(["the first program", "the second"]) {
-            if let Some(line) = first_difference(&program(&input, Arrival::File)?, &expected) {
+        for (name, run) in programs {
+            if let Some(line) = first_difference(&run(&input, Arrival::File)?, &expected) {
                 return Err(format!("{name} differs on {} at line {line}", path.display()));
             }
         }

@@ -1,8 +1,9 @@
 //! `tell`: a script in words, as a picture, or made from calls by name. Over the library: a second opinion, and no part of
 //! what is proved.
 
-use judge::tell::columns::columns;
+use judge::tell::columns::{columns, VERBATIM};
 use judge::tell::form::CALLS;
+use judge::tell::picture::layout::{MAX_LANES, MAX_ROWS};
 use judge::tell::picture::Picture;
 use judge::tell::recount::Recount;
 use judge::tell::text::told;
@@ -17,19 +18,6 @@ use std::process::ExitCode;
 const PICTURE: &[u8] = b"<svg";
 /// Lines that are wrong and are told one by one.
 const MOST_TOLD: usize = 10;
-
-const USAGE: &str = "\
-usage: ./tell < SCRIPT                  each line in words: what it asks, what is answered and why; the ledger at the end
-       ./tell --svg FILE < SCRIPT       the same as a picture: up to 80 lines, a lane each for up to 7 replicas
-       ./tell --columns < CALLS         calls by name become a script for ./yard and ./tell
-       ./tell --help
-
-A script has a call a line, in fields of eight columns: ./yard runs it. tell is a second opinion, over the second
-program in compare/, written from the documents: no part of what is proved.
-
-Calls by name, blanks between, a call a line; what follows a # is a comment. A list of certificates has just f+1
-numbers; an open has no steps, or eight:
-";
 
 /// Status of a command line that is none.
 const BAD_USAGE: u8 = 2;
@@ -59,7 +47,21 @@ fn main() -> ExitCode {
 
 fn usage() -> String {
     let calls: String = CALLS.iter().map(|form| format!("  {}\n", form.usage())).collect();
-    format!("{USAGE}{calls}  verbatim LINE    (stands in the script as it is, to show a line that is no call)\n")
+    format!(
+        "\
+usage: ./tell < SCRIPT              each line in words: what it asks, what is answered and why; the ledger at the end
+       ./tell --svg FILE < SCRIPT   the same as a picture: up to {MAX_ROWS} lines, a lane each for up to {MAX_LANES} replicas
+       ./tell --columns < CALLS     calls by name become a script for ./yard and ./tell
+       ./tell --help
+
+A script has a call a line, in fields of eight columns: ./yard runs it. tell is a second opinion, over the second
+program in compare/, written from the documents: no part of what is proved.
+
+Calls by name, blanks between, a call a line; what follows a # is a comment. A list of certificates has just f+1
+numbers; an open has no steps, or eight:
+{calls}  {VERBATIM} LINE    (stands in the script as it is, to show a line that is no call)
+"
+    )
 }
 
 /// All of standard input. Who sits at a terminal is told what is read.

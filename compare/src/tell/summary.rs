@@ -3,7 +3,13 @@
 use super::recount::{Entry, Ledger, Recount, Shown};
 use super::words::*;
 use crate::call::{Outcome, DECIDE};
+use crate::certificate::Certificate;
 use std::collections::BTreeMap;
+
+/// The columns of the table of replicas.
+const HEADS: [&str; 9] = ["Replica", "status", "boot", "lowest view", "limit", "flag", "stored", "decided", "panel"];
+
+type Cells = [String; HEADS.len()];
 
 pub fn summary(recount: &Recount) -> String {
     let Some(ledger) = &recount.ledger else { return "\nNo ledger is open.\n".to_string() };
@@ -11,11 +17,10 @@ pub fn summary(recount: &Recount) -> String {
 }
 
 fn replicas(ledger: &Ledger) -> String {
-    let heads = ["Replica", "status", "boot", "lowest view", "limit", "flag", "stored", "decided", "panel"];
     let rows = ledger.replicas.iter().enumerate().map(|(number, shown)| replica(number, shown));
-    let rows: Vec<[String; 9]> = [heads.map(str::to_string)].into_iter().chain(rows).collect();
+    let rows: Vec<Cells> = [HEADS.map(str::to_string)].into_iter().chain(rows).collect();
     let width = |column: usize| rows.iter().map(|row| row[column].len()).max().unwrap_or(0);
-    let line = |row: &[String; 9]| {
+    let line = |row: &Cells| {
         let cells = row.iter().enumerate().map(|(column, cell)| format!("{cell:width$}", width = width(column)));
         cells.collect::<Vec<_>>().join("  ").trim_end().to_string() + "\n"
     };
@@ -25,7 +30,7 @@ fn replicas(ledger: &Ledger) -> String {
         + &steps
 }
 
-fn replica(number: usize, shown: &Shown) -> [String; 9] {
+fn replica(number: usize, shown: &Shown) -> Cells {
     let r = shown.replica;
     let of_view = |block, view| if view == 0 { "-".to_string() } else { format!("block {block}, view {view}") };
     [
@@ -43,13 +48,11 @@ fn replica(number: usize, shown: &Shown) -> [String; 9] {
 
 fn certificates(ledger: &Ledger) -> String {
     let width = ledger.certificates.len().to_string().len();
-    let line = |(number, c): (usize, _)| format!("{number:width$}  {}\n", signed(c));
-    let lines: String = ledger.certificates.iter().copied().enumerate().map(line).collect();
+    let kinds = ledger.certificates.iter().map(|c| kind_name(c.kind).len()).max().unwrap_or(0);
+    let line =
+        |(number, &c): (usize, &Certificate)| format!("{number:width$}  {:kinds$}  {}\n", kind_name(c.kind), says(c));
+    let lines: String = ledger.certificates.iter().enumerate().map(line).collect();
     format!("\nCertificates: {}\n\n{lines}", ledger.certificates.len())
-}
-
-fn signed(c: crate::certificate::Certificate) -> String {
-    format!("{:<7}  {}", kind_name(c.kind), says(c))
 }
 
 /// The blocks that accepted decides named: who decided each, and in which view.

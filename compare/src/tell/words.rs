@@ -30,12 +30,15 @@ pub fn status_name(status: u32) -> &'static str {
     }
 }
 
+/// Digits between two commas.
+const GROUP: usize = 3;
+
 /// As "1,000,000".
-pub fn thousands(number: u32) -> String {
+pub fn thousands(number: impl ToString) -> String {
     let digits = number.to_string();
     let mut words = String::new();
     for (place, digit) in digits.chars().enumerate() {
-        if place > 0 && (digits.len() - place).is_multiple_of(3) {
+        if place > 0 && (digits.len() - place).is_multiple_of(GROUP) {
             words.push(',');
         }
         words.push(digit);

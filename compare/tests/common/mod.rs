@@ -9,8 +9,18 @@ use judge::mistake::Correct;
 use judge::netting::balance;
 use judge::panel::panel;
 use judge::script::run;
+use std::path::{Path, PathBuf};
 
 pub type Given = (u32, u32, u32);
+
+/// The files of ../scenarios with that extension.
+pub fn scenario_files(extension: &str) -> Vec<PathBuf> {
+    let directory = Path::new(env!("CARGO_MANIFEST_DIR")).join("../scenarios");
+    let paths = std::fs::read_dir(directory).unwrap().map(|entry| entry.unwrap().path());
+    let found: Vec<PathBuf> = paths.filter(|path| path.extension().is_some_and(|found| found == extension)).collect();
+    assert!(!found.is_empty(), "no scenarios");
+    found
+}
 
 pub fn given(driver: &mut Driver<Correct>, code: u32, replica: u32, number: u32, list: &[u32]) -> Given {
     let Outcome { answer, first, second } = driver.call(code, replica, number, list);

@@ -11,8 +11,13 @@ pub const MAX_ROWS: usize = 80;
 /// Most lanes of one replica each; a last one stands for all others.
 pub const MAX_LANES: u32 = 7;
 
+/// Where the lines' numbers end, where what no replica is asked for is refused, and the first lane.
+const NUMBERS: i32 = 28;
+const OUTSIDE: i32 = 46;
 const LEFT: i32 = 120;
+/// The first row, and the heads of the lanes above it.
 const TOP: i32 = 84;
+const HEADS: i32 = 54;
 const LANE: i32 = 136;
 const SIDE: i32 = 170;
 const TEXT: i32 = 430;
@@ -20,6 +25,9 @@ const ROW: i32 = 26;
 pub const TEXT_LINE: i32 = 14;
 const BOTTOM: i32 = 150;
 const MARGIN: i32 = 16;
+/// How far an opening reaches past the first lane, and ends before the blocks.
+const OVERHANG: i32 = 30;
+const GAP: i32 = 20;
 /// Characters of a text line.
 const MOST_CHARACTERS: usize = 74;
 
@@ -76,7 +84,7 @@ impl<'a> Layout<'a> {
 
     /// Where a line's number ends.
     pub fn numbers(&self) -> i32 {
-        LEFT - 92
+        NUMBERS
     }
 
     /// Where the lines begin that lead from a number to its words.
@@ -86,16 +94,16 @@ impl<'a> Layout<'a> {
 
     /// Where what no replica is asked for is refused.
     pub fn outside(&self) -> i32 {
-        LEFT - 74
+        OUTSIDE
     }
 
     /// Where the lanes of a ledger begin and end.
     pub fn across(&self, f: u32) -> (i32, i32) {
-        (LEFT - 30, LEFT + LANE * lane_count(f) - 20)
+        (LEFT - OVERHANG, LEFT + LANE * lane_count(f) - GAP)
     }
 
     pub fn heads(&self) -> i32 {
-        TOP - 30
+        HEADS
     }
 
     pub fn legend(&self) -> Point {

@@ -33,7 +33,7 @@ fn drawn(recount: &Recount, lines: usize) -> String {
     let shown = recount.entries.len();
     let refused = recount.entries.iter().filter(|entry| !entry.outcome.is_accepted()).count();
     let lines = match shown {
-        _ if shown < lines => format!("lines 1 to {shown} of {}", thousands(lines as u32)),
+        _ if shown < lines => format!("lines 1 to {shown} of {}", thousands(lines)),
         1 => "1 line".to_string(),
         _ => format!("all {shown} lines"),
     };

@@ -3,7 +3,7 @@
 use super::given::given;
 use super::reason::{reason, Reason};
 use super::unreadable::read_call;
-use super::words::{asks, is_open};
+use super::words::{asks, is_open, kind_name};
 use crate::block::Block;
 use crate::call::*;
 use crate::certificate::Certificate;
@@ -101,6 +101,13 @@ impl Entry {
     /// An accepted call of that code.
     pub fn is_accepted(&self, code: u32) -> bool {
         self.outcome.is_accepted() && self.call.as_ref().is_some_and(|call| call.code == code)
+    }
+}
+
+impl Filed {
+    /// As "PROP 3".
+    pub fn name(&self) -> String {
+        format!("{} {}", kind_name(self.certificate.kind), self.number)
     }
 }
 

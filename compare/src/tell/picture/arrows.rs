@@ -6,7 +6,6 @@ use super::layout::{Layout, Row};
 use super::marks::{label, place, RADIUS};
 use crate::certificate::FOUND;
 use crate::tell::recount::Filed;
-use crate::tell::words::kind_name;
 use std::collections::HashMap;
 
 /// Where a text or a mark stands already.
@@ -65,7 +64,7 @@ pub fn draw(canvas: &mut Canvas, layout: &Layout) {
         taken.push(area);
         let pale = if arrow.is_pale { " pale" } else { "" };
         let class = format!("small {}{pale}", kind_class(arrow.filed.certificate.kind));
-        canvas.text(&class, at.shifted(0, 3), Anchor::Middle, &arrow.label());
+        canvas.text(&class, at.shifted(0, 3), Anchor::Middle, &arrow.filed.name());
     }
 }
 
@@ -131,10 +130,6 @@ impl Arrow {
         format!("M{} {}Q{} {} {} {}", from.x, from.y, bend.x, bend.y, to.x, to.y)
     }
 
-    fn label(&self) -> String {
-        format!("{} {}", kind_name(self.filed.certificate.kind), self.filed.number)
-    }
-
     /// So many hundredths along the arrow.
     fn along(&self, part: i32) -> Point {
         let rest = 100 - part;
@@ -146,7 +141,7 @@ impl Arrow {
 
     /// The first place that is free, else the middle.
     fn label_place(&self, taken: &[Area]) -> (Point, Area) {
-        let half = 3 * self.label().len() as i32;
+        let half = 3 * self.filed.name().len() as i32;
         let place = |part: i32, shift: i32| {
             let at = self.along(part).shifted(0, shift);
             (at, Area::around(at, half, 6))

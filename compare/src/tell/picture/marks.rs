@@ -46,7 +46,7 @@ pub fn label(entry: &Entry) -> String {
 fn issued_label(entry: &Entry) -> String {
     let Some(filed) = entry.issued else { return String::new() };
     let found = if entry.outcome.second == FOUND { " found" } else { "" };
-    format!("{} {}{found}", crate::tell::words::kind_name(filed.certificate.kind), filed.number)
+    filed.name() + found
 }
 
 fn words(canvas: &mut Canvas, layout: &Layout, row: &Row) {

@@ -10,7 +10,7 @@ use Rattle.protocol.specs.declared.Justification.the-variants.{Acc, Commits}
 use Rattle.protocol.specs.Memory.{Memory, Certificate, ceiling, faultBound, live, memory, replica, certificate, parent}
 use Rattle.protocol.specs.Certificates.{propOf}
 use Rattle.protocol.specs.Quorum.{isIssued, certificatesOf, isCommitQuorum}
-use Rattle.protocol.specs.Outcome.{Need, _else_, Rule, follow, unknownNumber, wrongStatus}
+use Rattle.protocol.specs.Outcome.{Need, _else_, Rule, follow, told, unknownNumber, wrongStatus}
 use Rattle.protocol.specs.FirstNeeds.{isBlock, replicaNeeds}
 use Rattle.protocol.specs.Calls.{hasStatus, numbersOf, isSized, justificationNeeds, proposalNeeds, prepare}
 use Rattle.protocol.proofs.Booleans.{tests}
@@ -65,7 +65,7 @@ pub record Judged (j : Justification) (cs : List Certificate) (rule : Rule) (res
 module _ (i : ℕ) (j : Justification) (cs : List Certificate) {rule : Rule} (rest : List Need)
     (at : At rule (judgementNeeds i j cs ++ rest)) {g : Judgement} (is : g ≡ judgementOf i j cs) where
   pub not-judged : {m : Memory} {a : Answer} {n k : ℕ} → g ≡ Refused n → k ≡ judgementRefusal g
-      → a ≡ record { number = k; first = 0; second = 0 } → record { answer = a; memory = m } ≡ follow m rule
+      → a ≡ record { number = k; first = 0; second = 0 } → record { answer = told a; state = m } ≡ follow m rule
   unfolding judgementOf
   not-judged told refusal answer =
       stops (refusal ∙ rw told refl) answer (judgementNeeds i j cs) rest at

@@ -7,7 +7,7 @@ use Rattle.protocol.specs.declared.Answer.{Answer}
 use lib.ListN.{length, getD}
 use Rattle.protocol.specs.Memory.{Memory, replica, certificate, certificateAt, certificateWords}
 use Rattle.protocol.specs.Quorum.{isIssued, certificatesOf, firstOf}
-use Rattle.protocol.specs.Outcome.{Need, _else_, Rule, firstRefusal, follow}
+use Rattle.protocol.specs.Outcome.{Need, _else_, RuleOf, Rule, firstRefusal, acceptance, refusalOf, follow, told}
 use Rattle.protocol.specs.FirstNeeds.{replicaNeeds, numberNeeds, listNeeds}
 use Rattle.protocol.proofs.Needs as Needs
 use Rattle.protocol.proofs.Needs.{Holds, positive, all-needs, refused-first, all-pass}
@@ -27,27 +27,35 @@ use Rattle.checks.proofs.Ready.{Ready, ready, ReadyList, all-listed, so
 use Rattle.checks.proofs.Verdicts.{was-refused, was-found, tested-is}
 
 -- The needs of a rule up to these hold: what the rest refuses, the rule refuses.
-pub record At (rule : Rule) (rest : List Need) : Type 0 where
+pub record At {Value State : Type 0} {none : Value} (rule : RuleOf none State) (rest : List Need) : Type 0 where
   pub same : firstRefusal (rule .needs) ≡ firstRefusal rest
 
-pub start : (rule : Rule) → At rule (rule .needs)
+pub start : {Value State : Type 0} {none : Value} (rule : RuleOf none State) → At rule (rule .needs)
 start rule = record { same = refl }
 
-module _ {rule : Rule} where
+module _ {Value State : Type 0} {none : Value} {rule : RuleOf none State} where
   pub on : (ns rest : List Need) → positive ns ≡ true → At rule (ns ++ rest) → firstRefusal ns ≡ 0 → At rule rest
   on ns rest p at e = record { same = at .same ∙ all-pass ns rest p e }
 
-  pub accepts : (m : Memory) {m′ : Memory} {a : Answer} → At rule [] → a ≡ record { number = 0; first = rule .first; second = rule .second }
-      → m′ ≡ rule .after → record { answer = a; memory = m′ } ≡ follow m rule
+  pub passes-all : (s : State) → At rule [] → acceptance (rule .first) (rule .second) (rule .after) ≡ follow s rule
   unfolding firstRefusal
-  accepts m at e after = rw (e, after) (Needs.accepts m rule (sym (at .same)))
+  passes-all s at = Needs.accepts s rule (sym (at .same))
 
-  module _ {m : Memory} {a : Answer} {n k : ℕ} (k-is : k ≡ n) (answer : a ≡ record { number = k; first = 0; second = 0 }) where
-    pub stops : (ns rest : List Need) → At rule (ns ++ rest) → (n ≡ firstRefusal ns) × (n ≡ 0 → ⊥)
-        → record { answer = a; memory = m } ≡ follow m rule
-    stops ns rest at w =
-        let first = refused-first ns rest (λ z. w .1 (w .0 ∙ z)) in
-        rw (answer, k-is) (Needs.refuses m rule n (w .0 ∙ sym first ∙ sym (at .same)) (w .1))
+  pub stops-at : (s : State) {n : ℕ} (ns rest : List Need) → At rule (ns ++ rest) → (n ≡ firstRefusal ns) × (n ≡ 0 → ⊥)
+      → refusalOf none n s ≡ follow s rule
+  stops-at s {n} ns rest at w =
+      let first = refused-first ns rest (λ z. w .1 (w .0 ∙ z)) in
+      Needs.refuses s rule n (w .0 ∙ sym first ∙ sym (at .same)) (w .1)
+
+-- The same of a call of the ledger, by what its code answers.
+module _ {rule : Rule} where
+  pub accepts : (m : Memory) {m′ : Memory} {a : Answer} → At rule [] → a ≡ record { number = 0; first = rule .first; second = rule .second }
+      → m′ ≡ rule .after → record { answer = told a; state = m′ } ≡ follow m rule
+  accepts m at e after = rw (e, after) (passes-all m at)
+
+  pub stops : {m : Memory} {a : Answer} {n k : ℕ} → k ≡ n → a ≡ record { number = k; first = 0; second = 0 } → (ns rest : List Need)
+      → At rule (ns ++ rest) → (n ≡ firstRefusal ns) × (n ≡ 0 → ⊥) → record { answer = told a; state = m } ≡ follow m rule
+  stops {m} k-is answer ns rest at w = rw (answer, k-is) (stops-at m ns rest at w)
 
 -- ---- by what is found: a replica
 
@@ -63,7 +71,8 @@ replica-known m i is told =
     let w = was-found _ _ (replicaNeeds m i) (λ k e. cc) (sym told ∙ is) in
     record { ready = ready m i (w .0); read = let e = w .1 in cc }
 
-pub record ReplicaFound (m : Memory) (i : ℕ) (rule : Rule) (rest : List Need) (r : Replica) : Type 0 where
+pub record ReplicaFound {Value State : Type 0} {none : Value} (m : Memory) (i : ℕ) (rule : RuleOf none State) (rest : List Need) (r : Replica)
+    : Type 0 where
   pub ready : Ready m i
   pub read : r ≡ replicaFrom (replica m i)
   pub at : At rule rest
@@ -71,7 +80,7 @@ pub record ReplicaFound (m : Memory) (i : ℕ) (rule : Rule) (rest : List Need) 
 module _ (m : Memory) (i : ℕ) {rule : Rule} (rest : List Need) (at : At rule (replicaNeeds m i ++ rest))
     {f : FoundReplica} (is : f ≡ replicaFound m i) where
   pub no-replica : {a : Answer} {n k : ℕ} → f ≡ OfReplica.Refused n → k ≡ replicaRefusal f
-      → a ≡ record { number = k; first = 0; second = 0 } → record { answer = a; memory = m } ≡ follow m rule
+      → a ≡ record { number = k; first = 0; second = 0 } → record { answer = told a; state = m } ≡ follow m rule
   unfolding replicaFound
   no-replica told number answer =
       stops (number ∙ rw told refl) answer (replicaNeeds m i) rest at
@@ -94,7 +103,7 @@ pub record CertificateFound (m : Memory) (number : ℕ) (rule : Rule) (rest : Li
 module _ (m : Memory) (number : ℕ) {rule : Rule} (rest : List Need) (at : At rule (numberNeeds m number ++ rest))
     {f : FoundCertificate} (is : f ≡ certificateFound m number) where
   pub no-certificate : {a : Answer} {n k : ℕ} → f ≡ OfCertificate.Refused n → k ≡ certificateRefusal f
-      → a ≡ record { number = k; first = 0; second = 0 } → record { answer = a; memory = m } ≡ follow m rule
+      → a ≡ record { number = k; first = 0; second = 0 } → record { answer = told a; state = m } ≡ follow m rule
   unfolding certificateFound
   no-certificate told refusal answer =
       stops (refusal ∙ rw told refl) answer (numberNeeds m number) rest at
@@ -114,7 +123,7 @@ module _ (m : Memory) (number : ℕ) {rule : Rule} (rest : List Need) (at : At r
 
 module _ (ns : List Need) (numbered : positive ns ≡ true) {t : Tested} (is : t ≡ tested ns) where
   pub failed : (m : Memory) {rule : Rule} (rest : List Need) → At rule (ns ++ rest) → {a : Answer} {n k : ℕ} → t ≡ Test.Refused n
-      → k ≡ testRefusal t → a ≡ record { number = k; first = 0; second = 0 } → record { answer = a; memory = m } ≡ follow m rule
+      → k ≡ testRefusal t → a ≡ record { number = k; first = 0; second = 0 } → record { answer = told a; state = m } ≡ follow m rule
   failed m rest at told refusal answer =
       stops (refusal ∙ rw told refl) answer ns rest at
       (was-refused _ _ ns (λ e. cc) (λ k e. cc) (sym told ∙ is ∙ tested-is ns numbered))

@@ -6,9 +6,8 @@ use mathlib.Core.List.{List, []}
 use Rattle.protocol.specs.declared.Answer.{Answer}
 use Rattle.protocol.specs.Memory.{Memory, Certificate, Assignment, memory, rowAt, words, assign, update}
 use Rattle.protocol.specs.Certificates.{numberFor, foundOrAppended, canFile, file}
-use Rattle.protocol.specs.Outcome.{firstRefusal, answered, follow, noRoom}
+use Rattle.protocol.specs.Outcome.{firstRefusal, acceptance, answered, follow, refusal, told, noRoom}
 use Rattle.protocol.specs.Calls.{issuing}
-use Rattle.protocol.proofs.Needs.{refusal, acceptance}
 use Rattle.certificates.specs.declared.Filed.{Filed}
 use Rattle.certificates.specs.declared.Filed.the-variants.{At, Refused}
 use Rattle.certificates.specs.inner.Filing.{Result, filing, filingRefusal}
@@ -29,7 +28,7 @@ module _ (m : Memory) (i : ℕ) (changes : List Assignment) (c : Certificate) wh
   module _ {d : Certificate} (same : d ≡ c) {r : Filed} {n : ℕ} {m′ : Memory}
       (filed : record { outcome = r; memory = m′ } ≡ filing m (words d)) where
     pub full : {a : Answer} {k : ℕ} → r ≡ Refused n → k ≡ filingRefusal r → a ≡ record { number = k; first = 0; second = 0 }
-        → record { answer = a; memory = m′ } ≡ follow m (issuing m [] i changes c)
+        → record { answer = told a; state = m′ } ≡ follow m (issuing m [] i changes c)
     unfolding filing
     full at e p =
         let files = rw same at filed in
@@ -39,7 +38,7 @@ module _ (m : Memory) (i : ℕ) (changes : List Assignment) (c : Certificate) wh
 
     pub issued : {a : Answer} {w : ℕ} {t : List ℕ} → r ≡ At n w → a ≡ record { number = 0; first = n; second = w }
         → t ≡ assign (m′ .table) (rowAt i) changes
-        → record { answer = a; memory = memory t (m′ .log) (m′ .blocks) } ≡ follow m (issuing m [] i changes c)
+        → record { answer = told a; state = memory t (m′ .log) (m′ .blocks) } ≡ follow m (issuing m [] i changes c)
     unfolding filing update
     issued {a} {w} at p e =
         let files = rw same at filed in

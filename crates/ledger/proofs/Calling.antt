@@ -8,9 +8,9 @@ use Rattle.protocol.specs.declared.Answer.{Answer}
 use Rattle.protocol.specs.declared.Call.{Call}
 use Rattle.protocol.specs.Memory.{Memory, memory}
 use Rattle.protocol.specs.Form.{wellFormed}
-use Rattle.protocol.specs.Outcome.{Outcome, outcome, wrongForm, unreadable}
+use Rattle.protocol.specs.Outcome.{Outcome, outcome, refusal, wrongForm, unreadable}
 use Rattle.protocol.specs.Runs.{step}
-use Rattle.protocol.proofs.Needs.{refusal, refuses}
+use Rattle.protocol.proofs.Needs.{refuses}
 use Rattle.protocol.proofs.Rules.{no-form}
 use Rattle.codes.specs.declared.Coded.{Coded}
 use Rattle.codes.specs.declared.Coded.the-variants.{Of, Refused}

@@ -3,7 +3,7 @@ use Prim.Native.Nat.{ℕ}
 use mathlib.Core.Path.{_≡_}
 use mathlib.Core.List.{List}
 use Rattle.protocol.specs.Memory.{Memory}
-use Rattle.protocol.specs.Outcome.{Outcome}
+use Rattle.protocol.specs.Outcome.{Outcome, refusal}
 use Rattle.protocol.specs.Runs.{step}
 use Rattle.codes.specs.declared.Coded.{Coded}
 use Rattle.codes.specs.declared.Coded.the-variants.{Of, Refused}
@@ -16,7 +16,7 @@ MakeCall m code replica number list = codedCall m code replica number list ≡ n
 -- "a failed read or test hands its number up unchanged"
 unfoldable pub calledBy : Coded → Memory → List ℕ → Outcome
 calledBy (Of call) m list = step m call list
-calledBy (Refused refusal) m list = record { answer = record { number = refusal; first = 0; second = 0 }; memory = m }
+calledBy (Refused number) m list = refusal number m
 
 unfoldable pub called : Memory → ℕ → ℕ → ℕ → List ℕ → Outcome
 called m code replica number list = calledBy (codedCall m code replica number list) m list

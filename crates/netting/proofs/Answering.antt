@@ -1,8 +1,8 @@
 -- What a netting answers, once its first needs hold.
 use Prim.Native.Nat.{ℕ}
-use mathlib.Core.Path.{_≡_, refl, sym, _∙_}
+use mathlib.Core.Path.{_≡_, sym, ap, _∙_}
 use mathlib.Core.Bool.{Bool, true, false, or-false}
-use mathlib.Core.List.{List}
+use mathlib.Core.List.{List, []}
 use native.Mathlib.Omega.{arith}
 use lib.Dec.{ltb}
 use lib.ListN.{getD, replicate, getD-replicate, length-replicate, List·getD-eq-default}
@@ -12,14 +12,15 @@ use mir.Val.{ofZ, toZ}
 use mir.Facts.{toZ-ofZ}
 use Rattle.protocol.specs.declared.Movement.{Movement}
 use Rattle.protocol.specs.Memory.{maxFaultBound, replicaCount, maxBlocks}
-use Rattle.protocol.specs.Outcome.{firstRefusal, wrongMovement}
+use Rattle.protocol.specs.Outcome.{firstRefusal, RuleOf, wrongMovement}
 use Rattle.protocol.specs.Movements.{movement, movementCount}
 use Rattle.protocol.proofs.Booleans.{tests, by-test, at-below}
+use Rattle.protocol.proofs.Needs.{refuses, accepts, fails, holds}
 use Rattle.blocks.specs.inner.Records.{parentIn}
 use Rattle.ancestry.specs.inner.AncestryFits.{AncestorsMarked}
 use Rattle.netting.specs.declared.Netted.{Netted}
-use Rattle.netting.specs.Netting.{countsBy, balanceAfter, balanceBy, nettingAnswer}
-use Rattle.netting.specs.inner.Tallies.{marked, Talliable, Tallied, Nettable, balanceAnswer}
+use Rattle.netting.specs.Netting.{countsBy, balanceAfter, balanceBy, balanceTold}
+use Rattle.netting.specs.inner.Tallies.{marked, Talliable, Tallied, Nettable, balanceRule, balanceAnswer}
 use Rattle.netting.proofs.Nettings.{balance-same, balance-small, is-allowed, list-short}
 use Rattle.netting.proofs.Moving.{small-fits}
 
@@ -45,10 +46,13 @@ module _ (blocks movements : List ℕ) (b i replicas added : ℕ) (h : Nettable 
       }
 
   module _ (allowed : Bool) (xs : List ℤ) (t : Tallied movements marks replicas added allowed xs) where
+    abbrev rule : RuleOf (pos 0) (Unit {0})
+    rule = balanceRule blocks movements b i replicas added
+
     pub breaks : allowed ≡ false → {r : Netted} → r ≡ record { number = wrongMovement; balance = pos 0; second = 0 }
-        → r ≡ balanceAnswer blocks movements b i replicas added
-    unfolding balanceAnswer nettingAnswer firstRefusal
-    breaks e answer = answer ∙ rw (← t .tested, e) refl
+        → balanceTold r ≡ balanceAnswer blocks movements b i replicas added
+    unfolding balanceRule
+    breaks e answer = rw answer (ap (λ o. o .answer) (refuses tt rule wrongMovement (sym (fails [] (sym (t .tested) ∙ e))) (λ z. omega arith)))
 
     -- A balance reads back from its bits.
     reads-back : allowed ≡ true → toZ w32 (ofZ w32 (getD xs i (pos 0))) ≡ balanceBy (parentIn blocks) movements b i
@@ -62,6 +66,6 @@ module _ (blocks movements : List ℕ) (b i replicas added : ℕ) (h : Nettable 
 
     pub nets-all : allowed ≡ true → {r : Netted}
         → r ≡ record { number = 0; balance = toZ w32 (ofZ w32 (getD xs i (pos 0))); second = 0 }
-        → r ≡ balanceAnswer blocks movements b i replicas added
-    unfolding balanceAnswer nettingAnswer firstRefusal
-    nets-all e answer = answer ∙ rw (reads-back e, ← t .tested, e) refl
+        → balanceTold r ≡ balanceAnswer blocks movements b i replicas added
+    unfolding balanceRule firstRefusal
+    nets-all e answer = rw (answer, reads-back e) (ap (λ o. o .answer) (accepts tt rule (sym (holds wrongMovement [] (sym (t .tested) ∙ e)))))

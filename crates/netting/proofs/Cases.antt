@@ -1,24 +1,24 @@
 -- The table of nettings, by computation.
 use mathlib.Core.Path.{refl}
 use mathlib.Core.List.{List, map}
+use lib.IntN.{ℤ}
 use Rattle.protocol.specs.Memory.{update, appendBlock}
 use Rattle.protocol.specs.Ancestry.{ancestorWithin}
 use Rattle.protocol.specs.Form.{allHold, allBelow, blockFormed, replicaFormed, certificateFormed, lengthsFit, countsFit, stepsFormed}
 use Rattle.protocol.specs.Form.{wellFormed}
 use Rattle.protocol.specs.Counter.{stepsFrom, stepsAllowed}
-use Rattle.protocol.specs.Outcome.{firstRefusal, answered, follow}
+use Rattle.protocol.specs.Outcome.{AnswerOf, firstRefusal, answered, follow}
 use Rattle.protocol.specs.Calls.{freshReplicas, opening, block}
 use Rattle.protocol.specs.Runs.{ruleOf, step, run}
 use Rattle.protocol.specs.Movements.{movementAllowed, isMovementList}
-use Rattle.netting.specs.declared.Netted.{Netted}
-use Rattle.netting.specs.Netting.{sumBelow, palletsOf, nettingNeeds, nettingAnswer, netting}
+use Rattle.netting.specs.Netting.{sumBelow, palletsOf, nettingRule, netting}
 use Rattle.netting.specs.Cases.{Case, AsExpected, balances, limits, refusals, NettingCasesHold}
 
 -- Everything that a netting is made of opens with this.
-unfoldable answers : List Case → List Netted
+unfoldable answers : List Case → List (AnswerOf ℤ)
 unfolding update appendBlock ancestorWithin allHold allBelow blockFormed replicaFormed certificateFormed lengthsFit countsFit
     stepsFormed wellFormed stepsFrom stepsAllowed firstRefusal answered follow freshReplicas opening block ruleOf step run movementAllowed
-    isMovementList sumBelow palletsOf nettingNeeds nettingAnswer netting
+    isMovementList sumBelow palletsOf nettingRule netting
 answers cases = map (λ (c : Case). netting (c .start) (c .movements) (c .chosen) (c .firm) .answer) cases
 
 balances-hold : AsExpected balances

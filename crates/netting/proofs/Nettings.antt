@@ -1,21 +1,22 @@
 -- What an accepted netting tells, and what shows one.
-use Prim.Native.Nat.{ℕ, zero, suc, _≤_, _<_}
-use mathlib.Core.Path.{_≡_, refl, sym, _∙_}
+use Prim.Native.Nat.{ℕ, _≤_, _<_}
+use mathlib.Core.Path.{_≡_, refl, _∙_}
 use mathlib.Core.Bool.{Bool, true, cond, _&&_}
 use mathlib.Core.List.{List}
 use native.Mathlib.Omega.{arith}
 use lib.Dec.{eqb}
-use lib.IntN.{ℤ, natAbs}
+use lib.IntN.{natAbs}
 use Rattle.protocol.specs.declared.Movement.{Movement}
 use Rattle.protocol.specs.Memory.{Memory, replicaCount, faultBound, blockCount, parent}
 use Rattle.protocol.specs.Form.{wellFormed}
 use Rattle.protocol.specs.Outcome.{firstRefusal}
 use Rattle.protocol.specs.FirstNeeds.{isReplica, isBlock}
+use Rattle.protocol.specs.Theorems.{Accepted}
 use Rattle.protocol.specs.Movements.{movement, movementCount, movementAllowed, isMovementList, maxPallets, maxMovements}
 use Rattle.protocol.proofs.Booleans.{tests, by-cond, each, at-below, all-below}
-use Rattle.protocol.proofs.Needs.{all-needs}
-use Rattle.netting.specs.Netting.{palletsOf, balanceAfter, balanceBy, nettingNeeds, nettingAnswer, netting}
-use Rattle.netting.specs.Theorems.{AcceptedNetting, maxBalance}
+use Rattle.protocol.proofs.Needs.{all-needs, returned, no-refusal, accepted-first}
+use Rattle.netting.specs.Netting.{palletsOf, balanceAfter, balanceBy, lent, nettingRule, netting}
+use Rattle.netting.specs.Theorems.{maxBalance}
 use Rattle.netting.proofs.Signed.{less-small}
 use Rattle.netting.proofs.Sums.{sum-same, sum-small}
 
@@ -64,17 +65,7 @@ pub list-short : (movements : List ℕ) → isMovementList movements ≡ true �
 unfolding isMovementList
 list-short movements e = let t = each _ e in omega tests
 
--- ---- an answer
-
-pub number-is : (n : ℕ) (z : ℤ) → nettingAnswer n z .number ≡ n
-unfolding nettingAnswer
-number-is zero z = refl
-number-is (suc n) z = refl
-
-pub balance-is : (n : ℕ) (z : ℤ) → n ≡ 0 → nettingAnswer n z .balance ≡ z
-unfolding nettingAnswer
-balance-is zero z e = refl
-balance-is (suc n) z e = absurd (omega arith)
+-- ---- an accepted netting
 
 pub record Nets (m : Memory) (movements : List ℕ) (b : ℕ) : Type 0 where
   pub formed : wellFormed m ≡ true
@@ -84,24 +75,25 @@ pub record Nets (m : Memory) (movements : List ℕ) (b : ℕ) : Type 0 where
       → movementAllowed (replicaCount (faultBound m)) (blockCount m) (movement movements k) ≡ true
 
 module _ (m : Memory) (movements : List ℕ) (b i : ℕ) where
-  pub passes : AcceptedNetting (netting m movements b i) → firstRefusal (nettingNeeds m movements b i) ≡ 0
-  unfolding netting
-  passes accepted = sym (number-is _ _) ∙ accepted
+  pub passes : firstRefusal (nettingRule m movements b i .needs) ≡ 0 → Nets m movements b
+  unfolding nettingRule
+  passes e =
+      let h = all-needs (nettingRule m movements b i .needs) refl e in
+      record { formed = h .1 .0; list = h .0; block = h .1 .1 .1 .0; each = at-below _ _ (h .1 .1 .1 .1 .0) }
 
-  pub nets : firstRefusal (nettingNeeds m movements b i) ≡ 0 → Nets m movements b
-  unfolding nettingNeeds
-  nets e =
-      let h = all-needs (nettingNeeds m movements b i) refl e in
-      record { formed = h .0; list = h .1 .0; block = h .1 .1 .1 .0; each = at-below _ _ (h .1 .1 .1 .1 .0) }
+  module _ (accepted : Accepted (netting m movements b i)) where
+    pub nets : Nets m movements b
+    unfolding netting
+    nets = passes (no-refusal (lent m movements) (nettingRule m movements b i) accepted)
 
-  pub answers : AcceptedNetting (netting m movements b i)
-      → netting m movements b i .answer .balance ≡ balanceBy (parent m) movements b i
-  unfolding netting
-  answers accepted = balance-is _ _ (passes accepted)
+    pub answers : netting m movements b i .answer .first ≡ balanceBy (parent m) movements b i
+    unfolding netting nettingRule
+    answers = accepted-first (lent m movements) (nettingRule m movements b i) accepted
 
 -- What is accepted of one firm is accepted of every firm.
 pub accepted-netting : (m : Memory) (movements : List ℕ) (b i : ℕ) → Nets m movements b → isReplica m i ≡ true
-    → AcceptedNetting (netting m movements b i)
-unfolding netting nettingNeeds firstRefusal
+    → Accepted (netting m movements b i)
+unfolding netting nettingRule firstRefusal
 accepted-netting m movements b i h own =
-    number-is _ _ ∙ rw (h .formed, h .list, own, h .block, all-below (movementCount movements) _ (h .each)) refl
+    returned (lent m movements) (nettingRule m movements b i)
+    ∙ rw (h .formed, h .list, own, h .block, all-below (movementCount movements) _ (h .each)) refl

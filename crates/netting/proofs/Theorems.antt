@@ -1,78 +1,68 @@
 -- What specs/Theorems.antt states.
 use Prim.Native.Nat.{ℕ, zero, suc, _≤_, _<_}
 use mathlib.Core.Path.{_≡_, refl, sym, ap, _∙_, subst}
-use mathlib.Core.Bool.{true, false, cond}
+use mathlib.Core.Bool.{true, cond}
 use mathlib.Core.Logic.{⊎-elim}
 use mathlib.Core.List.{List, List·Memᴰ}
 use native.Mathlib.Omega.{arith}
-use lib.IntN.{pos, natAbs, +ℤ-invr}
+use lib.IntN.{ℤ, pos, natAbs, +ℤ-invr}
 use Rattle.protocol.specs.Memory.{Memory, memory, replicaCount, faultBound, blockCount, parent}
 use Rattle.protocol.specs.Ancestry.{Falls, isAncestorBy, heightBy}
-use Rattle.protocol.specs.Outcome.{_else_, firstRefusal}
+use Rattle.protocol.specs.Outcome.{firstRefusal, answered, follow}
 use Rattle.protocol.specs.Runs.{Invocation}
-use Rattle.protocol.specs.Theorems.{Alike}
+use Rattle.protocol.specs.Theorems.{Accepted, Alike}
 use Rattle.protocol.specs.History.{decided, givenParent}
 use Rattle.protocol.specs.Agreement.{Execution, eventsOf, endOf, Agreement}
 use Rattle.protocol.specs.Movements.{movement, movementCount}
 use Rattle.protocol.proofs.Booleans.{tests}
-use Rattle.protocol.proofs.Needs.{failing-need, lowest-refusal}
+use Rattle.protocol.proofs.Needs.{outcome-cases, outcome-state, refused, lowest}
 use Rattle.protocol.proofs.Formed.{formed, form, falls}
 use Rattle.protocol.proofs.Alike.{twin, parent-same, form-same}
 use Rattle.protocol.proofs.Reached.{Reached, given-falls, chosen-known}
 use Rattle.protocol.proofs.Agreement.{reached-by, agreement}
-use Rattle.netting.specs.Netting.{sumBelow, received, given, countsBy, balanceBy, nettingNeeds, nettingAnswer, netting}
-use Rattle.netting.specs.Theorems.{AcceptedNetting, NettingChangesNothing, RefusedNetting, RefusedNettingIsZero}
+use Rattle.netting.specs.Netting.{sumBelow, received, given, countsBy, balanceBy, lent, nettingRule, netting}
+use Rattle.netting.specs.Theorems.{NettingChangesNothing, RefusedNettingIsZero}
 use Rattle.netting.specs.Theorems.{NettingLowestWins, NettingPastCountsUnread}
 use Rattle.netting.specs.Theorems.{BalancesAddUp, maxBalance, BalancesBounded, LongerCountsMore, EquallyLongIsOne}
 use Rattle.netting.specs.Theorems.{chainLength, ChainLengthIsHeight, CountsMatchHistory, LongerNetsMore}
 use Rattle.netting.specs.Theorems.{NettingMatchesHistory, DecidedCanBeNetted}
 use Rattle.netting.proofs.Sums.{over-firms, total-same, total-less}
 use Rattle.netting.proofs.Chains.{chain-same, chain-of-chain, chain-as-high, chain-length}
-use Rattle.netting.proofs.Nettings.{balance-same, balance-small, is-allowed, list-short, number-is, passes, nets, answers}
+use Rattle.netting.proofs.Nettings.{balance-same, balance-small, is-allowed, list-short, Nets, passes, nets, answers}
 use Rattle.netting.proofs.Nettings.{accepted-netting}
 
 pub netting-changes-nothing : NettingChangesNothing
-unfolding NettingChangesNothing netting
-netting-changes-nothing m movements b i = record { memory = refl; list = refl }
+unfolding NettingChangesNothing netting nettingRule
+netting-changes-nothing m movements b i =
+    outcome-state (lent m movements) (nettingRule m movements b i) (λ x. x ≡ lent m movements) refl (λ e. refl)
 
 pub refused-netting-is-zero : RefusedNettingIsZero
-unfolding RefusedNettingIsZero netting nettingAnswer
-refused-netting-is-zero m movements b i =
-    go (firstRefusal (nettingNeeds m movements b i)) (failing-need (nettingNeeds m movements b i))
-  where
-    go : (n : ℕ) → ((n ≡ 0 → ⊥) → List·Memᴰ (false else n) (nettingNeeds m movements b i))
-        → (nettingAnswer n (balanceBy (parent m) movements b i) .number ≡ 0 → ⊥)
-        → RefusedNetting (nettingNeeds m movements b i) (nettingAnswer n (balanceBy (parent m) movements b i))
-    go zero w refused = absurd (refused refl)
-    go (suc n) w refused = record { number = w refused; balance = refl; second = refl }
+unfolding RefusedNettingIsZero netting
+refused-netting-is-zero m movements b i h = refused (lent m movements) (nettingRule m movements b i) h
 
 pub netting-lowest-wins : NettingLowestWins
-unfolding NettingLowestWins netting nettingNeeds
-netting-lowest-wins m movements b i number w =
-    rw (number-is _ _) (lowest-refusal (nettingNeeds m movements b i) 1 refl w)
+unfolding NettingLowestWins netting nettingRule
+netting-lowest-wins m movements b i number w = lowest (lent m movements) (nettingRule m movements b i) refl w
 
 -- ---- sums
 
 pub balances-bounded : BalancesBounded
-unfolding BalancesBounded netting nettingAnswer
-balances-bounded m movements b i = go (firstRefusal (nettingNeeds m movements b i)) refl
-  where
-    go : (n : ℕ) → firstRefusal (nettingNeeds m movements b i) ≡ n
-        → natAbs (nettingAnswer n (balanceBy (parent m) movements b i) .balance) ≤ maxBalance
-    go zero e =
-        let h = nets m movements b i e in
-        balance-small _ movements (movementCount movements) i (λ k l. is-allowed _ _ _ (h .each k l) .few)
-        (list-short movements (h .list))
-    go (suc n) e = omega arith
+unfolding BalancesBounded netting nettingRule
+balances-bounded m movements b i =
+    outcome-cases (lent m movements) (nettingRule m movements b i) (λ o. natAbs (o .answer .first) ≤ maxBalance) (λ n e. omega arith)
+    (λ e.
+    let h = passes m movements b i e in
+    balance-small _ movements (movementCount movements) i (λ k l. is-allowed _ _ _ (h .each k l) .few)
+    (list-short movements (h .list)))
 
 pub balances-add-up : BalancesAddUp
 unfolding BalancesAddUp
 balances-add-up m movements b i accepted =
     let n = replicaCount (faultBound m) in
-    let h = nets m movements b i (passes m movements b i accepted) in
+    let h = nets m movements b i accepted in
     let counts = countsBy (parent m) b in
     let k = movementCount movements in
-    let every : (j : ℕ) → j < n → AcceptedNetting (netting m movements b j) = λ j own. accepted-netting m movements b j h (omega tests) in
+    let every : (j : ℕ) → j < n → Accepted (netting m movements b j) = λ j own. accepted-netting m movements b j h (omega tests) in
     let moved = sumBelow k (λ j. cond (counts (movement movements j)) (movement movements j .pallets) 0) in
     record {
       accepted = every;
@@ -89,23 +79,25 @@ balances-add-up m movements b i accepted =
 -- ---- what is not read
 
 module _ (m : Memory) (l b : List ℕ) (a : Alike m (twin m l b)) (movements : List ℕ) (chosen i : ℕ) where
-  same-refusal : firstRefusal (nettingNeeds m movements chosen i) ≡ firstRefusal (nettingNeeds (twin m l b) movements chosen i)
-  unfolding nettingNeeds
+  same-balance : Nets m movements chosen → balanceBy (parent m) movements chosen i ≡ balanceBy (parent (twin m l b)) movements chosen i
+  same-balance h =
+      balance-same _ _
+      (λ x. chain-same (parent m) (parent (twin m l b)) (blockCount m) (falls m (formed m (h .formed)))
+      (λ y below. parent-same m l b a y (omega tests)) (x .block) chosen (omega (tests, h .block)))
+      movements (movementCount movements) i
+
+  same-refusal : firstRefusal (nettingRule m movements chosen i .needs) ≡ firstRefusal (nettingRule (twin m l b) movements chosen i .needs)
+  unfolding nettingRule
   same-refusal = rw (form-same m l b a) refl
 
   same-answer : netting m movements chosen i .answer ≡ netting (twin m l b) movements chosen i .answer
-  unfolding netting nettingAnswer
-  same-answer = rw (← same-refusal) (go (firstRefusal (nettingNeeds m movements chosen i)) refl)
+  unfolding netting follow answered nettingRule
+  same-answer = rw (← same-refusal) (go (firstRefusal (nettingRule m movements chosen i .needs)) refl)
     where
-      go : (n : ℕ) → firstRefusal (nettingNeeds m movements chosen i) ≡ n
-          → nettingAnswer n (balanceBy (parent m) movements chosen i) ≡ nettingAnswer n (balanceBy (parent (twin m l b)) movements chosen i)
-      go zero e =
-          let h = nets m movements chosen i e in
-          ap (nettingAnswer 0)
-          (balance-same _ _
-          (λ x. chain-same (parent m) (parent (twin m l b)) (blockCount m) (falls m (formed m (h .formed)))
-          (λ y below. parent-same m l b a y (omega tests)) (x .block) chosen (omega (tests, h .block)))
-          movements (movementCount movements) i)
+      go : (n : ℕ) → firstRefusal (nettingRule m movements chosen i .needs) ≡ n
+          → answered n (lent m movements) (nettingRule m movements chosen i) .answer
+          ≡ answered n (lent (twin m l b) movements) (nettingRule (twin m l b) movements chosen i) .answer
+      go zero e = ap (λ (z : ℤ). record { number = 0; first = z; second = 0 }) (same-balance (passes m movements chosen i e))
       go (suc n) e = refl
 
 pub netting-past-counts-unread : NettingPastCountsUnread
@@ -195,7 +187,7 @@ netting-matches-history m f list calls execution movements b i accepted =
     let end = endOf m f list calls in
     answers end movements b i accepted
     ∙ balance-same _ _
-    (counts-match-history m f list calls execution b (nets end movements b i (passes end movements b i accepted) .block))
+    (counts-match-history m f list calls execution b (nets end movements b i accepted .block))
     movements (movementCount movements) i
 
 pub decided-can-be-netted : DecidedCanBeNetted

@@ -7,10 +7,9 @@ use lib.IntN.{ℤ, pos, negℤ}
 use Rattle.protocol.specs.declared.Call.{Call}
 use Rattle.protocol.specs.declared.Call.the-variants.{Open, Block}
 use Rattle.protocol.specs.Memory.{Memory, memory, tableLength, blockAt, heightAt}
-use Rattle.protocol.specs.Outcome.{wrongForm, outOfRange, unknownNumber, wrongMovement}
+use Rattle.protocol.specs.Outcome.{AnswerOf, wrongForm, outOfRange, unknownNumber, wrongMovement}
 use Rattle.protocol.specs.Runs.{Invocation, run}
 use Rattle.protocol.specs.Movements.{movementAt}
-use Rattle.netting.specs.declared.Netted.{Netted}
 use Rattle.netting.specs.Netting.{netting}
 
 pub record Case : Type 0 where
@@ -18,7 +17,7 @@ pub record Case : Type 0 where
   pub movements : List ℕ
   pub chosen : ℕ
   pub firm : ℕ
-  pub expected : Netted
+  pub expected : AnswerOf ℤ
 
 abbrev plain : Call → Invocation
 plain call = record { call = call; list = [] }
@@ -50,7 +49,7 @@ row start movements chosen firm number balance =
       movements = movements;
       chosen = chosen;
       firm = firm;
-      expected = record { number = number; balance = balance; second = 0 };
+      expected = record { number = number; first = balance; second = 0 };
     }
 
 abbrev nets : List ℕ → ℕ → ℕ → ℤ → Case

@@ -7,7 +7,7 @@ use lib.IntN.{ℤ, pos, _-ℤ_}
 use Rattle.protocol.specs.Memory.{Memory, memory, replicaCount, faultBound, blockCount, parent}
 use Rattle.protocol.specs.Ancestry.{isAncestorBy}
 use Rattle.protocol.specs.Form.{allBelow, wellFormed}
-use Rattle.protocol.specs.Outcome.{Need, _else_, firstRefusal, wrongForm, outOfRange, unknownNumber, wrongMovement}
+use Rattle.protocol.specs.Outcome.{_else_, AnswerOf, OutcomeOf, RuleOf, follow, wrongForm, outOfRange, unknownNumber, wrongMovement}
 use Rattle.protocol.specs.FirstNeeds.{isReplica, isBlock}
 use Rattle.protocol.specs.declared.Movement.{Movement}
 use Rattle.protocol.specs.Movements.{movement, movementCount, movementAllowed, isMovementList}
@@ -41,39 +41,40 @@ balanceAfter counts movements k i = pos (received counts movements k i) -ℤ pos
 abbrev pub balanceBy : (ℕ → ℕ) → List ℕ → ℕ → ℕ → ℤ
 balanceBy parentOf movements chosen i = balanceAfter (countsBy parentOf chosen) movements (movementCount movements) i
 
--- "The values are a chosen firm's balance and 0." A refusal is its number and two zeros.
-unfoldable pub nettingAnswer : ℕ → ℤ → Netted
-nettingAnswer zero balance = record { number = 0; balance = balance; second = 0 }
-nettingAnswer (suc n) balance = record { number = suc n; balance = pos 0; second = 0 }
-
--- "Answers: 1 for a movement list longer than this or of broken records; 11 for a movement outside these rules, its block and boxes
--- included, after 3." 1 also for wrong form of the other three slices, 2 for a chosen firm that is no replica, 3 for a chosen block that is
--- not added. Every movement lent is tested, counted or not.
-unfoldable pub nettingNeeds : Memory → List ℕ → ℕ → ℕ → List Need
-nettingNeeds m movements chosen i =
-    wellFormed m else wrongForm
-    ∷ isMovementList movements else wrongForm
-    ∷ isReplica m i else outOfRange
-    ∷ isBlock m chosen else unknownNumber
-    ∷ allBelow (movementCount movements) (λ k. movementAllowed (replicaCount (faultBound m)) (blockCount m) (movement movements k))
-    else wrongMovement
-    ∷ []
-
--- What a netting gives: its answer, and the four slices as it leaves them.
-pub record NettingOutcome : Type 0 where
-  pub answer : Netted
+-- What a netting is lent: the ledger's three slices, and the movements.
+pub record Lent : Type 0 where
   pub memory : Memory
   pub movements : List ℕ
 
--- An answer, with what the four slices hold then.
-abbrev pub nettingOutcome : Netted → List ℕ → List ℕ → List ℕ → List ℕ → NettingOutcome
-nettingOutcome a t l b movements = record { answer = a; memory = memory t l b; movements = movements }
+abbrev pub lent : Memory → List ℕ → Lent
+lent m movements = record { memory = m; movements = movements }
 
--- No word changes, refused or not.
-unfoldable pub netting : Memory → List ℕ → ℕ → ℕ → NettingOutcome
-netting m movements chosen i =
+-- "Answers: 1 for a movement list longer than this or of broken records; 11 for a movement outside these rules, its block and boxes
+-- included, after 3." 1 also for wrong form of the other three slices, 2 for a chosen firm that is no replica, 3 for a chosen block that is
+-- not added. Every movement lent is tested, counted or not. "The values are a chosen firm's balance and 0." No word changes.
+unfoldable pub nettingRule : Memory → List ℕ → ℕ → ℕ → RuleOf (pos 0) Lent
+nettingRule m movements chosen i =
     record {
-      answer = nettingAnswer (firstRefusal (nettingNeeds m movements chosen i)) (balanceBy (parent m) movements chosen i);
-      memory = m;
-      movements = movements;
+      needs =
+          isMovementList movements else wrongForm
+          ∷ wellFormed m else wrongForm
+          ∷ isReplica m i else outOfRange
+          ∷ isBlock m chosen else unknownNumber
+          ∷ allBelow (movementCount movements) (λ k. movementAllowed (replicaCount (faultBound m)) (blockCount m) (movement movements k))
+          else wrongMovement
+          ∷ [];
+      first = balanceBy (parent m) movements chosen i;
+      second = 0;
+      after = lent m movements;
     }
+
+-- What a netting gives. A refusal is its number and two zeros.
+unfoldable pub netting : Memory → List ℕ → ℕ → ℕ → OutcomeOf ℤ Lent
+netting m movements chosen i = follow (lent m movements) (nettingRule m movements chosen i)
+
+-- The code's answer, as rules have it; and with what the four slices hold then.
+abbrev pub balanceTold : Netted → AnswerOf ℤ
+balanceTold a = record { number = a .number; first = a .balance; second = a .second }
+
+abbrev pub nettingOutcome : Netted → List ℕ → List ℕ → List ℕ → List ℕ → OutcomeOf ℤ Lent
+nettingOutcome a t l b movements = record { answer = balanceTold a; state = lent (memory t l b) movements }

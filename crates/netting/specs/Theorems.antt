@@ -7,45 +7,32 @@ use lib.IntN.{ℤ, pos, _+ℤ_, natAbs}
 use Rattle.protocol.specs.declared.Movement.{Movement}
 use Rattle.protocol.specs.Memory.{Memory, replicaCount, faultBound, blockCount, parent}
 use Rattle.protocol.specs.Ancestry.{Falls, isAncestorBy, heightBy}
-use Rattle.protocol.specs.Outcome.{Need, _else_}
+use Rattle.protocol.specs.Outcome.{_else_}
 use Rattle.protocol.specs.FirstNeeds.{isBlock}
 use Rattle.protocol.specs.Movements.{movement, movementCount, movementAllowed, isMovementList}
 use Rattle.protocol.specs.Runs.{Invocation}
-use Rattle.protocol.specs.Theorems.{Alike}
+use Rattle.protocol.specs.Theorems.{Accepted, Refused, Lowest, Alike}
 use Rattle.protocol.specs.History.{decided, givenParent}
 use Rattle.protocol.specs.Agreement.{Execution, eventsOf, endOf}
-use Rattle.netting.specs.declared.Netted.{Netted}
-use Rattle.netting.specs.Netting.{NettingOutcome, countsBy, sumBelow, balanceBy, nettingNeeds, netting}
-
-abbrev pub AcceptedNetting : NettingOutcome → Type 0
-AcceptedNetting o = o .answer .number ≡ 0
+use Rattle.netting.specs.Netting.{countsBy, sumBelow, balanceBy, lent, nettingRule, netting}
 
 -- ---- A netting changes no word, refused or not.
 
-pub record Unchanged (m : Memory) (movements : List ℕ) (o : NettingOutcome) : Type 0 where
-  pub memory : o .memory ≡ m
-  pub list : o .movements ≡ movements
-
 unfoldable pub NettingChangesNothing : Type 0
-NettingChangesNothing = (m : Memory) (movements : List ℕ) (b i : ℕ) → Unchanged m movements (netting m movements b i)
+NettingChangesNothing = (m : Memory) (movements : List ℕ) (b i : ℕ) → netting m movements b i .state ≡ lent m movements
 
 -- ---- A refused netting returns the number of a need that fails and two zeros.
 
-pub record RefusedNetting (needs : List Need) (a : Netted) : Type 0 where
-  pub number : List·Memᴰ (false else a .number) needs
-  pub balance : a .balance ≡ pos 0
-  pub second : a .second ≡ 0
-
 unfoldable pub RefusedNettingIsZero : Type 0
 RefusedNettingIsZero =
-    (m : Memory) (movements : List ℕ) (b i : ℕ) → (AcceptedNetting (netting m movements b i) → ⊥)
-    → RefusedNetting (nettingNeeds m movements b i) (netting m movements b i .answer)
+    (m : Memory) (movements : List ℕ) (b i : ℕ) → (Accepted (netting m movements b i) → ⊥)
+    → Refused (lent m movements) (nettingRule m movements b i) (netting m movements b i)
 
 -- Where a need fails the netting is refused, with a number that is not above that of the need.
 unfoldable pub NettingLowestWins : Type 0
 NettingLowestWins =
-    (m : Memory) (movements : List ℕ) (b i number : ℕ) → List·Memᴰ (false else number) (nettingNeeds m movements b i)
-    → let refusal = netting m movements b i .answer .number in (1 ≤ refusal) × (refusal ≤ number)
+    (m : Memory) (movements : List ℕ) (b i number : ℕ) → List·Memᴰ (false else number) (nettingRule m movements b i .needs)
+    → Lowest (netting m movements b i) number
 
 -- ---- Words past the counts are not read.
 
@@ -63,11 +50,11 @@ totalBelow (suc k) term = totalBelow k term +ℤ term k
 
 -- Where one firm's netting is accepted, every firm's is, and the answers add up to 0.
 pub record Balanced (m : Memory) (movements : List ℕ) (b : ℕ) : Type 0 where
-  pub accepted : (i : ℕ) → i < replicaCount (faultBound m) → AcceptedNetting (netting m movements b i)
-  pub total : totalBelow (replicaCount (faultBound m)) (λ i. netting m movements b i .answer .balance) ≡ pos 0
+  pub accepted : (i : ℕ) → i < replicaCount (faultBound m) → Accepted (netting m movements b i)
+  pub total : totalBelow (replicaCount (faultBound m)) (λ i. netting m movements b i .answer .first) ≡ pos 0
 
 unfoldable pub BalancesAddUp : Type 0
-BalancesAddUp = (m : Memory) (movements : List ℕ) (b i : ℕ) → AcceptedNetting (netting m movements b i) → Balanced m movements b
+BalancesAddUp = (m : Memory) (movements : List ℕ) (b i : ℕ) → Accepted (netting m movements b i) → Balanced m movements b
 
 -- ---- Every balance is within 20,480,000 either way (document 01, "Where to use each form").
 
@@ -75,7 +62,7 @@ abbrev pub maxBalance : ℕ
 maxBalance = 20480000
 
 unfoldable pub BalancesBounded : Type 0
-BalancesBounded = (m : Memory) (movements : List ℕ) (b i : ℕ) → natAbs (netting m movements b i .answer .balance) ≤ maxBalance
+BalancesBounded = (m : Memory) (movements : List ℕ) (b i : ℕ) → natAbs (netting m movements b i .answer .first) ≤ maxBalance
 
 -- ---- "Of two blocks decided in one list of demand 3, the one with the longer line counts every movement that the other counts." By the
 -- calls and their answers alone, and of any movement, allowed or not. Two with equally long lines are one block.
@@ -126,8 +113,8 @@ LongerNetsMore =
 unfoldable pub NettingMatchesHistory : Type 0
 NettingMatchesHistory =
     (m : Memory) (f : ℕ) (list : List ℕ) (calls : List Invocation) → Execution m f list calls → (movements : List ℕ) (b i : ℕ)
-    → AcceptedNetting (netting (endOf m f list calls) movements b i)
-    → netting (endOf m f list calls) movements b i .answer .balance ≡ balanceBy (givenParent (eventsOf m f list calls)) movements b i
+    → Accepted (netting (endOf m f list calls) movements b i)
+    → netting (endOf m f list calls) movements b i .answer .first ≡ balanceBy (givenParent (eventsOf m f list calls)) movements b i
 
 -- and every decided block can be netted, for every firm, over any list of at most 2,048 allowed movements.
 unfoldable pub DecidedCanBeNetted : Type 0
@@ -136,4 +123,4 @@ DecidedCanBeNetted =
     → List·Memᴰ (decided j b v) (eventsOf m f list calls) → (movements : List ℕ) → isMovementList movements ≡ true
     → ((k : ℕ) → k < movementCount movements
     → movementAllowed (replicaCount f) (blockCount (endOf m f list calls)) (movement movements k) ≡ true)
-    → (i : ℕ) → i < replicaCount f → AcceptedNetting (netting (endOf m f list calls) movements b i)
+    → (i : ℕ) → i < replicaCount f → Accepted (netting (endOf m f list calls) movements b i)

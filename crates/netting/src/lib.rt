@@ -6,7 +6,7 @@ ghost use lib.ListN.{length, getD, set};
 ghost use lib.IntN.{pos, _+ℤ_, _-ℤ_};
 ghost use Rattle.protocol.specs.Memory.{memory};
 ghost use Rattle.protocol.specs.Movements.{movementWords, movementAt, movement, movementAllowed, isMovementList};
-ghost use Rattle.netting.specs.Netting.{nettingOutcome, netting};
+ghost use Rattle.netting.specs.Netting.{balanceTold, nettingOutcome, netting};
 ghost use Rattle.netting.specs.inner.Tallies.{
   marked,
   Movable,
@@ -154,7 +154,7 @@ fn balance_at(
     added: u32,
 ) -> Netted
     requires { ⌜ Nettable (now blocks) (now movements) block replica replicas added ⌝ }
-    ensures { λ r. ⌜ r ≡ balanceAnswer (now (blocks .entry)) (now (movements .entry)) block replica replicas added ⌝ }
+    ensures { λ r. ⌜ balanceTold r ≡ balanceAnswer (now (blocks .entry)) (now (movements .entry)) block replica replicas added ⌝ }
 {
     let mut marks = [false; MAX_BLOCKS as usize];
     ancestry::mark_ancestors(blocks, block, &mut marks);

@@ -8,13 +8,13 @@ use lib.Dec.{ltb}
 use Rattle.protocol.specs.Memory.{Memory, memory, blockCountAt, blockCount, rowStart, blockWords, blockAt, keptHeight, blockRecord}
 use Rattle.protocol.specs.Memory.{maxBlocks, appendBlock}
 use Rattle.protocol.specs.Form.{wellFormed}
-use Rattle.protocol.specs.Outcome.{firstRefusal, follow, wrongForm, unknownNumber, noRoom}
+use Rattle.protocol.specs.Outcome.{firstRefusal, acceptance, follow, refusal, wrongForm, unknownNumber, noRoom}
 use Rattle.protocol.specs.FirstNeeds.{isBlock}
 use Rattle.protocol.specs.Calls.{block}
 use Rattle.protocol.proofs.Booleans.{tests}
 use Rattle.protocol.proofs.Formed.{formed, sizes}
 use Rattle.layout.proofs.Within.{height-below}
-use Rattle.protocol.proofs.Needs.{refusal, acceptance, refuses, accepts, fails, holds}
+use Rattle.protocol.proofs.Needs.{refuses, accepts, fails, holds}
 
 module _ (m : Memory) (p : ℕ) where
   pub no-form : wellFormed m ≡ false → refusal wrongForm m ≡ follow m (block m p)

@@ -7,10 +7,10 @@ use lib.ListN.{length, getD}
 use Rattle.protocol.specs.Memory.{Memory, memory, maxFaultBound, replicaCount, rowAt, blockAt, update}
 use Rattle.protocol.specs.Form.{isFaultBound, lengthsFit}
 use Rattle.protocol.specs.Counter.{stepsFrom, stepsAllowed}
-use Rattle.protocol.specs.Outcome.{firstRefusal, follow, outOfRange, wrongForm, wrongSteps}
+use Rattle.protocol.specs.Outcome.{firstRefusal, acceptance, follow, refusal, outOfRange, wrongForm, wrongSteps}
 use Rattle.protocol.specs.Calls.{freshReplica, freshReplicas, freshHeader, keepSteps, opening}
 use Rattle.protocol.proofs.Booleans.{tests, each}
-use Rattle.protocol.proofs.Needs.{refusal, acceptance, refuses, accepts, fails, holds}
+use Rattle.protocol.proofs.Needs.{refuses, accepts, fails, holds}
 use Rattle.opening.specs.inner.Fresh.{freshRows}
 
 -- The rows by the table alone are those of the memory.

@@ -2,11 +2,10 @@
 use Prim.Native.Nat.{ℕ}
 use mathlib.Core.Path.{_≡_, refl, sym, ap, _∙_}
 use mathlib.Core.Bool.{true, false}
-use Rattle.protocol.specs.declared.Answer.{Answer}
 use Rattle.protocol.specs.Memory.{Memory, replica}
 use Rattle.protocol.specs.Ancestry.{height}
 use Rattle.protocol.specs.Form.{wellFormed}
-use Rattle.protocol.specs.Outcome.{Outcome, firstRefusal, outOfRange}
+use Rattle.protocol.specs.Outcome.{Answer, Outcome, firstRefusal, outOfRange}
 use Rattle.protocol.specs.FirstNeeds.{isReplica}
 use Rattle.protocol.proofs.Booleans.{tests}
 use Rattle.protocol.proofs.Needs.{accepts, refuses, fails, holds}

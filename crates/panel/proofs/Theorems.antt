@@ -4,7 +4,7 @@ use mathlib.Core.Path.{_≡_, sym, ap, _∙_}
 use mathlib.Core.Bool.{true, false}
 use mathlib.Core.List.{List, _++_}
 use lib.Dec.{ltb}
-use Rattle.protocol.specs.declared.Answer.{Answer}
+use Rattle.protocol.specs.Outcome.{Answer}
 use Rattle.protocol.specs.Memory.{Memory, replicaCount, replica}
 use Rattle.protocol.specs.Form.{replicaFormed}
 use Rattle.protocol.specs.FirstNeeds.{isReplica}

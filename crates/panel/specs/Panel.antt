@@ -1,10 +1,9 @@
 -- What the front panel shows (document 01: "the height of its shown block"): the steps to block 0, by the parents in the words. The code
 -- reads the height that is kept with the block; PanelIsKeptHeight says that it is the same.
 use Prim.Native.Nat.{ℕ}
-use Rattle.protocol.specs.declared.Answer.{Answer}
 use Rattle.protocol.specs.Memory.{Memory, replica}
 use Rattle.protocol.specs.Ancestry.{height}
-use Rattle.protocol.specs.Outcome.{Rule, follow}
+use Rattle.protocol.specs.Outcome.{Answer, Rule, follow}
 use Rattle.protocol.specs.FirstNeeds.{replicaNeeds}
 
 -- 1 for wrong form and 2 for a replica out of range, with two zeros; else 0, the height of the decided block, and 0. No word changes.

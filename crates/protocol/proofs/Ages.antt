@@ -7,7 +7,6 @@ use mathlib.Core.Logic.{_≢_}
 use mathlib.Core.List.{List, [], _∷_, _++_, List·Memᴰ, List·Memᴰ·head}
 use native.Mathlib.Omega.{arith}
 use lib.Dec.{ltb, eqb}
-use Rattle.protocol.specs.declared.Answer.{Answer}
 use Rattle.protocol.specs.declared.Call.{Call}
 use Rattle.protocol.specs.declared.Call.the-variants.{Open, Block, Prepare, Store, View, Accumulate, Decide, Reboot}
 use Rattle.protocol.specs.declared.Call.the-variants.{Reserve, Request, Reply, Recover}
@@ -16,7 +15,7 @@ use Rattle.protocol.specs.Memory.{Memory, Replica, Certificate, Assignme
 use Rattle.protocol.specs.Memory.{keptHeight, blockRecord, update}
 use Rattle.protocol.specs.Certificates.{PROP, COMMIT, NEWVIEW, ACC, REQ, REPLY, accOf}
 use Rattle.protocol.specs.Quorum.{certificatesOf, firstOf}
-use Rattle.protocol.specs.Outcome.{Need, Rule}
+use Rattle.protocol.specs.Outcome.{Answer, Need, Rule}
 use Rattle.protocol.specs.FirstNeeds.{isReplica, replicaNeeds}
 use Rattle.protocol.specs.Form.{wellFormed, replicaFormed}
 use Rattle.protocol.specs.Calls.{issuing, opening, block, prepare, store, view, accumulate, decide, reboot, reserve, request, reply}
@@ -258,14 +257,14 @@ accepted-passes m (Recover i) a list other h = updates m i _ (h .0) (h .1 .0) re
 -- ---- lists of calls
 
 step-passes : (m : Memory) (call : Call) (list : List ℕ) → (eventOf call (step m call list .answer) ≡ reopened → ⊥)
-    → Passes m (step m call list .memory)
+    → Passes m (step m call list .state)
 unfolding RefusedChangesNothing eventOf
 step-passes m call list other =
     let a = step m call list .answer in
     by-test (eqb (a .number) 0)
     (λ e.
-    accepted-gives (λ o. Passes m (o .memory)) m call list (accepted-passes m call a list (rw e at other)) (omega tests))
-    (λ e. rw (refused-changes-nothing m call list (λ accepted. omega tests) .memory) (stays m m refl (λ k. refl) (λ i. refl)))
+    accepted-gives (λ o. Passes m (o .state)) m call list (accepted-passes m call a list (rw e at other)) (omega tests))
+    (λ e. rw (refused-changes-nothing m call list (λ accepted. omega tests) .state) (stays m m refl (λ k. refl) (λ i. refl)))
 
 -- Whatever one call keeps, a list of calls without an opening keeps.
 pub run-keeps : (P : Memory → Type 0) → ((m m′ : Memory) → Passes m m′ → P m → P m′) → (since : List Event) (m : Memory)
@@ -275,13 +274,13 @@ run-keeps P keeps since m [] once h = h
 run-keeps P keeps since m (q ∷ qs) once h =
     let o = step m (q .call) (q .list) in
     let e = eventOf (q .call) (o .answer) in
-    run-keeps P keeps (e ∷ since) (o .memory) qs once
-    (keeps m (o .memory) (step-passes m (q .call) (q .list) (λ again. once (kept (o .memory) qs (List·Memᴰ·head (sym again))))) h)
+    run-keeps P keeps (e ∷ since) (o .state) qs once
+    (keeps m (o .state) (step-passes m (q .call) (q .list) (λ again. once (kept (o .state) qs (List·Memᴰ·head (sym again))))) h)
 
 -- An opening leaves no certificates.
 pub all-dated : (m : Memory) (f : ℕ) (list : List ℕ) (calls : List Invocation) → Execution m f list calls → AllDated (endOf m f list calls)
 unfolding ruleOf opening
 all-dated m f list calls execution =
     run-keeps AllDated all-dated-on [] _ calls (execution .once)
-    (accepted-gives (λ o. AllDated (o .memory)) m (Open f) list
+    (accepted-gives (λ o. AllDated (o .state)) m (Open f) list
     (λ h k i l. let none = opened m f list (h .1 .0) (h .1 .1 .0) .header .certificates in absurd (omega arith)) (execution .opened))

@@ -8,14 +8,13 @@ use Rattle.protocol.specs.declared.Call.{Call}
 use Rattle.protocol.specs.declared.Call.the-variants.{Open, Block, Prepare, Store, View, Accumulate, Decide, Reboot}
 use Rattle.protocol.specs.declared.Call.the-variants.{Reserve, Request, Reply, Recover}
 use Rattle.protocol.specs.Memory.{Memory, Replica}
-use Rattle.protocol.specs.Outcome.{firstRefusal, answered, follow}
 use Rattle.protocol.specs.Calls.{opening, block, decide}
 use Rattle.protocol.specs.Runs.{Invocation, ruleOf, step, run}
 use Rattle.protocol.specs.Theorems.{Accepted}
 use Rattle.protocol.specs.History.{Event, reopened, other, acceptedEvent, eventOf, history, givenParent, highest, panel}
 use Rattle.protocol.specs.Agreement.{PanelsRise, Execution, eventsOf, endOf, Agreement, WordsMatchHistory, Extends, OnlyAppended}
 use Rattle.protocol.specs.Agreement.{WouldAgree}
-use Rattle.protocol.proofs.Needs.{Holds, no-refusal, accepted-after, accepted-first}
+use Rattle.protocol.proofs.Needs.{Holds, outcome-cases, no-refusal, accepted-after, accepted-first}
 use Rattle.protocol.proofs.Rules.{needs-hold}
 use Rattle.protocol.proofs.Opened.{opened}
 use Rattle.protocol.proofs.Safety.{Chosen, Safe}
@@ -37,14 +36,11 @@ eventIfAccepted m call list =
 -- A refused call, or an accepted one.
 step-cases : (P : Event → Memory → Type 0) (m : Memory) (call : Call) (list : List ℕ) → P other m
     → (Holds (ruleOf m call list .needs) → P (eventIfAccepted m call list) (ruleOf m call list .after))
-    → P (eventOf call (step m call list .answer)) (step m call list .memory)
-unfolding step follow answered eventOf
-step-cases P m call list refused accepted = go (firstRefusal (ruleOf m call list .needs)) refl
-  where
-    go : (n : ℕ) → firstRefusal (ruleOf m call list .needs) ≡ n
-        → let o = answered n m (ruleOf m call list) in P (eventOf call (o .answer)) (o .memory)
-    go zero e = accepted (needs-hold m call list e)
-    go (suc n) e = rw (eqb·suc-zero n) refused
+    → P (eventOf call (step m call list .answer)) (step m call list .state)
+unfolding step eventOf
+step-cases P m call list refused accepted =
+    outcome-cases m (ruleOf m call list) (λ o. P (eventOf call (o .answer)) (o .state)) (λ n e. rw (eqb·suc-zero n) refused)
+    (λ e. accepted (needs-hold m call list e))
 
 -- Nothing moves.
 idle : (m : Memory) → Safe m → GoesOn m m
@@ -82,7 +78,7 @@ accepted-step f past m h (Recover i) list hold again = quiet f past m h (recover
 
 next : (f : ℕ) (past : List Event) (m : Memory) → Reached f past m → (call : Call) (list : List ℕ)
     → (eventOf call (step m call list .answer) ≡ reopened → ⊥)
-    → Follows f (eventOf call (step m call list .answer) ∷ past) m (step m call list .memory)
+    → Follows f (eventOf call (step m call list .answer) ∷ past) m (step m call list .state)
 next f past m h call list =
     step-cases (λ e x. (e ≡ reopened → ⊥) → Follows f (e ∷ past) m x) m call list
     (λ again. quiet f past m h (idle m (h .safe)))
@@ -107,7 +103,7 @@ pub kept : {e : Event} {past : List Event} (m : Memory) (calls : List Invocation
     → List·Memᴰ e (history past m calls)
 unfolding history
 kept m [] w = w
-kept m (q ∷ qs) w = kept (step m (q .call) (q .list) .memory) qs (List·Memᴰ·tail w)
+kept m (q ∷ qs) w = kept (step m (q .call) (q .list) .state) qs (List·Memᴰ·tail w)
 
 -- The history may begin anywhere: only that no opening is in it is asked.
 pub runs : (f : ℕ) (past since : List Event) (m : Memory) (calls : List Invocation) → Reached f past m
@@ -117,12 +113,12 @@ runs f past since m [] h once = record { reached = h; extends = idle m (h .safe)
 runs f past since m (q ∷ qs) h once =
     let o = step m (q .call) (q .list) in
     let e = eventOf (q .call) (o .answer) in
-    let now = next f past m h (q .call) (q .list) (λ again. once (kept (o .memory) qs (List·Memᴰ·head (sym again)))) in
-    let then = runs f (e ∷ past) (e ∷ since) (o .memory) qs (now .reached) once in
+    let now = next f past m h (q .call) (q .list) (λ again. once (kept (o .state) qs (List·Memᴰ·head (sym again)))) in
+    let then = runs f (e ∷ past) (e ∷ since) (o .state) qs (now .reached) once in
     record { reached = then .reached; extends = extends-on (now .extends) (then .extends) }
 
 -- What an accepted opening leaves is a start.
-start : (m : Memory) (f : ℕ) (list : List ℕ) → Accepted (step m (Open f) list) → Reached f [] (step m (Open f) list .memory)
+start : (m : Memory) (f : ℕ) (list : List ℕ) → Accepted (step m (Open f) list) → Reached f [] (step m (Open f) list .state)
 unfolding step ruleOf opening givenParent highest
 start m f list accepted =
     let h = needs-hold m (Open f) list (no-refusal m (ruleOf m (Open f) list) accepted) in
@@ -146,7 +142,7 @@ start m f list accepted =
 pub reached-by : (m : Memory) (f : ℕ) (list : List ℕ) (calls : List Invocation) → Execution m f list calls
     → Reached f (eventsOf m f list calls) (endOf m f list calls)
 reached-by m f list calls execution =
-    runs f [] [] (step m (Open f) list .memory) calls (start m f list (execution .opened)) (execution .once) .reached
+    runs f [] [] (step m (Open f) list .state) calls (start m f list (execution .opened)) (execution .once) .reached
 
 -- ---- a list of calls, and more calls
 
@@ -156,7 +152,7 @@ unfolding history run
 history-on past m [] more = refl
 history-on past m (q ∷ qs) more =
     let o = step m (q .call) (q .list) in
-    history-on (eventOf (q .call) (o .answer) ∷ past) (o .memory) qs more
+    history-on (eventOf (q .call) (o .answer) ∷ past) (o .state) qs more
 
 -- The beginning of an execution is one.
 pub begins : (m : Memory) (f : ℕ) (list : List ℕ) (calls more : List Invocation) → Execution m f list (calls ++ more)
@@ -174,13 +170,13 @@ unfolding history
 rises past m [] up = (λ i. omega arith, up)
 rises past m (q ∷ qs) up =
     let o = step m (q .call) (q .list) in
-    let now = rises (eventOf (q .call) (o .answer) ∷ past) (o .memory) qs up in
+    let now = rises (eventOf (q .call) (o .answer) ∷ past) (o .state) qs up in
     (λ i. let first = now .1 .0 i in let then = now .0 i in omega arith, now .1 .1)
 
 pub panel-stays-up : (m : Memory) (f : ℕ) (list : List ℕ) (calls more : List Invocation) → Execution m f list (calls ++ more) → (i : ℕ)
     → panel (eventsOf m f list calls) i ≤ panel (eventsOf m f list (calls ++ more)) i
 panel-stays-up m f list calls more execution i =
-    let e = history-on [] (step m (Open f) list .memory) calls more in
+    let e = history-on [] (step m (Open f) list .state) calls more in
     rw e (rises (eventsOf m f list calls) (endOf m f list calls) more
     (rw e at (reached-by m f list (calls ++ more) execution .panels)) .0 i)
 

@@ -193,9 +193,9 @@ cuts-tell-apart m f list calls more execution i beside accepted once call its e 
     let before = endOf m f list calls in
     let number = certificateCount before in
     let cut = step before (Reboot i) beside in
-    let end = run (cut .memory) more in
-    let behind : Behind number i (cut .memory) =
-    accepted-gives (λ o. Behind number i (o .memory)) before (Reboot i) beside
+    let end = run (cut .state) more in
+    let behind : Behind number i (cut .state) =
+    accepted-gives (λ o. Behind number i (o .state)) before (Reboot i) beside
     (λ h.
     let x = reboots before i h in
     behind-after number i before _ (x .passes) (omega arith)
@@ -207,6 +207,6 @@ cuts-tell-apart m f list calls more execution i beside accepted once call its e 
     behind-after number i x x′ p (b .issued)
     (λ active k l signer.
     omega (arith, b .older (λ e. active (p .ages i .ended e)) k l signer, p .ages i .boot)))
-    [] (cut .memory) more once behind in
+    [] (cut .state) more once behind in
     accepted-gives (λ o. number ≤ o .answer .first) end call its
     (λ h. let x = issues-signed end its call e h in apart number _ i end _ still (rw mine at (x .signs)))

@@ -24,7 +24,7 @@ use Rattle.protocol.specs.Theorems.{Address, tableWord, logWord, blockWo
 use Rattle.protocol.specs.Theorems.{recordAddresses, named, SameLengths, OnlyNamedChange, LengthsStay}
 use Rattle.protocol.proofs.LeavesForm.{reboot-retires}
 use Rattle.protocol.proofs.Booleans.{by-cond}
-use Rattle.protocol.proofs.Needs.{outcome-memory}
+use Rattle.protocol.proofs.Needs.{outcome-state}
 use Rattle.protocol.proofs.Words.{Avoids, assign-elsewhere, sets-elsewhere}
 use Rattle.protocol.proofs.Changes.{update-lengths, append-table, block-lengths, block-table}
 use Rattle.protocol.proofs.Filing.{file-cases, file-lengths}
@@ -132,7 +132,7 @@ frame m (Recover i) list a h = update-frame m i _ a h
 pub only-named-change : OnlyNamedChange
 unfolding OnlyNamedChange step
 only-named-change m call list a h =
-    outcome-memory (λ x. wordAt x a ≡ wordAt m a) m (ruleOf m call list) refl
+    outcome-state m (ruleOf m call list) (λ x. wordAt x a ≡ wordAt m a) refl
     (λ e. frame m call list a (apart a (named m call) h))
 
 issuing-lengths : (m : Memory) (needs : List Need) (i : ℕ) (cs : List Assignment) (c : Certificate)
@@ -161,5 +161,5 @@ lengths-after m (Recover i) list = update-lengths m i _
 pub lengths-stay : LengthsStay
 unfolding LengthsStay step
 lengths-stay m call list =
-    outcome-memory (λ x. SameLengths x m) m (ruleOf m call list) (record { table = refl; log = refl; blocks = refl })
+    outcome-state m (ruleOf m call list) (λ x. SameLengths x m) (record { table = refl; log = refl; blocks = refl })
     (λ e. lengths-after m call list)

@@ -256,8 +256,8 @@ prepare-again m i b j list hold =
 -- An accepted call, and the same call after it, by their rules.
 after-it : (P : Outcome → Outcome → Type 0) (m : Memory) (call : Call) (list : List ℕ)
     → (Holds (ruleOf m call list .needs) → P (given (ruleOf m call list)) (step (ruleOf m call list .after) call list))
-    → Accepted (step m call list) → P (step m call list) (step (step m call list .memory) call list)
-after-it P m call list gives = accepted-gives (λ o. P o (step (o .memory) call list)) m call list gives
+    → Accepted (step m call list) → P (step m call list) (step (step m call list .state) call list)
+after-it P m call list gives = accepted-gives (λ o. P o (step (o .state) call list)) m call list gives
 
 found-again : (m : Memory) (call : Call) (list : List ℕ)
     → (let rule = ruleOf m call list in
@@ -270,7 +270,7 @@ found-again m call list again =
     let m′ = ruleOf m call list .after in
     let x = again hold in
     subst (SameAgain (given (ruleOf m call list))) (accepts m′ (ruleOf m′ call list) (sym (none-refuses _ (x .needs))))
-    (record { accepted = refl; first = x .first; second = x .second; memory = x .after }))
+    (record { accepted = refl; first = x .first; second = x .second; state = x .after }))
 
 refused-again : (m : Memory) (call : Call) (list : List ℕ)
     → (let rule = ruleOf m call list in

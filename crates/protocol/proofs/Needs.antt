@@ -1,13 +1,13 @@
--- What a list of needs tells: of an accepted call, that every need holds; of a refused one, that nothing changed and the lowest number won.
+-- What a list of needs tells, of any rule on any state: of an accepted call, that every need holds; of a refused one, that nothing changed
+-- and the lowest number won; and which numbers may be returned.
 use Prim.Native.Nat.{ℕ, zero, suc, _≤_}
-use mathlib.Core.Path.{_≡_, refl, sym, ap, _∙_}
+use mathlib.Core.Path.{_≡_, refl, sym, ap, _∙_, subst}
 use mathlib.Core.Bool.{Bool, true, false, _&&_}
 use mathlib.Core.List.{List, [], _∷_, _++_, List·Memᴰ, List·Memᴰ·head, List·Memᴰ·tail, List·Memᴰ·cases-cons, List·Memᴰ·not-nil}
 use mathlib.Core.Logic.{⊎-elim}
 use native.Mathlib.Omega.{arith}
 use lib.Dec.{leb}
-use Rattle.protocol.specs.Memory.{Memory}
-use Rattle.protocol.specs.Outcome.{Outcome, Need, _else_, Rule, firstRefusal, answered, follow}
+use Rattle.protocol.specs.Outcome.{Need, _else_, firstRefusal, OutcomeOf, RuleOf, acceptance, refusalOf, answered, follow}
 use Rattle.protocol.specs.Theorems.{Accepted, Refused, Lowest}
 use Rattle.protocol.proofs.Booleans.{tests, and-true}
 
@@ -85,57 +85,47 @@ unfolding firstRefusal
 either-fails true n rest e = e
 either-fails false n rest e = refl
 
--- ---- accepted and refused, of any rule
+-- ---- accepted and refused, of any rule on any state
 
--- What is returned is the first refusal's number, or 0.
-pub returned : (m : Memory) (rule : Rule) → follow m rule .answer .number ≡ firstRefusal (rule .needs)
-unfolding follow answered
-returned m rule = go (firstRefusal (rule .needs))
-  where
-    go : (n : ℕ) → answered n m rule .answer .number ≡ n
-    go zero = refl
-    go (suc n) = refl
+module _ {Value State : Type 0} {none : Value} (s : State) (rule : RuleOf none State) where
+  -- What holds of every refusal and of what the rule gives holds of the outcome.
+  pub outcome-cases : (P : OutcomeOf Value State → Type 0) → ((n : ℕ) → firstRefusal (rule .needs) ≡ suc n → P (refusalOf none (suc n) s))
+      → (firstRefusal (rule .needs) ≡ 0 → P (acceptance (rule .first) (rule .second) (rule .after))) → P (follow s rule)
+  unfolding follow answered
+  outcome-cases P refused accepted = go (firstRefusal (rule .needs)) refl
+    where
+      go : (n : ℕ) → firstRefusal (rule .needs) ≡ n → P (answered n s rule)
+      go zero e = accepted e
+      go (suc n) e = refused n e
 
-pub no-refusal : (m : Memory) (rule : Rule) → Accepted (follow m rule) → firstRefusal (rule .needs) ≡ 0
-no-refusal m rule e = sym (returned m rule) ∙ e
+  -- What is returned is the first refusal's number, or 0.
+  pub returned : follow s rule .answer .number ≡ firstRefusal (rule .needs)
+  returned = outcome-cases (λ o. o .answer .number ≡ firstRefusal (rule .needs)) (λ n e. sym e) sym
 
-pub accepted-after : (m : Memory) (rule : Rule) → Accepted (follow m rule) → follow m rule .memory ≡ rule .after
-unfolding follow answered
-accepted-after m rule e = ap (λ (n : ℕ). answered n m rule .memory) (no-refusal m rule e)
+  pub no-refusal : Accepted (follow s rule) → firstRefusal (rule .needs) ≡ 0
+  no-refusal e = sym returned ∙ e
 
-pub accepted-first : (m : Memory) (rule : Rule) → Accepted (follow m rule) → follow m rule .answer .first ≡ rule .first
-unfolding follow answered
-accepted-first m rule e = ap (λ (n : ℕ). answered n m rule .answer .first) (no-refusal m rule e)
+  pub refuses : (n : ℕ) → n ≡ firstRefusal (rule .needs) → (n ≡ 0 → ⊥) → refusalOf none n s ≡ follow s rule
+  refuses n e some =
+      outcome-cases (λ o. refusalOf none n s ≡ o) (λ k is. rw (e ∙ is) refl) (λ passed. absurd (some (e ∙ passed)))
 
--- The outcome of a rule that refuses, and of one that accepts.
-abbrev pub refusal : ℕ → Memory → Outcome
-refusal n m = record { answer = record { number = n; first = 0; second = 0 }; memory = m }
+  pub accepts : 0 ≡ firstRefusal (rule .needs) → acceptance (rule .first) (rule .second) (rule .after) ≡ follow s rule
+  accepts e =
+      outcome-cases (λ o. acceptance (rule .first) (rule .second) (rule .after) ≡ o) (λ k is. absurd (omega (arith, e, is))) (λ passed. refl)
 
-abbrev pub acceptance : ℕ → ℕ → Memory → Outcome
-acceptance first second m = record { answer = record { number = 0; first = first; second = second }; memory = m }
+  module _ (accepted : Accepted (follow s rule)) where
+    accepted-is : follow s rule ≡ acceptance (rule .first) (rule .second) (rule .after)
+    accepted-is = sym (accepts (sym (no-refusal accepted)))
 
-pub refuses : (m : Memory) (rule : Rule) (n : ℕ) → n ≡ firstRefusal (rule .needs) → (n ≡ 0 → ⊥) → refusal n m ≡ follow m rule
-unfolding follow answered
-refuses m rule n e h = rw (← e) (go n h)
-  where
-    go : (n : ℕ) → (n ≡ 0 → ⊥) → refusal n m ≡ answered n m rule
-    go zero h = absurd (h refl)
-    go (suc n) h = refl
+    pub accepted-after : follow s rule .state ≡ rule .after
+    accepted-after = ap (λ (o : OutcomeOf Value State). o .state) accepted-is
 
-pub accepts : (m : Memory) (rule : Rule) → 0 ≡ firstRefusal (rule .needs)
-    → acceptance (rule .first) (rule .second) (rule .after) ≡ follow m rule
-unfolding follow answered
-accepts m rule e = rw (← e) refl
+    pub accepted-first : follow s rule .answer .first ≡ rule .first
+    accepted-first = ap (λ (o : OutcomeOf Value State). o .answer .first) accepted-is
 
--- What holds of the memory as it was and of the memory on success holds of the memory left.
-pub outcome-memory : (P : Memory → Type 0) (m : Memory) (rule : Rule) → P m → (firstRefusal (rule .needs) ≡ 0 → P (rule .after))
-    → P (follow m rule .memory)
-unfolding follow answered
-outcome-memory P m rule before after = go (firstRefusal (rule .needs)) refl
-  where
-    go : (n : ℕ) → firstRefusal (rule .needs) ≡ n → P (answered n m rule .memory)
-    go zero e = after e
-    go (suc n) e = before
+  -- What holds of the state as it was and of the state on success holds of the state left.
+  pub outcome-state : (P : State → Type 0) → P s → (firstRefusal (rule .needs) ≡ 0 → P (rule .after)) → P (follow s rule .state)
+  outcome-state P before after = outcome-cases (λ o. P (o .state)) (λ n e. before) after
 
 -- A refusal is that of a need that fails.
 pub failing-need : (ns : List Need) → (firstRefusal ns ≡ 0 → ⊥) → List·Memᴰ (false else firstRefusal ns) ns
@@ -144,14 +134,17 @@ failing-need [] h = absurd (h refl)
 failing-need ((true else n) ∷ rest) h = List·Memᴰ·tail (failing-need rest h)
 failing-need ((false else n) ∷ rest) h = List·Memᴰ·head refl
 
-pub refused : (m : Memory) (rule : Rule) → (Accepted (follow m rule) → ⊥) → Refused m rule (follow m rule)
-unfolding follow answered
-refused m rule h = go (firstRefusal (rule .needs)) (failing-need (rule .needs)) h
-  where
-    go : (n : ℕ) → ((n ≡ 0 → ⊥) → List·Memᴰ (false else n) (rule .needs)) → (Accepted (answered n m rule) → ⊥)
-        → Refused m rule (answered n m rule)
-    go zero w h = absurd (h refl)
-    go (suc n) w h = record { number = w h; memory = refl; first = refl; second = refl }
+pub refused : {Value State : Type 0} {none : Value} (s : State) (rule : RuleOf none State) → (Accepted (follow s rule) → ⊥)
+    → Refused s rule (follow s rule)
+refused s rule =
+    outcome-cases s rule (λ o. (Accepted o → ⊥) → Refused s rule o)
+    (λ n e h. record {
+      number = subst (λ (k : ℕ). List·Memᴰ (false else k) (rule .needs)) e (failing-need (rule .needs) (λ passed. omega (arith, e, passed)));
+      state = refl;
+      first = refl;
+      second = refl;
+    })
+    (λ e h. absurd (h refl))
 
 -- ---- the lowest number
 
@@ -182,11 +175,35 @@ lowest-refusal ((false else n) ∷ rest) least r {k} w =
     let both = and-true (leb least n) (risingFrom n rest) r in
     (omega tests, ⊎-elim (λ e. let q = same-number e in omega arith) (λ v. rising-least rest n (both .1) v) (List·Memᴰ·cases-cons w))
 
-pub lowest : (m : Memory) (rule : Rule) → risingFrom 1 (rule .needs) ≡ true → {k : ℕ} → List·Memᴰ (false else k) (rule .needs)
-    → Lowest (follow m rule) k
-unfolding follow answered
-lowest m rule r {k} w = go (firstRefusal (rule .needs)) (lowest-refusal (rule .needs) 1 r w)
-  where
-    go : (n : ℕ) → (1 ≤ n) × (n ≤ k) → Lowest (answered n m rule) k
-    go zero h = absurd (omega arith)
-    go (suc n) h = record { refused = h .0; least = h .1 }
+pub lowest : {Value State : Type 0} {none : Value} (s : State) (rule : RuleOf none State) → risingFrom 1 (rule .needs) ≡ true → {k : ℕ}
+    → List·Memᴰ (false else k) (rule .needs) → Lowest (follow s rule) k
+lowest s rule r {k} w =
+    let both = lowest-refusal (rule .needs) 1 r w in
+    let number = returned s rule in
+    record { refused = omega arith; least = omega arith }
+
+-- Needs in rising order, and others after them, of whatever numbers: of the first the lowest wins, whatever comes after; and the others
+-- decide where all of the first hold (all-pass).
+pub lowest-of-first : {Value State : Type 0} {none : Value} (s : State) (rule : RuleOf none State) (ns last : List Need) → rule .needs ≡ ns ++ last
+    → risingFrom 1 ns ≡ true → {k : ℕ} → List·Memᴰ (false else k) ns → Lowest (follow s rule) k
+lowest-of-first s rule ns last is r {k} w =
+    let both = lowest-refusal ns 1 r w in
+    let first = refused-first ns last (λ passed. omega (arith, passed)) in
+    let number = returned s rule in
+    let same = ap firstRefusal is in
+    record { refused = omega arith; least = omega arith }
+
+-- ---- which numbers may be returned
+
+-- Each number of a list of needs is allowed.
+abbrev pub allAllowed : (ℕ → Bool) → List Need → Bool
+allAllowed allowed [] = true
+allAllowed allowed ((t else n) ∷ rest) = allowed n && allAllowed allowed rest
+
+-- Then so is what is returned.
+pub refusal-allowed : (allowed : ℕ → Bool) (ns : List Need) → allowed 0 ≡ true → allAllowed allowed ns ≡ true
+    → allowed (firstRefusal ns) ≡ true
+unfolding firstRefusal
+refusal-allowed allowed [] z e = z
+refusal-allowed allowed ((true else n) ∷ rest) z e = refusal-allowed allowed rest z (and-true (allowed n) (allAllowed allowed rest) e .1)
+refusal-allowed allowed ((false else n) ∷ rest) z e = and-true (allowed n) (allAllowed allowed rest) e .0

@@ -13,7 +13,7 @@ use Rattle.protocol.specs.declared.Justification.{Justification}
 use Rattle.protocol.specs.Memory.{Memory, Certificate, Assignment, _becomes_, certificateCountAt, certificateCount, rowAt}
 use Rattle.protocol.specs.Memory.{minViewAt, flagAt, lowered, replica, certificate, words, update, appendCertificate}
 use Rattle.protocol.specs.Certificates.{numberFor, isFiled, file, found, appended, foundOrAppended}
-use Rattle.protocol.specs.Outcome.{Outcome, Need, Rule}
+use Rattle.protocol.specs.Outcome.{acceptance, Outcome, Need, Rule}
 use Rattle.protocol.specs.Calls.{issuing, isAhead, prepare, store, view, accumulate, request, reply}
 use Rattle.protocol.specs.Runs.{ruleOf, step}
 use Rattle.protocol.specs.Theorems.{Accepted}
@@ -21,7 +21,7 @@ use Rattle.protocol.specs.Agreement.{endOf}
 use Rattle.protocol.specs.Repeats.{FoundIsFirstEqual, isIssuing, TellsRepeat, SecondValueTellsRepeat, RepeatChangesNothing}
 use Rattle.protocol.specs.Repeats.{ProposalsNeverRepeat, CommitsNeverRepeat}
 use Rattle.protocol.proofs.Booleans.{tests, by-cond}
-use Rattle.protocol.proofs.Needs.{Holds, no-refusal, acceptance, accepts}
+use Rattle.protocol.proofs.Needs.{Holds, no-refusal, accepts}
 use Rattle.protocol.proofs.Rules.{needs-hold}
 use Rattle.protocol.proofs.Words.{withinRow}
 use Rattle.protocol.proofs.Formed.{Formed, formed, sizes}
@@ -209,7 +209,7 @@ module _ (m : Memory) (safe : Safe m) where
 pub repeat-changes-nothing : RepeatChangesNothing
 unfolding RepeatChangesNothing
 repeat-changes-nothing m f list calls execution call beside e accepted =
-    accepted-gives (λ o. o .answer .second ≡ found → o .memory ≡ endOf m f list calls) (endOf m f list calls) call beside
+    accepted-gives (λ o. o .answer .second ≡ found → o .state ≡ endOf m f list calls) (endOf m f list calls) call beside
     (changes-nothing (endOf m f list calls) (reached-by m f list calls execution .safe) beside call e) accepted
 
 pub proposals-never-repeat : ProposalsNeverRepeat

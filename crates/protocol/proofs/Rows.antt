@@ -4,7 +4,6 @@ use mathlib.Core.Path.{_≡_, refl}
 use mathlib.Core.Bool.{Bool, true, false, _&&_}
 use mathlib.Core.List.{List, [], _∷_, _++_, map, map-append}
 use lib.Dec.{eqb}
-use Rattle.protocol.specs.declared.Answer.{Answer}
 use Rattle.protocol.specs.Memory.{update, appendCertificate, appendBlock}
 use Rattle.protocol.specs.Form.{allHold, allBelow, blockFormed, replicaFormed, certificateFormed, lengthsFit, countsFit}
 use Rattle.protocol.specs.Form.{stepsFormed, wellFormed}
@@ -12,7 +11,7 @@ use Rattle.protocol.specs.Certificates.{firstBelow, hasWords, numberFor,
 use Rattle.protocol.specs.Leader.{leads}
 use Rattle.protocol.specs.Counter.{stepsFrom, stepsAllowed, counterStep}
 use Rattle.protocol.specs.Quorum.{every, contains, distinct, greatestFrom, isQuorum}
-use Rattle.protocol.specs.Outcome.{firstRefusal, answered, follow}
+use Rattle.protocol.specs.Outcome.{Answer, firstRefusal, answered, follow}
 use Rattle.protocol.specs.Calls.{issuing, freshReplicas, opening, block, prepare, store, view, accumulate, decide, reboot}
 use Rattle.protocol.specs.Calls.{reserve, request, reply, recover}
 use Rattle.protocol.specs.Runs.{ruleOf, step, run, answers}

@@ -8,7 +8,6 @@ use native.Mathlib.Omega.{arith}
 use lib.ListN.{getD}
 use lib.Seq.{ext-getD}
 use lib.Dec.{ltb, eqb}
-use Rattle.protocol.specs.declared.Answer.{Answer}
 use Rattle.protocol.specs.declared.Call.{Call}
 use Rattle.protocol.specs.declared.Call.the-variants.{Open, Block, Prepare, Store, View, Accumulate, Decide, Reboot}
 use Rattle.protocol.specs.declared.Call.the-variants.{Reserve, Request, Reply, Recover}
@@ -16,7 +15,7 @@ use Rattle.protocol.specs.Memory.{Memory, Replica, Assignment, replicaCo
 use Rattle.protocol.specs.Memory.{replicaWord, statusAt, recovering, retired, replica, _becomes_, update}
 use Rattle.protocol.specs.Form.{lengthsFit}
 use Rattle.protocol.specs.Counter.{stepsFrom, stepsAllowed, counterStep}
-use Rattle.protocol.specs.Outcome.{firstRefusal, answered, follow}
+use Rattle.protocol.specs.Outcome.{Answer, firstRefusal, answered, follow}
 use Rattle.protocol.specs.Calls.{opening, reboot, reserve}
 use Rattle.protocol.specs.Runs.{Invocation, ruleOf, step, run}
 use Rattle.protocol.specs.Theorems.{Accepted, Address, tableWord, logWord, blockWord, wordAt, named}
@@ -89,7 +88,7 @@ module _ (m m′ : Memory) (f : ℕ) (list : List ℕ) (same : SameLengths m m�
       go zero = refl
       go (suc n) = refl
 
-  table-same : Accepted (step m (Open f) list) → step m (Open f) list .memory .table ≡ step m′ (Open f) list .memory .table
+  table-same : Accepted (step m (Open f) list) → step m (Open f) list .state .table ≡ step m′ (Open f) list .state .table
   unfolding step ruleOf opening
   table-same accepted =
       let h = accepted-needs m (Open f) list accepted in
@@ -139,14 +138,14 @@ module _ (k : ℕ) (l : k < stepCount) where
 
   -- A call that is no accepted opening leaves the step.
   stays : (m : Memory) (call : Call) (list : List ℕ) → (eventOf call (step m call list .answer) ≡ reopened → ⊥)
-      → keptStep (step m call list .memory) k ≡ keptStep m k
+      → keptStep (step m call list .state) k ≡ keptStep m k
   unfolding OnlyNamedChange RefusedChangesNothing wordAt eventOf
   stays m call list other =
       let a = step m call list .answer in
       by-test (eqb (a .number) 0)
       (λ e.
       only-named-change m call list (tableWord (stepAt k)) (not-among k (named m call) (outside-named m call a (rw e at other))))
-      (λ e. ap (λ (x : Memory). keptStep x k) (refused-changes-nothing m call list (λ accepted. omega tests) .memory))
+      (λ e. ap (λ (x : Memory). keptStep x k) (refused-changes-nothing m call list (λ accepted. omega tests) .state))
 
   run-stays : (since : List Event) (m : Memory) (calls : List Invocation) → (List·Memᴰ reopened (history since m calls) → ⊥)
       → keptStep (run m calls) k ≡ keptStep m k
@@ -155,8 +154,8 @@ module _ (k : ℕ) (l : k < stepCount) where
   run-stays since m (q ∷ qs) once =
       let o = step m (q .call) (q .list) in
       let e = eventOf (q .call) (o .answer) in
-      run-stays (e ∷ since) (o .memory) qs once
-      ∙ stays m (q .call) (q .list) (λ again. once (kept (o .memory) qs (List·Memᴰ·head (sym again))))
+      run-stays (e ∷ since) (o .state) qs once
+      ∙ stays m (q .call) (q .list) (λ again. once (kept (o .state) qs (List·Memᴰ·head (sym again))))
 
 -- ---- the theorems
 
@@ -178,25 +177,25 @@ unfolding counterStep step ruleOf opening
 kept-since m f list calls execution boot =
     let k = min boot lastStep in
     let h = accepted-needs m (Open f) list (execution .opened) in
-    run-stays k (omega arith) [] (step m (Open f) list .memory) calls (execution .once)
+    run-stays k (omega arith) [] (step m (Open f) list .state) calls (execution .once)
     ∙ rw (accepted-after m (ruleOf m (Open f) list) (execution .opened)) (opened m f list (h .1 .0) (h .1 .1 .0) .steps k (omega arith))
 
 -- What a Reserve and a Reboot leave, by the steps that the memory keeps; and what a Reserve answers.
 module _ (m : Memory) (i : ℕ) (beside : List ℕ) (accepted : Accepted (step m (Reserve i) beside)) where
-  reserved : replica (step m (Reserve i) beside .memory) i .viewLimit ≡ replica m i .viewLimit + counterStep m (replica m i .boot)
+  reserved : replica (step m (Reserve i) beside .state) i .viewLimit ≡ replica m i .viewLimit + counterStep m (replica m i .boot)
   unfolding step ruleOf reserve
   reserved =
       let h = accepted-needs m (Reserve i) beside accepted in
       let z = sizes m (formed m (h .0)) in
       rw (accepted-after m (reserve m i) accepted) (ap (λ (r : Replica). r .viewLimit) (update-own m i _ refl (omega tests)))
 
-  told : step m (Reserve i) beside .answer .first ≡ replica (step m (Reserve i) beside .memory) i .viewLimit
+  told : step m (Reserve i) beside .answer .first ≡ replica (step m (Reserve i) beside .state) i .viewLimit
   unfolding step ruleOf reserve
   told = accepted-first m (reserve m i) accepted ∙ sym reserved
 
 rebooted : (m : Memory) (i : ℕ) (beside : List ℕ) → Accepted (step m (Reboot i) beside)
-    → replica (step m (Reboot i) beside .memory) i .status ≡ recovering
-    → replica (step m (Reboot i) beside .memory) i .viewLimit ≡ replica m i .viewLimit + counterStep m (replica m i .boot + 1)
+    → replica (step m (Reboot i) beside .state) i .status ≡ recovering
+    → replica (step m (Reboot i) beside .state) i .viewLimit ≡ replica m i .viewLimit + counterStep m (replica m i .boot + 1)
 unfolding step ruleOf reboot
 rebooted m i beside accepted =
     let h = accepted-needs m (Reboot i) beside accepted in

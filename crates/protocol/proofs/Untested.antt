@@ -220,7 +220,7 @@ module _ (m : Memory) (l : List ℕ) (o : OtherBoots m (twin m l (m .blocks))) w
 
   record SameOutcome (x x′ : Outcome) : Type 0 where
     answer : x′ .answer ≡ x .answer
-    table : x′ .memory .table ≡ x .memory .table
+    table : x′ .state .table ≡ x .state .table
 
   follow-same : (r r′ : Rule) → SameRule r r′ → SameOutcome (follow m r) (follow m′ r′)
   unfolding follow answered

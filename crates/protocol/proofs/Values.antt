@@ -1,8 +1,8 @@
 -- A call's number is at most 9, or an opening's 12, and its values are at most 1,000,000.
-use Prim.Native.Nat.{ℕ, zero, suc, _≤_}
+use Prim.Native.Nat.{ℕ, _≤_}
 use mathlib.Core.Path.{_≡_, refl}
-use mathlib.Core.Bool.{Bool, true, false, _&&_}
-use mathlib.Core.List.{List, [], _∷_}
+use mathlib.Core.Bool.{true}
+use mathlib.Core.List.{List}
 use native.Mathlib.Omega.{arith}
 use Rattle.protocol.specs.declared.Call.{Call}
 use Rattle.protocol.specs.declared.Call.the-variants.{Open, Block, Prepare, Store, View, Accumulate, Decide, Reboot}
@@ -10,31 +10,18 @@ use Rattle.protocol.specs.declared.Call.the-variants.{Reserve, Request, 
 use Rattle.protocol.specs.Memory.{Memory, Certificate, ceiling, certificateCount, blockCount}
 use Rattle.protocol.specs.Form.{lengthsFit, countsFit, replicaFormed, certificateFormed, wellFormed}
 use Rattle.protocol.specs.Certificates.{numberFor, isFiled, foundOrAppended}
-use Rattle.protocol.specs.Outcome.{Need, _else_, Rule, firstRefusal, answered, follow}
+use Rattle.protocol.specs.Outcome.{Rule}
 use Rattle.protocol.specs.Calls.{issuing, opening, block, prepare, store, view, accumulate, decide, reboot}
 use Rattle.protocol.specs.Calls.{reserve, request, reply, recover}
 use Rattle.protocol.specs.Runs.{ruleOf, step}
 use Rattle.protocol.specs.Theorems.{mayReturn, Fits, ValuesFit}
-use Rattle.protocol.proofs.Booleans.{tests, by-test, by-cond, and-true, each}
-use Rattle.protocol.proofs.Needs.{Holds}
+use Rattle.protocol.proofs.Booleans.{tests, by-test, by-cond, each}
+use Rattle.protocol.proofs.Needs.{Holds, outcome-cases, allAllowed, refusal-allowed}
 use Rattle.protocol.proofs.Rules.{needs-hold}
 use Rattle.protocol.proofs.Formed.{formed}
 use Rattle.protocol.proofs.Filing.{number-below}
 use Rattle.protocol.proofs.Lists.{all-named, first-named}
 use Rattle.protocol.proofs.LeavesForm.{reboot-retires, stays-active}
-
--- ---- numbers
-
--- The call may return each number of a list of needs.
-abbrev mayReturnAll : Call → List Need → Bool
-mayReturnAll call [] = true
-mayReturnAll call ((t else n) ∷ rest) = mayReturn call n && mayReturnAll call rest
-
-refusal-fits : (call : Call) (ns : List Need) → mayReturnAll call ns ≡ true → mayReturn call (firstRefusal ns) ≡ true
-unfolding firstRefusal
-refusal-fits call [] e = refl
-refusal-fits call ((true else n) ∷ rest) e = refusal-fits call rest (and-true (mayReturn call n) (mayReturnAll call rest) e .1)
-refusal-fits call ((false else n) ∷ rest) e = and-true (mayReturn call n) (mayReturnAll call rest) e .0
 
 -- ---- values
 
@@ -60,7 +47,7 @@ issued-small m ws e =
 
 -- What a rule may refuse with, and its values where it does not refuse.
 abbrev RuleFits : Call → Rule → Type 0
-RuleFits call rule = (mayReturnAll call (rule .needs) ≡ true) × (Holds (rule .needs) → Small (rule .first) (rule .second))
+RuleFits call rule = (allAllowed (mayReturn call) (rule .needs) ≡ true) × (Holds (rule .needs) → Small (rule .first) (rule .second))
 
 rule-fits : (m : Memory) (call : Call) (list : List ℕ) → RuleFits call (ruleOf m call list)
 unfolding ruleOf issuing opening block prepare store view accumulate decide reboot reserve request reply recover replicaFormed
@@ -90,17 +77,11 @@ rule-fits m (Request i) list = (refl, λ h. issued-small m _ (h .0))
 rule-fits m (Reply i number) list = (refl, λ h. issued-small m _ (h .0))
 rule-fits m (Recover i) list = (refl, λ h. let r = each _ (formed m (h .0) .rows i (omega tests)) in omega tests)
 
-answer-fits : (m : Memory) (call : Call) (rule : Rule) → mayReturn call (firstRefusal (rule .needs)) ≡ true
-    → (firstRefusal (rule .needs) ≡ 0 → Small (rule .first) (rule .second)) → Fits call (follow m rule .answer)
-unfolding follow answered
-answer-fits m call rule number values = go (firstRefusal (rule .needs)) number values
-  where
-    go : (n : ℕ) → mayReturn call n ≡ true → (n ≡ 0 → Small (rule .first) (rule .second)) → Fits call (answered n m rule .answer)
-    go zero may values = let both = values refl in record { number = may; first = both .0; second = both .1 }
-    go (suc n) may values = record { number = may; first = omega arith; second = omega arith }
-
 pub values-fit : ValuesFit
 unfolding ValuesFit step
 values-fit m call list =
+    let rule = ruleOf m call list in
     let good = rule-fits m call list in
-    answer-fits m call (ruleOf m call list) (refusal-fits call _ (good .0)) (λ e. good .1 (needs-hold m call list e))
+    let may = refusal-allowed (mayReturn call) (rule .needs) refl (good .0) in
+    outcome-cases m rule (λ o. Fits call (o .answer)) (λ n e. record { number = rw e at may; first = omega arith; second = omega arith })
+    (λ e. let both = good .1 (needs-hold m call list e) in record { number = refl; first = both .0; second = both .1 })

@@ -32,14 +32,14 @@ pub record Agreed (events : List Event) : Type 0 where
 -- Call this an execution of a ledger.
 pub record Execution (m : Memory) (f : ℕ) (list : List ℕ) (calls : List Invocation) : Type 0 where
   pub opened : Accepted (step m (Open f) list)
-  pub once : List·Memᴰ reopened (history [] (step m (Open f) list .memory) calls) → ⊥
+  pub once : List·Memᴰ reopened (history [] (step m (Open f) list .state) calls) → ⊥
 
 -- The events of an execution, and the memory at its end.
 abbrev pub eventsOf : Memory → ℕ → List ℕ → List Invocation → List Event
-eventsOf m f list calls = history [] (step m (Open f) list .memory) calls
+eventsOf m f list calls = history [] (step m (Open f) list .state) calls
 
 abbrev pub endOf : Memory → ℕ → List ℕ → List Invocation → Memory
-endOf m f list calls = run (step m (Open f) list .memory) calls
+endOf m f list calls = run (step m (Open f) list .state) calls
 
 -- Document 02, #104: "A pool with any allowed steps is still safe from conflicting decisions."
 unfoldable pub Agreement : Type 0

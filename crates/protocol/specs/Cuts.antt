@@ -42,7 +42,7 @@ callerOf (Recover i) = i
 
 -- What an accepted call issued, or found: the certificate of the answered number.
 abbrev pub issuedIn : Outcome → Certificate
-issuedIn o = certificate (o .memory) (o .answer .first)
+issuedIn o = certificate (o .state) (o .answer .first)
 
 pub record SignedBy (m : Memory) (i : ℕ) (c : Certificate) : Type 0 where
   pub signer : c .signer ≡ i
@@ -114,7 +114,7 @@ pub record OtherBoots (m m′ : Memory) : Type 0 where
 pub record SameVerdict (call : Call) (o o′ : Outcome) : Type 0 where
   pub refused : o .answer .number ≢ 0 → o .answer .number ≢ noRoom → o′ .answer .number ≡ o .answer .number
   pub answer : isIssuing call ≡ false → o′ .answer ≡ o .answer
-  pub table : isIssuing call ≡ false → o′ .memory .table ≡ o .memory .table
+  pub table : isIssuing call ≡ false → o′ .state .table ≡ o .state .table
 
 unfoldable pub BootsUntested : Type 0
 BootsUntested =
@@ -145,7 +145,7 @@ CutsTellApart =
     (m : Memory) (f : ℕ) (list : List ℕ) (calls more : List Invocation) → Execution m f list calls → (i : ℕ) (beside : List ℕ)
     → (let before = endOf m f list calls in
     let cut = step before (Reboot i) beside in
-    let end = run (cut .memory) more in
-    Accepted cut → (List·Memᴰ reopened (history [] (cut .memory) more) → ⊥)
+    let end = run (cut .state) more in
+    Accepted cut → (List·Memᴰ reopened (history [] (cut .state) more) → ⊥)
     → (call : Call) (its : List ℕ) → isIssuing call ≡ true → callerOf call ≡ i → Accepted (step end call its)
     → certificateCount before ≤ step end call its .answer .first)

@@ -2,11 +2,10 @@
 use Prim.Native.Nat.{ℕ, _+_}
 use mathlib.Core.List.{List, [], _∷_, _++_, map}
 use lib.ListN.{replicate, set}
-use Rattle.protocol.specs.declared.Answer.{Answer}
 use Rattle.protocol.specs.declared.Call.the-variants.{Open, Block, Prepare, Store, View, Decide}
 use Rattle.protocol.specs.declared.Justification.the-variants.{Commits}
 use Rattle.protocol.specs.Memory.{Memory, memory, blockCountAt, blockAt, parentAt, heightAt}
-use Rattle.protocol.specs.Outcome.{wrongForm, unknownNumber, wrongBlock, noRoom}
+use Rattle.protocol.specs.Outcome.{Answer, wrongForm, unknownNumber, wrongBlock, noRoom}
 use Rattle.protocol.specs.Runs.{run}
 use Rattle.protocol.specs.Rows.{Case, zeros, plain, _on_, accepted, refused, committed, everyCall}
 

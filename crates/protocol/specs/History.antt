@@ -4,7 +4,7 @@ use Prim.Native.Nat.{ℕ}
 use mathlib.Core.Bool.{cond}
 use mathlib.Core.List.{List, [], _∷_}
 use lib.Dec.{ltb, eqb}
-use Rattle.protocol.specs.declared.Answer.{Answer}
+use Rattle.protocol.specs.Outcome.{Answer}
 use Rattle.protocol.specs.declared.Call.{Call}
 use Rattle.protocol.specs.declared.Call.the-variants.{Open, Block, Prepare, Store, View, Accumulate, Decide, Reboot}
 use Rattle.protocol.specs.declared.Call.the-variants.{Reserve, Request, Reply, Recover}
@@ -42,7 +42,7 @@ unfoldable pub history : List Event → Memory → List Invocation → List Even
 history past m [] = past
 history past m (q ∷ qs) =
     let o = step m (q .call) (q .list) in
-    history (eventOf (q .call) (o .answer) ∷ past) (o .memory) qs
+    history (eventOf (q .call) (o .answer) ∷ past) (o .state) qs
 
 -- "A block's parent is the one that its accepted Block call was given"; block 0 has parent 0.
 unfoldable pub givenParent : List Event → ℕ → ℕ

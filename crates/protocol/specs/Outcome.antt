@@ -1,17 +1,9 @@
--- What a call gives: its answer and the memory it leaves; and the table of refusals (document 01, "Calls").
+-- What a call gives: its answer and the state it leaves; what a rule is, over any state; and the table of refusals (document 01, "Calls").
 use Prim.Native.Nat.{ℕ, zero, suc}
 use mathlib.Core.Bool.{Bool, cond}
 use mathlib.Core.List.{List, [], _∷_}
-use Rattle.protocol.specs.declared.Answer.{Answer}
+use Rattle.protocol.specs.declared.Answer as Code
 use Rattle.protocol.specs.Memory.{Memory, memory}
-
-pub record Outcome : Type 0 where
-  pub answer : Answer
-  pub memory : Memory
-
--- An answer, with what the three slices hold then.
-abbrev pub outcome : Answer → List ℕ → List ℕ → List ℕ → Outcome
-outcome a t l b = record { answer = a; memory = memory t l b }
 
 -- The column "Returned" of the table. 0 is "accepted".
 -- "lengths or form wrong (opening: lengths only)"
@@ -72,21 +64,65 @@ unfoldable pub firstRefusal : List Need → ℕ
 firstRefusal [] = 0
 firstRefusal ((test else number) ∷ rest) = cond test (firstRefusal rest) number
 
--- The rule of a call: what it needs; its two values and the memory it leaves, where nothing is refused. "Values on success are two
--- numbers".
-pub record Rule : Type 0 where
-  pub needs : List Need
-  pub first : ℕ
+-- ---- Rules over any state, and over any type of the first value: a call's is a word, a netting's a signed number.
+
+-- The number returned, 0 where the call is accepted, and two values. "Values on success are two numbers".
+pub record AnswerOf (Value : Type 0) : Type 0 where
+  pub number : ℕ
+  pub first : Value
   pub second : ℕ
-  pub after : Memory
 
--- 0, "accepted": "as above"; otherwise the number, "0, 0" and "all words as before".
-unfoldable pub answered : ℕ → Memory → Rule → Outcome
-answered zero m rule = record { answer = record { number = 0; first = rule .first; second = rule .second }; memory = rule .after }
-answered (suc n) m rule = record { answer = record { number = suc n; first = 0; second = 0 }; memory = m }
+-- What a call gives: its answer, and the state that it leaves.
+pub record OutcomeOf (Value State : Type 0) : Type 0 where
+  pub answer : AnswerOf Value
+  pub state : State
 
-unfoldable pub follow : Memory → Rule → Outcome
-follow m rule = answered (firstRefusal (rule .needs)) m rule
+-- The rule of a call: what it needs; its two values and the state it leaves, where nothing is refused. `none` is the 0 that a refusal gives
+-- for the first value.
+pub record RuleOf {Value : Type 0} (none : Value) (State : Type 0) : Type 0 where
+  pub needs : List Need
+  pub first : Value
+  pub second : ℕ
+  pub after : State
+
+-- 0, "accepted": "as above".
+abbrev pub acceptance : {Value State : Type 0} → Value → ℕ → State → OutcomeOf Value State
+acceptance first second s = record { answer = record { number = 0; first = first; second = second }; state = s }
+
+-- The number, "0, 0" and "all words as before".
+abbrev pub refusalOf : {Value State : Type 0} → Value → ℕ → State → OutcomeOf Value State
+refusalOf none number s = record { answer = record { number = number; first = none; second = 0 }; state = s }
+
+unfoldable pub answered : {Value State : Type 0} {none : Value} → ℕ → State → RuleOf none State → OutcomeOf Value State
+answered zero s rule = acceptance (rule .first) (rule .second) (rule .after)
+answered {none = none} (suc n) s rule = refusalOf none (suc n) s
+
+unfoldable pub follow : {Value State : Type 0} {none : Value} → State → RuleOf none State → OutcomeOf Value State
+follow s rule = answered (firstRefusal (rule .needs)) s rule
+
+-- ---- Rules whose values are words.
+
+abbrev pub Answer : Type 0
+Answer = AnswerOf ℕ
+
+abbrev pub refusal : {State : Type 0} → ℕ → State → OutcomeOf ℕ State
+refusal = refusalOf 0
+
+-- The code's answer, as rules have it.
+abbrev pub told : Code.Answer → Answer
+told a = record { number = a .number; first = a .first; second = a .second }
+
+-- ---- The calls of a ledger, whose state is its memory.
+
+abbrev pub Rule : Type 0
+Rule = RuleOf {Value = ℕ} 0 Memory
+
+abbrev pub Outcome : Type 0
+Outcome = OutcomeOf ℕ Memory
+
+-- The code's answer, with what the three slices hold then.
+abbrev pub outcome : Code.Answer → List ℕ → List ℕ → List ℕ → Outcome
+outcome a t l b = record { answer = told a; state = memory t l b }
 
 -- What a call's rule gives on three slices.
 abbrev pub outcomeBy : (Memory → Rule) → List ℕ → List ℕ → List ℕ → Outcome

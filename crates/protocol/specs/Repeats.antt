@@ -51,15 +51,15 @@ isIssuing (Recover i) = false
 -- Found: the number is that of an issued certificate, and the log is as it was, word for word.
 pub record Found (m : Memory) (o : Outcome) : Type 0 where
   pub number : o .answer .first < certificateCount m
-  pub log : o .memory .log ≡ m .log
+  pub log : o .state .log ≡ m .log
 
 -- Added: the number is the next one, and one certificate more is issued.
 pub record Appended (m : Memory) (o : Outcome) : Type 0 where
   pub number : o .answer .first ≡ certificateCount m
-  pub count : certificateCount (o .memory) ≡ certificateCount m + 1
+  pub count : certificateCount (o .state) ≡ certificateCount m + 1
 
 pub record TellsRepeat (m : Memory) (o : Outcome) : Type 0 where
-  pub exactly : o .answer .second ≡ cond (eqb (certificateCount (o .memory)) (certificateCount m)) found appended
+  pub exactly : o .answer .second ≡ cond (eqb (certificateCount (o .state)) (certificateCount m)) found appended
   pub ifFound : o .answer .second ≡ found → Found m o
   pub ifAppended : o .answer .second ≡ appended → Appended m o
 
@@ -75,14 +75,14 @@ pub record SameAgain (o again : Outcome) : Type 0 where
   pub accepted : Accepted again
   pub first : again .answer .first ≡ o .answer .first
   pub second : again .answer .second ≡ found
-  pub memory : again .memory ≡ o .memory
+  pub state : again .state ≡ o .state
 
 -- What a call gives where it was just made and accepted.
 abbrev pub FoundAgain : Memory → Call → List ℕ → Type 0
-FoundAgain m call list = Accepted (step m call list) → SameAgain (step m call list) (step (step m call list .memory) call list)
+FoundAgain m call list = Accepted (step m call list) → SameAgain (step m call list) (step (step m call list .state) call list)
 
 abbrev pub RefusedAgain : Memory → Call → List ℕ → Type 0
-RefusedAgain m call list = Accepted (step m call list) → step (step m call list .memory) call list .answer .number ≡ wrongView
+RefusedAgain m call list = Accepted (step m call list) → step (step m call list .state) call list .answer .number ≡ wrongView
 
 pub record MadeAgain (m : Memory) (list : List ℕ) : Type 0 where
   pub view : (i w : ℕ) → FoundAgain m (View i w) list
@@ -103,7 +103,7 @@ RepeatChangesNothing =
     (m : Memory) (f : ℕ) (list : List ℕ) (calls : List Invocation) → Execution m f list calls → (call : Call) (beside : List ℕ)
     → isIssuing call ≡ true → Accepted (step (endOf m f list calls) call beside)
     → step (endOf m f list calls) call beside .answer .second ≡ found
-    → step (endOf m f list calls) call beside .memory ≡ endOf m f list calls
+    → step (endOf m f list calls) call beside .state ≡ endOf m f list calls
 
 -- ---- After an opening, no Prepare and no Store finds its certificate. A replica proposes once in a view: its flag falls only as its lowest
 -- view rises. It commits once in a view: its lowest view rises past it. And a lowest view never falls, by a cut neither.

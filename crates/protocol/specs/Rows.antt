@@ -2,13 +2,12 @@
 use Prim.Native.Nat.{ℕ}
 use mathlib.Core.List.{List, [], _∷_}
 use lib.ListN.{replicate}
-use Rattle.protocol.specs.declared.Answer.{Answer}
 use Rattle.protocol.specs.declared.Call.{Call}
 use Rattle.protocol.specs.declared.Call.the-variants.{Open, Block, Prepare, Store, View, Accumulate, Decide, Reboot}
 use Rattle.protocol.specs.declared.Call.the-variants.{Reserve, Request, Reply, Recover}
 use Rattle.protocol.specs.declared.Justification.the-variants.{Acc, Commits}
 use Rattle.protocol.specs.Memory.{Memory, Certificate, tableLength, certificateAt, words, blockAt, appendCertificate}
-use Rattle.protocol.specs.Outcome.{wrongStatus}
+use Rattle.protocol.specs.Outcome.{Answer, wrongStatus}
 use Rattle.protocol.specs.Runs.{Invocation, run}
 
 -- A start, calls, and the answers expected of them.

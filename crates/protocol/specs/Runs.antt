@@ -1,12 +1,11 @@
 -- Any call, and lists of calls (document 01, "Whole lists of calls").
 use Prim.Native.Nat.{ℕ}
 use mathlib.Core.List.{List, [], _∷_}
-use Rattle.protocol.specs.declared.Answer.{Answer}
 use Rattle.protocol.specs.declared.Call.{Call}
 use Rattle.protocol.specs.declared.Call.the-variants.{Open, Block, Prepare, Store, View, Accumulate, Decide, Reboot}
 use Rattle.protocol.specs.declared.Call.the-variants.{Reserve, Request, Reply, Recover}
 use Rattle.protocol.specs.Memory.{Memory}
-use Rattle.protocol.specs.Outcome.{Outcome, Rule, follow}
+use Rattle.protocol.specs.Outcome.{Answer, Outcome, Rule, follow}
 use Rattle.protocol.specs.Calls.{opening, block, prepare, store, view, accumulate, decide, reboot, reserve, request}
 use Rattle.protocol.specs.Calls.{reply, recover}
 
@@ -37,9 +36,9 @@ pub record Invocation : Type 0 where
 -- "Each call gets the three slices as the last left them; nothing else writes them". The memory that a list of calls leaves,
 unfoldable pub run : Memory → List Invocation → Memory
 run m [] = m
-run m (q ∷ qs) = run (step m (q .call) (q .list) .memory) qs
+run m (q ∷ qs) = run (step m (q .call) (q .list) .state) qs
 
 -- and its answers.
 unfoldable pub answers : Memory → List Invocation → List Answer
 answers m [] = []
-answers m (q ∷ qs) = let o = step m (q .call) (q .list) in o .answer ∷ answers (o .memory) qs
+answers m (q ∷ qs) = let o = step m (q .call) (q .list) in o .answer ∷ answers (o .state) qs

@@ -16,7 +16,7 @@ use Rattle.protocol.specs.Agreement.{Execution, endOf}
 
 pub record OpenedAlike (m m′ : Memory) (f : ℕ) (list : List ℕ) : Type 0 where
   pub answer : step m (Open f) list .answer ≡ step m′ (Open f) list .answer
-  pub table : Accepted (step m (Open f) list) → step m (Open f) list .memory .table ≡ step m′ (Open f) list .memory .table
+  pub table : Accepted (step m (Open f) list) → step m (Open f) list .state .table ≡ step m′ (Open f) list .state .table
 
 unfoldable pub OpeningReadsNothing : Type 0
 OpeningReadsNothing = (m m′ : Memory) (f : ℕ) (list : List ℕ) → SameLengths m m′ → OpenedAlike m m′ f list
@@ -36,17 +36,17 @@ stepOf list boot = getD (stepsFrom list) (min boot lastStep) 0
 unfoldable pub FirstLimitIsFirstStep : Type 0
 FirstLimitIsFirstStep =
     (m : Memory) (f : ℕ) (list : List ℕ) → Accepted (step m (Open f) list) → (i : ℕ) → i < replicaCount f
-    → replica (step m (Open f) list .memory) i .viewLimit ≡ stepOf list 0
+    → replica (step m (Open f) list .state) i .viewLimit ≡ stepOf list 0
 
 -- An accepted Reserve moves the limit by the boot's step, and answers it; an accepted Reboot after which the replica is recovering, not
 -- retired, moves it by the step of the boot that begins.
 pub record MovesBy (list : List ℕ) (m : Memory) (i : ℕ) (beside : List ℕ) : Type 0 where
   pub reserve : Accepted (step m (Reserve i) beside)
-      → replica (step m (Reserve i) beside .memory) i .viewLimit ≡ replica m i .viewLimit + stepOf list (replica m i .boot)
+      → replica (step m (Reserve i) beside .state) i .viewLimit ≡ replica m i .viewLimit + stepOf list (replica m i .boot)
   pub answer : Accepted (step m (Reserve i) beside)
-      → step m (Reserve i) beside .answer .first ≡ replica (step m (Reserve i) beside .memory) i .viewLimit
-  pub reboot : Accepted (step m (Reboot i) beside) → replica (step m (Reboot i) beside .memory) i .status ≡ recovering
-      → replica (step m (Reboot i) beside .memory) i .viewLimit ≡ replica m i .viewLimit + stepOf list (replica m i .boot + 1)
+      → step m (Reserve i) beside .answer .first ≡ replica (step m (Reserve i) beside .state) i .viewLimit
+  pub reboot : Accepted (step m (Reboot i) beside) → replica (step m (Reboot i) beside .state) i .status ≡ recovering
+      → replica (step m (Reboot i) beside .state) i .viewLimit ≡ replica m i .viewLimit + stepOf list (replica m i .boot + 1)
 
 unfoldable pub CountersMoveBySteps : Type 0
 CountersMoveBySteps =

@@ -7,7 +7,6 @@ use mathlib.Core.Bool.{Bool, true, false, _&&_, _||_}
 use mathlib.Core.List.{List, [], _∷_, _++_, map, List·Memᴰ}
 use lib.ListN.{length, getD}
 use lib.Dec.{leb, eqb}
-use Rattle.protocol.specs.declared.Answer.{Answer}
 use Rattle.protocol.specs.declared.Call.{Call}
 use Rattle.protocol.specs.declared.Call.the-variants.{Open, Block, Prepare, Store, View, Accumulate, Decide, Reboot}
 use Rattle.protocol.specs.declared.Call.the-variants.{Reserve, Request, Reply, Recover}
@@ -19,21 +18,21 @@ use Rattle.protocol.specs.Memory.{certificateAt, certificate, blockWords
 use Rattle.protocol.specs.Form.{isFaultBound, lengthsFit, wellFormed}
 use Rattle.protocol.specs.Counter.{stepsAllowed}
 use Rattle.protocol.specs.Quorum.{isIssued}
-use Rattle.protocol.specs.Outcome.{Outcome, _else_, Rule, wrongForm, outOfRange, wrongCertificate, noRoom, wrongSteps}
+use Rattle.protocol.specs.Outcome.{Answer, OutcomeOf, Outcome, _else_, RuleOf, wrongForm, outOfRange, wrongCertificate, noRoom, wrongSteps}
 use Rattle.protocol.specs.FirstNeeds.{isReplica, isBlock}
 use Rattle.protocol.specs.Calls.{hasStatus}
 use Rattle.protocol.specs.Runs.{ruleOf, step}
 
 -- A call is accepted: its number is 0.
-abbrev pub Accepted : Outcome → Type 0
+abbrev pub Accepted : {Value State : Type 0} → OutcomeOf Value State → Type 0
 Accepted o = o .answer .number ≡ 0
 
 -- ---- A refused call returns the number of a need that fails and two zeros, and leaves every word.
 
-pub record Refused (m : Memory) (rule : Rule) (o : Outcome) : Type 0 where
+pub record Refused {Value State : Type 0} {none : Value} (s : State) (rule : RuleOf none State) (o : OutcomeOf Value State) : Type 0 where
   pub number : List·Memᴰ (false else o .answer .number) (rule .needs)
-  pub memory : o .memory ≡ m
-  pub first : o .answer .first ≡ 0
+  pub state : o .state ≡ s
+  pub first : o .answer .first ≡ none
   pub second : o .answer .second ≡ 0
 
 unfoldable pub RefusedChangesNothing : Type 0
@@ -45,7 +44,7 @@ RefusedChangesNothing =
 
 unfoldable pub AcceptedLeavesForm : Type 0
 AcceptedLeavesForm =
-    (m : Memory) (call : Call) (list : List ℕ) → Accepted (step m call list) → wellFormed (step m call list .memory) ≡ true
+    (m : Memory) (call : Call) (list : List ℕ) → Accepted (step m call list) → wellFormed (step m call list .state) ≡ true
 
 -- ---- A call changes at most the words named for it.
 
@@ -95,7 +94,7 @@ named m (Recover i) = replicaAddresses i (statusAt ∷ minViewAt ∷ storedViewA
 unfoldable pub OnlyNamedChange : Type 0
 OnlyNamedChange =
     (m : Memory) (call : Call) (list : List ℕ) (a : Address) → (List·Memᴰ a (named m call) → ⊥)
-    → wordAt (step m call list .memory) a ≡ wordAt m a
+    → wordAt (step m call list .state) a ≡ wordAt m a
 
 -- Lengths never change.
 pub record SameLengths (m m′ : Memory) : Type 0 where
@@ -104,7 +103,7 @@ pub record SameLengths (m m′ : Memory) : Type 0 where
   pub blocks : length (m .blocks) ≡ length (m′ .blocks)
 
 unfoldable pub LengthsStay : Type 0
-LengthsStay = (m : Memory) (call : Call) (list : List ℕ) → SameLengths (step m call list .memory) m
+LengthsStay = (m : Memory) (call : Call) (list : List ℕ) → SameLengths (step m call list .state) m
 
 -- ---- "Words past the counts are neither read nor changed, except where a new item goes."
 
@@ -118,7 +117,7 @@ pub record Alike (m m′ : Memory) : Type 0 where
 
 pub record SameAnswer (o o′ : Outcome) : Type 0 where
   pub answer : o .answer ≡ o′ .answer
-  pub after : Alike (o .memory) (o′ .memory)
+  pub after : Alike (o .state) (o′ .state)
 
 unfoldable pub PastCountsUnread : Type 0
 PastCountsUnread =
@@ -141,7 +140,7 @@ isOpening (Reply i number) = false
 isOpening (Recover i) = false
 
 -- Where a need fails the call is refused, with a number that is not above that of the need.
-pub record Lowest (o : Outcome) (number : ℕ) : Type 0 where
+pub record Lowest {Value State : Type 0} (o : OutcomeOf Value State) (number : ℕ) : Type 0 where
   pub refused : 1 ≤ o .answer .number
   pub least : o .answer .number ≤ number
 

@@ -7,12 +7,11 @@ use lib.Dec.{eqb}
 use lib.ListN.{length, getD}
 use lib.Seq.{take-append-seam}
 use borrow.Author.Tests.{ne-eqb}
-use Rattle.protocol.specs.declared.Answer.{Answer}
 use Rattle.protocol.specs.declared.Call.{Call}
 use Rattle.protocol.specs.declared.Call.the-variants.{Open}
 use Rattle.protocol.specs.Memory.{Memory, tableLength}
 use Rattle.protocol.specs.Form.{allHold, lengthsFit}
-use Rattle.protocol.specs.Outcome.{Outcome, unreadable, firstRefusal, answered, follow}
+use Rattle.protocol.specs.Outcome.{Answer, Outcome, unreadable, firstRefusal, answered, follow}
 use Rattle.protocol.specs.Calls.{opening}
 use Rattle.protocol.specs.Runs.{Invocation, ruleOf, step, run}
 use Rattle.protocol.specs.Theorems.{Accepted, RefusedChangesNothing, LengthsStay}
@@ -86,12 +85,12 @@ Full f m = length (lent f m .table) ≡ lentLength f
 
 -- What a call leaves of what is lent for f is the ledger, where f is then in use.
 record Carried (o : Outcome) (s : Session) : Type 0 where
-  memory : o .memory ≡ ledgerOf s
+  memory : o .state ≡ ledgerOf s
   full : Full (s .faultBound) (s .memory)
 
 -- What is lent next is what the call left.
-taken-back : (s : Session) (f : ℕ) (o : Outcome) → length (o .memory .table) ≡ lentLength f
-    → lent f (lineLeaves s f o .session .memory) ≡ o .memory
+taken-back : (s : Session) (f : ℕ) (o : Outcome) → length (o .state .table) ≡ lentLength f
+    → lent f (lineLeaves s f o .session .memory) ≡ o .state
 taken-back s f o long = rw (← long, take-append-seam)
 
 carried : (s : Session) (f : ℕ) (call : Call) (list : List ℕ) → Full f (s .memory)
@@ -141,7 +140,7 @@ module _ (s : Session) (full : Full (s .faultBound) (s .memory)) (line : List �
   unfolding RefusedChangesNothing
   opening-refused f call list h =
       let r = refused-changes-nothing (lent f (s .memory)) call list h in
-      rw (put-back s f _ (r .memory) (r .first) (r .second) h) (nothing-told _ h)
+      rw (put-back s f _ (r .state) (r .first) (r .second) h) (nothing-told _ h)
 
   reopens : (a : Answer) → codeIn (numbersIn line) ≡ openCode → a .number ≡ 0 → lineEvent line a ≡ reopened
   unfolding lineEvent eventTable

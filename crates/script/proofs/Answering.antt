@@ -5,6 +5,7 @@ use mathlib.Core.Bool.{true, false}
 use mathlib.Core.List.{List}
 use lib.ListN.{length, take}
 use Rattle.protocol.specs.declared.Answer.{Answer}
+use Rattle.protocol.specs.Outcome.{told}
 use Rattle.protocol.proofs.Booleans.{by-test}
 use Rattle.field.specs.Field.{columns}
 use Rattle.reader.specs.declared.Read.{Read}
@@ -35,7 +36,7 @@ module _ (line : List ℕ) {r : Read} (e : r ≡ lineRead line) where
 
   module _ (s : Session) where
     pub line-refused : {refusal x : ℕ} {a : Answer} → r ≡ Refused refusal → x ≡ readRefusal r
-        → a ≡ record { number = x; first = 0; second = 0 } → _≡_ {A = Answered} (record { answer = a; session = s }) (answerLine s line)
+        → a ≡ record { number = x; first = 0; second = 0 } → _≡_ {A = Answered} (record { answer = told a; session = s }) (answerLine s line)
     unfolding lineRead answerLine
     line-refused u x y =
         let f = not-readable u in

@@ -31,7 +31,8 @@ list-part given = take-all (length given - listField) (listIn given) (omega (tes
 
 -- What a call leaves of the part of a table that is lent for f, beside the rest.
 abbrev pub beside : List ℕ → ℕ → Outcome → Outcome
-beside table f o = outcome (o .answer) (o .memory .table ++ drop (lentLength f) table) (o .memory .log) (o .memory .blocks)
+beside table f o =
+    record { answer = o .answer; state = memory (o .state .table ++ drop (lentLength f) table) (o .state .log) (o .state .blocks) }
 
 pub lent-call : (t l b given : List ℕ) (f : ℕ) {a : Answer} {t′ l′ b′ : List ℕ} {r : ℕ} → r ≡ lentLength f
     → outcome a t′ l′ b′
@@ -44,7 +45,7 @@ lent-call t l b given f e o = rw e (ap (beside t f) (rw (e, list-part given) at 
 abbrev pub after : Session → ℕ → Outcome → Answered
 after s f o =
     let inUse = cond (eqb (o .answer .number) 0) f (s .faultBound) in
-    record { answer = o .answer; session = record { faultBound = inUse; memory = o .memory } }
+    record { answer = o .answer; session = record { faultBound = inUse; memory = o .state } }
 
 module _ (s : Session) (given : List ℕ) {f : ℕ} (e : f ≡ faultBoundFor (s .faultBound) (codeIn given) (replicaIn given)) where
   answered : {a : Answer} {t l b : List ℕ} {inUse : ℕ} → outcome a t l b ≡ lending f (s .memory) given

@@ -5,7 +5,7 @@ use mathlib.Core.List.{List, [], _∷_, _++_, append-assoc}
 use lib.ListN.{length, take, set, length-append}
 use lib.Seq.{take-at, take-suc-set, length-take-le}
 use native.Mathlib.Omega.{arith}
-use Rattle.protocol.specs.declared.Answer.{Answer}
+use Rattle.protocol.specs.Outcome.{Answer}
 use Rattle.field.specs.Field.{columns, maxNumber, fieldOf}
 use Rattle.field.proofs.Theorems.{length-field}
 use Rattle.script.specs.Text.{lineFeed, answerText, answerBytes}

@@ -5,11 +5,10 @@ use mathlib.Core.Bool.{true, false}
 use mathlib.Core.List.{List}
 use lib.Dec.{leb, eqb}
 use borrow.Author.Tests.{ne-eqb}
-use Rattle.protocol.specs.declared.Answer.{Answer}
 use Rattle.protocol.specs.declared.Call.{Call}
 use Rattle.protocol.specs.Memory.{Memory}
 use Rattle.protocol.specs.Form.{allHold, wellFormed}
-use Rattle.protocol.specs.Outcome.{Outcome, wrongForm, noRoom, wrongSteps}
+use Rattle.protocol.specs.Outcome.{Answer, Outcome, wrongForm, noRoom, wrongSteps}
 use Rattle.protocol.specs.Theorems.{RefusedChangesNothing, isOpening, mayReturn, Fits, ValuesFit}
 use Rattle.protocol.proofs.Booleans.{tests, by-test, and-true}
 use Rattle.protocol.proofs.Rules.{refused-changes-nothing}
@@ -40,7 +39,7 @@ pub refused-leaves-session : RefusedLeavesSession
 unfolding RefusedLeavesSession RefusedChangesNothing
 refused-leaves-session s line =
     by-line (λ (x : Answered). (x .answer .number ≡ 0 → ⊥) → x ≡ unchanged (x .answer .number) s) s line (λ h. refl)
-    (λ call e h. let r = refused-changes-nothing _ call _ h in put-back s _ _ (r .memory) (r .first) (r .second) h)
+    (λ call e h. let r = refused-changes-nothing _ call _ h in put-back s _ _ (r .state) (r .first) (r .second) h)
 
 -- No table is lent before the first accepted opening, so the form is wrong.
 none-lent : (m : Memory) (f : ℕ) → f ≡ 0 → wellFormed (lent f m) ≡ false

@@ -7,10 +7,9 @@ use lib.Dec.{eqb}
 use lib.ListN.{drop, take-append-drop}
 use borrow.Author.Tests.{ne-eqb}
 use Rattle.protocol.specs.declared.Call.{Call}
-use Rattle.protocol.specs.Outcome.{Outcome, unreadable}
+use Rattle.protocol.specs.Outcome.{Outcome, refusal, unreadable}
 use Rattle.protocol.specs.Runs.{step}
 use Rattle.protocol.proofs.Booleans.{tests, by-cond}
-use Rattle.protocol.proofs.Needs.{refusal}
 use Rattle.codes.specs.declared.Coded.{Coded}
 use Rattle.codes.specs.declared.Coded.the-variants.{Of}
 use Rattle.codes.specs.Codes.{codedCall}
@@ -26,11 +25,11 @@ abbrev pub lineLeaves : Session → ℕ → Outcome → Answered
 lineLeaves s f o = after s f (beside (s .memory .table) f o)
 
 -- The lent part comes back as it was.
-pub put-back : (s : Session) (f : ℕ) (o : Outcome) → o .memory ≡ lent f (s .memory) → o .answer .first ≡ 0 → o .answer .second ≡ 0
+pub put-back : (s : Session) (f : ℕ) (o : Outcome) → o .state ≡ lent f (s .memory) → o .answer .first ≡ 0 → o .answer .second ≡ 0
     → (o .answer .number ≡ 0 → ⊥) → lineLeaves s f o ≡ unchanged (o .answer .number) s
 put-back s f o same first second h =
     let bound : cond (eqb (o .answer .number) 0) f (s .faultBound) ≡ s .faultBound = rw (ne-eqb _ 0 h) in
-    let table : o .memory .table ++ drop (lentLength f) (s .memory .table) ≡ s .memory .table = rw (same, take-append-drop) in
+    let table : o .state .table ++ drop (lentLength f) (s .memory .table) ≡ s .memory .table = rw (same, take-append-drop) in
     λ i.
     leaves (record { number = o .answer .number; first = first i; second = second i }) (bound i) (table i) (same i .log) (same i .blocks)
 

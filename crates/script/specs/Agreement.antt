@@ -5,8 +5,8 @@ use mathlib.Core.Bool.{cond}
 use mathlib.Core.List.{List, [], _∷_, List·Memᴰ}
 use lib.Dec.{eqb}
 use lib.ListN.{getD}
-use Rattle.protocol.specs.declared.Answer.{Answer}
 use Rattle.protocol.specs.Memory.{Memory}
+use Rattle.protocol.specs.Outcome.{Answer}
 use Rattle.protocol.specs.Runs.{Invocation}
 use Rattle.protocol.specs.History.{Event, reopened, added, decided, other}
 use Rattle.protocol.specs.Agreement.{Agreed, Execution, eventsOf, endOf}

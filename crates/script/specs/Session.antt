@@ -4,10 +4,10 @@ use mathlib.Core.Bool.{cond}
 use mathlib.Core.List.{List, _++_}
 use lib.Dec.{eqb}
 use lib.ListN.{take, drop, getD}
-use Rattle.protocol.specs.declared.Answer.{Answer}
+use Rattle.protocol.specs.declared.Answer as Code
 use Rattle.protocol.specs.Memory.{Memory, memory, maxFaultBound, tableLength}
 use Rattle.protocol.specs.Form.{isFaultBound}
-use Rattle.protocol.specs.Outcome.{Outcome, unreadable}
+use Rattle.protocol.specs.Outcome.{Answer, Outcome, told, unreadable}
 use Rattle.ledger.specs.Called.{called}
 use Rattle.script.specs.Lines.{fieldCount, numbers, hasNumbers}
 
@@ -67,7 +67,7 @@ lending f m given =
     let o = called (lent f m) (codeIn given) (replicaIn given) (numberIn given) (listIn given) in
     record {
       answer = o .answer;
-      memory = memory (o .memory .table ++ drop (lentLength f) (m .table)) (o .memory .log) (o .memory .blocks);
+      state = memory (o .state .table ++ drop (lentLength f) (m .table)) (o .state .log) (o .state .blocks);
     }
 
 -- An answer, and the session that it leaves.
@@ -75,8 +75,9 @@ pub record Answered : Type 0 where
   pub answer : Answer
   pub session : Session
 
-abbrev pub leaves : Answer → ℕ → List ℕ → List ℕ → List ℕ → Answered
-leaves a f t l b = record { answer = a; session = session f t l b }
+-- The same of the code's answer, the f in use and the words.
+abbrev pub leaves : Code.Answer → ℕ → List ℕ → List ℕ → List ℕ → Answered
+leaves a f t l b = record { answer = told a; session = session f t l b }
 
 -- The number and two zeros, and the session as before.
 abbrev pub unchanged : ℕ → Session → Answered
@@ -89,7 +90,7 @@ answerNumbers s given =
     let o = lending f (s .memory) given in
     record {
       answer = o .answer;
-      session = record { faultBound = cond (eqb (o .answer .number) 0) f (s .faultBound); memory = o .memory };
+      session = record { faultBound = cond (eqb (o .answer .number) 0) f (s .faultBound); memory = o .state };
     }
 
 -- What a line gives. "Anything else, an empty line included, returns 10".

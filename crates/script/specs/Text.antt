@@ -1,7 +1,7 @@
 -- The text of an answer.
 use Prim.Native.Nat.{ℕ, _+_, _*_, _≤_}
 use mathlib.Core.List.{List, [], _∷_, _++_}
-use Rattle.protocol.specs.declared.Answer.{Answer}
+use Rattle.protocol.specs.Outcome.{Answer}
 use Rattle.field.specs.Field.{columns, maxNumber, fieldOf}
 
 abbrev pub lineFeed : ℕ

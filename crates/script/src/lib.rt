@@ -5,7 +5,7 @@ ghost use mathlib.Core.Bool.{true};
 ghost use mathlib.Core.List.{_++_};
 ghost use lib.ListN.{length, take};
 ghost use Rattle.protocol.specs.Memory.{memory};
-ghost use Rattle.protocol.specs.Outcome.{outcome};
+ghost use Rattle.protocol.specs.Outcome.{told, outcome};
 ghost use Rattle.field.specs.Field.{columns, maxNumber, fieldOf};
 ghost use Rattle.script.specs.Lines.{minFields, maxFields, fieldCount, numbers, hasNumbers, lineRead};
 ghost use Rattle.script.specs.Session.{
@@ -177,8 +177,8 @@ fn put_number(text: &mut [u8], at: usize, number: u32)
 // Writes the text of an answer.
 pub fn put_answer(text: &mut [u8], at: usize, line: u32, answer: Answer)
     requires { ⌜ at + answerBytes ≤ length (now text) ⌝ }
-    requires { ⌜ (line ≤ maxNumber) × Printable answer ⌝ }
-    ensures { λ _. ⌜ take (at + answerBytes) (now (text .exit)) ≡ take at (now (text .entry)) ++ answerText line answer ⌝ }
+    requires { ⌜ (line ≤ maxNumber) × Printable (told answer) ⌝ }
+    ensures { λ _. ⌜ take (at + answerBytes) (now (text .exit)) ≡ take at (now (text .entry)) ++ answerText line (told answer) ⌝ }
 {
     put_number(text, at, line);
     put_number(text, at + COLUMNS, answer.number);

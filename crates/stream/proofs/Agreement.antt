@@ -4,7 +4,7 @@ use mathlib.Core.Path.{_≡_, refl, sym, ap, _∙_}
 use mathlib.Core.List.{List, [], _∷_, List·Memᴰ}
 use native.Mathlib.Omega.{arith}
 use lib.ListN.{length, take, drop, getD, length-take}
-use Rattle.protocol.specs.declared.Answer.{Answer}
+use Rattle.protocol.specs.Outcome.{Answer}
 use Rattle.protocol.specs.History.{Event, reopened}
 use Rattle.protocol.specs.Agreement.{Agreed}
 use Rattle.field.specs.Field.{readField}

@@ -8,6 +8,7 @@ use lib.Dec.{ltb}
 use lib.ListN.{length, take, drop}
 use lib.Seq.{length-take-le}
 use Rattle.protocol.specs.declared.Answer.{Answer}
+use Rattle.protocol.specs.Outcome.{told}
 use Rattle.protocol.proofs.Booleans.{tests, by-test}
 use Rattle.script.specs.Session.{Session, session, Answered, leaves, answerLine}
 use Rattle.script.specs.Text.{lineFeed, answerText, answerBytes, Printable}
@@ -24,14 +25,15 @@ use Rattle.stream.proofs.Fed.{line-ended}
 abbrev pub after : Progress → ℕ → Progress
 after p f = record { «fault_bound» = f; lines = p .lines + 1; held = 0; pending = p .pending + answerBytes }
 
-pub fits : (s : Session) (line : List ℕ) {a : Answer} {f : ℕ} {t l b : List ℕ} → leaves a f t l b ≡ answerLine s line → Printable a
+pub fits : (s : Session) (line : List ℕ) {a : Answer} {f : ℕ} {t l b : List ℕ} → leaves a f t l b ≡ answerLine s line
+    → Printable (told a)
 unfolding AnswersPrintable
 fits s line e = subst (λ (o : Answered). Printable (o .answer)) (sym e) (answers-printable s line)
 
 module _ (p : Progress) (t l b places text line : List ℕ) where
   pub line-answered : {a : Answer} {f : ℕ} {t′ l′ b′ : List ℕ} (text′ : List ℕ)
       → leaves a f t′ l′ b′ ≡ answerLine (session (p .«fault_bound») t l b) line
-      → take (p .pending + answerBytes) text′ ≡ take (p .pending) text ++ answerText (p .lines + 1) a
+      → take (p .pending + answerBytes) text′ ≡ take (p .pending) text ++ answerText (p .lines + 1) (told a)
       → streamOf (after p f) t′ l′ b′ places text′ ≡ endLine (withHeld (streamOf p t l b places text) line)
   unfolding endLine
   line-answered {a} {f} {t′} {l′} {b′} text′ e x =

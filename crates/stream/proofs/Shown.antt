@@ -7,7 +7,7 @@ use native.Mathlib.Omega.{arith}
 use lib.Dec.{eqb}
 use lib.ListN.{length, replicate}
 use lib.Seq.{take-at, drop-append-add}
-use Rattle.protocol.specs.declared.Answer.{Answer}
+use Rattle.protocol.specs.Outcome.{Answer}
 use Rattle.protocol.proofs.Booleans.{tests}
 use Rattle.field.specs.Digits.{digitCount, digits}
 use Rattle.field.specs.Field.{columns, blank, maxNumber, fieldOf}

@@ -3,7 +3,7 @@ use Prim.Native.Nat.{ℕ, suc}
 use mathlib.Core.Path.{_≡_}
 use mathlib.Core.List.{List, [], _∷_, List·Memᴰ}
 use lib.ListN.{take, drop, getD}
-use Rattle.protocol.specs.declared.Answer.{Answer}
+use Rattle.protocol.specs.Outcome.{Answer}
 use Rattle.protocol.specs.History.{Event, reopened}
 use Rattle.protocol.specs.Agreement.{Agreed}
 use Rattle.script.specs.Lines.{numberAt}

@@ -7,13 +7,12 @@ use lib.ListN.{length, getD}
 use lib.IntN.{ℤ, pos, natAbs}
 use Rattle.protocol.specs.Memory.{maxFaultBound, replicaCount, maxBlocks}
 use Rattle.protocol.specs.Form.{allBelow}
-use Rattle.protocol.specs.Outcome.{_else_, firstRefusal, wrongMovement}
+use Rattle.protocol.specs.Outcome.{_else_, AnswerOf, RuleOf, follow, wrongMovement}
 use Rattle.protocol.specs.declared.Movement.{Movement}
 use Rattle.protocol.specs.Movements.{movement, movementCount, movementAllowed, isMovementList, maxPallets}
 use Rattle.blocks.specs.inner.Records.{parentIn}
 use Rattle.ancestry.specs.inner.AncestryFits.{AncestryFits}
-use Rattle.netting.specs.declared.Netted.{Netted}
-use Rattle.netting.specs.Netting.{balanceAfter, balanceBy, nettingAnswer}
+use Rattle.netting.specs.Netting.{balanceAfter, balanceBy}
 use Rattle.netting.specs.Theorems.{maxBalance}
 
 -- Pallets may be added to a firm's balance, or taken from it.
@@ -49,9 +48,16 @@ pub record Nettable (blocks movements : List ℕ) (b i replicas added : ℕ) : T
   pub firmsFew : replicas ≤ replicaCount maxFaultBound
 
 -- The movements' need, and the balance.
-unfoldable pub balanceAnswer : List ℕ → List ℕ → ℕ → ℕ → ℕ → ℕ → Netted
-balanceAnswer blocks movements b i replicas added =
-    nettingAnswer
-    (firstRefusal
-    (allBelow (movementCount movements) (λ k. movementAllowed replicas added (movement movements k)) else wrongMovement ∷ []))
-    (balanceBy (parentIn blocks) movements b i)
+unfoldable pub balanceRule : List ℕ → List ℕ → ℕ → ℕ → ℕ → ℕ → RuleOf (pos 0) (Unit {0})
+balanceRule blocks movements b i replicas added =
+    record {
+      needs =
+          allBelow (movementCount movements) (λ k. movementAllowed replicas added (movement movements k)) else wrongMovement
+          ∷ [];
+      first = balanceBy (parentIn blocks) movements b i;
+      second = 0;
+      after = tt;
+    }
+
+abbrev pub balanceAnswer : List ℕ → List ℕ → ℕ → ℕ → ℕ → ℕ → AnswerOf ℤ
+balanceAnswer blocks movements b i replicas added = follow tt (balanceRule blocks movements b i replicas added) .answer

@@ -2,6 +2,7 @@
 use mathlib.Core.Path.{_∙_}
 use native.Mathlib.Omega.{arith}
 use lib.ListN.{length-set}
+use Rattle.protocol.specs.Outcome.{told}
 use Rattle.script.proofs.Printing.{answer-put}
 use borrow.Author.Needs.{needs}
 use Rattle.script.proofs.put_answer.Statement.{statement}
@@ -22,7 +23,7 @@ returns c =
     let second = third .before .before .before .before in
     let first = second .before .before .before .before in
     let start = first .before .before .before .before in
-    answer-put _ _ _ _ (fourth .before .put-number4 .last .0) (start .args .at) _ (start .args .answer)
+    answer-put _ _ _ _ (fourth .before .put-number4 .last .0) (start .args .at) _ (told (start .args .answer))
     (first .before .put-number .ensures) (second .before .put-number2 .ensures) (third .before .put-number3 .ensures)
     (fourth .before .put-number4 .ensures)
     (omega (arith, start .pre .0, fourth .text4 .given, third .text3 .given, second .text2 .given, first .text .given))

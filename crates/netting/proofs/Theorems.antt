@@ -9,7 +9,6 @@ use lib.IntN.{ℤ, pos, natAbs, +ℤ-invr}
 use Rattle.protocol.specs.Memory.{Memory, memory, replicaCount, faultBound, blockCount, parent}
 use Rattle.protocol.specs.Ancestry.{Falls, isAncestorBy, heightBy}
 use Rattle.protocol.specs.Outcome.{firstRefusal, answered, follow}
-use Rattle.protocol.specs.Runs.{Invocation}
 use Rattle.protocol.specs.Theorems.{Accepted, Alike}
 use Rattle.protocol.specs.History.{decided, givenParent}
 use Rattle.protocol.specs.Agreement.{Execution, eventsOf, endOf, Agreement}
@@ -115,37 +114,37 @@ netting-past-counts-unread m m′ a movements b i = go (m′ .table) (a .table) 
 
 -- ---- of one execution
 
-module _ (m : Memory) (f : ℕ) (list : List ℕ) (calls : List Invocation) (execution : Execution m f list calls) where
-  reached : Reached f (eventsOf m f list calls) (endOf m f list calls)
-  reached = reached-by m f list calls execution
+module _ (execution : Execution) where
+  reached : Reached (execution .f) (eventsOf execution) (endOf execution)
+  reached = reached-by execution
 
-  parents-fall : Falls (givenParent (eventsOf m f list calls)) (blockCount (endOf m f list calls))
-  parents-fall = given-falls f _ _ reached
+  parents-fall : Falls (givenParent (eventsOf execution)) (blockCount (endOf execution))
+  parents-fall = given-falls (execution .f) _ _ reached
 
-  decided-known : (i b v : ℕ) → List·Memᴰ (decided i b v) (eventsOf m f list calls) → b < blockCount (endOf m f list calls)
-  decided-known i b v x = chosen-known f _ _ reached (reached .decisions i b v x)
+  decided-known : (i b v : ℕ) → List·Memᴰ (decided i b v) (eventsOf execution) → b < blockCount (endOf execution)
+  decided-known i b v x = chosen-known (execution .f) _ _ reached (reached .decisions i b v x)
 
-  longer-is-higher : (i b v j c w : ℕ) → List·Memᴰ (decided i b v) (eventsOf m f list calls)
-      → List·Memᴰ (decided j c w) (eventsOf m f list calls)
-      → chainLength (givenParent (eventsOf m f list calls)) b ≤ chainLength (givenParent (eventsOf m f list calls)) c
-      → heightBy (givenParent (eventsOf m f list calls)) b ≤ heightBy (givenParent (eventsOf m f list calls)) c
+  longer-is-higher : (i b v j c w : ℕ) → List·Memᴰ (decided i b v) (eventsOf execution)
+      → List·Memᴰ (decided j c w) (eventsOf execution)
+      → chainLength (givenParent (eventsOf execution)) b ≤ chainLength (givenParent (eventsOf execution)) c
+      → heightBy (givenParent (eventsOf execution)) b ≤ heightBy (givenParent (eventsOf execution)) c
   longer-is-higher i b v j c w x y h =
       let one = chain-length _ _ parents-fall b (decided-known i b v x) in
       let other = chain-length _ _ parents-fall c (decided-known j c w y) in
       omega arith
 
   -- Of two decided blocks the one whose line is not longer is in the line of the other.
-  lower-in-chain : (i b v j c w : ℕ) → List·Memᴰ (decided i b v) (eventsOf m f list calls)
-      → List·Memᴰ (decided j c w) (eventsOf m f list calls)
-      → chainLength (givenParent (eventsOf m f list calls)) b ≤ chainLength (givenParent (eventsOf m f list calls)) c
-      → isAncestorBy (givenParent (eventsOf m f list calls)) b c ≡ true
+  lower-in-chain : (i b v j c w : ℕ) → List·Memᴰ (decided i b v) (eventsOf execution)
+      → List·Memᴰ (decided j c w) (eventsOf execution)
+      → chainLength (givenParent (eventsOf execution)) b ≤ chainLength (givenParent (eventsOf execution)) c
+      → isAncestorBy (givenParent (eventsOf execution)) b c ≡ true
   unfolding Agreement
   lower-in-chain i b v j c w x y h =
       ⊎-elim (λ e. e)
       (λ e.
       let q = chain-as-high _ _ parents-fall c b (decided-known i b v x) e (longer-is-higher i b v j c w x y h) in
       rw q (rw q at e))
-      (agreement m f list calls execution .oneChain i b v j c w x y)
+      (agreement execution .oneChain i b v j c w x y)
 
 pub chain-length-is-height : ChainLengthIsHeight
 unfolding ChainLengthIsHeight
@@ -153,50 +152,50 @@ chain-length-is-height parentOf count falls b l = chain-length parentOf count fa
 
 pub longer-counts-more : LongerCountsMore
 unfolding LongerCountsMore
-longer-counts-more m f list calls execution i b v j c w x y h moved counted =
-    chain-of-chain _ _ (parents-fall m f list calls execution) (moved .block) b c (decided-known m f list calls execution j c w y) counted
-    (lower-in-chain m f list calls execution i b v j c w x y h)
+longer-counts-more execution i b v j c w x y h moved counted =
+    chain-of-chain _ _ (parents-fall execution) (moved .block) b c (decided-known execution j c w y) counted
+    (lower-in-chain execution i b v j c w x y h)
 
 pub equally-long-is-one : EquallyLongIsOne
 unfolding EquallyLongIsOne
-equally-long-is-one m f list calls execution i b v j c w x y h =
-    chain-as-high _ _ (parents-fall m f list calls execution) b c (decided-known m f list calls execution j c w y)
-    (lower-in-chain m f list calls execution i b v j c w x y (omega arith))
-    (longer-is-higher m f list calls execution j c w i b v y x (omega arith))
+equally-long-is-one execution i b v j c w x y h =
+    chain-as-high _ _ (parents-fall execution) b c (decided-known execution j c w y)
+    (lower-in-chain execution i b v j c w x y (omega arith))
+    (longer-is-higher execution j c w i b v y x (omega arith))
 
 pub counts-match-history : CountsMatchHistory
 unfolding CountsMatchHistory
-counts-match-history m f list calls execution b known x =
-    let end = endOf m f list calls in
-    let h = reached m f list calls execution in
-    chain-same (parent end) (givenParent (eventsOf m f list calls)) (blockCount end) (falls end (h .safe .formed)) (h .told .parents)
+counts-match-history execution b known x =
+    let end = endOf execution in
+    let h = reached execution in
+    chain-same (parent end) (givenParent (eventsOf execution)) (blockCount end) (falls end (h .safe .formed)) (h .told .parents)
     (x .block) b (omega tests)
 
 pub longer-nets-more : LongerNetsMore
 unfolding LongerNetsMore LongerCountsMore CountsMatchHistory
-longer-nets-more m f list calls execution i b v j c w x y h moved counted =
-    let known-b = decided-known m f list calls execution i b v x in
-    let known-c = decided-known m f list calls execution j c w y in
-    counts-match-history m f list calls execution c (omega tests) moved
-    ∙ longer-counts-more m f list calls execution i b v j c w x y h moved
-    (sym (counts-match-history m f list calls execution b (omega tests) moved) ∙ counted)
+longer-nets-more execution i b v j c w x y h moved counted =
+    let known-b = decided-known execution i b v x in
+    let known-c = decided-known execution j c w y in
+    counts-match-history execution c (omega tests) moved
+    ∙ longer-counts-more execution i b v j c w x y h moved
+    (sym (counts-match-history execution b (omega tests) moved) ∙ counted)
 
 pub netting-matches-history : NettingMatchesHistory
 unfolding NettingMatchesHistory CountsMatchHistory
-netting-matches-history m f list calls execution movements b i accepted =
-    let end = endOf m f list calls in
+netting-matches-history execution movements b i accepted =
+    let end = endOf execution in
     answers end movements b i accepted
     ∙ balance-same _ _
-    (counts-match-history m f list calls execution b (nets end movements b i accepted .block))
+    (counts-match-history execution b (nets end movements b i accepted .block))
     movements (movementCount movements) i
 
 pub decided-can-be-netted : DecidedCanBeNetted
 unfolding DecidedCanBeNetted
-decided-can-be-netted m f list calls execution j b v x movements whole each i own =
-    let end = endOf m f list calls in
-    let h = reached m f list calls execution in
+decided-can-be-netted execution j b v x movements whole each i own =
+    let end = endOf execution in
+    let h = reached execution in
     let faults = h .faults in
-    let known = decided-known m f list calls execution j b v x in
+    let known = decided-known execution j b v x in
     accepted-netting end movements b i
     (record {
       formed = form end (h .safe .formed);

@@ -10,7 +10,6 @@ use Rattle.protocol.specs.Ancestry.{Falls, isAncestorBy, heightBy}
 use Rattle.protocol.specs.Outcome.{_else_}
 use Rattle.protocol.specs.FirstNeeds.{isBlock}
 use Rattle.protocol.specs.Movements.{movement, movementCount, movementAllowed, isMovementList}
-use Rattle.protocol.specs.Runs.{Invocation}
 use Rattle.protocol.specs.Theorems.{Accepted, Refused, Lowest, Alike}
 use Rattle.protocol.specs.History.{decided, givenParent}
 use Rattle.protocol.specs.Agreement.{Execution, eventsOf, endOf}
@@ -78,16 +77,16 @@ ChainLengthIsHeight =
 
 unfoldable pub LongerCountsMore : Type 0
 LongerCountsMore =
-    (m : Memory) (f : ℕ) (list : List ℕ) (calls : List Invocation) → Execution m f list calls
-    → let events = eventsOf m f list calls in
+    (x : Execution)
+    → let events = eventsOf x in
     (i b v j c w : ℕ) → List·Memᴰ (decided i b v) events → List·Memᴰ (decided j c w) events
     → chainLength (givenParent events) b ≤ chainLength (givenParent events) c
-    → (x : Movement) → countsBy (givenParent events) b x ≡ true → countsBy (givenParent events) c x ≡ true
+    → (moved : Movement) → countsBy (givenParent events) b moved ≡ true → countsBy (givenParent events) c moved ≡ true
 
 unfoldable pub EquallyLongIsOne : Type 0
 EquallyLongIsOne =
-    (m : Memory) (f : ℕ) (list : List ℕ) (calls : List Invocation) → Execution m f list calls
-    → let events = eventsOf m f list calls in
+    (x : Execution)
+    → let events = eventsOf x in
     (i b v j c w : ℕ) → List·Memᴰ (decided i b v) events → List·Memᴰ (decided j c w) events
     → chainLength (givenParent events) b ≡ chainLength (givenParent events) c → b ≡ c
 
@@ -96,31 +95,31 @@ EquallyLongIsOne =
 -- What counts by the parents in the memory counts by the parents that the calls were given,
 unfoldable pub CountsMatchHistory : Type 0
 CountsMatchHistory =
-    (m : Memory) (f : ℕ) (list : List ℕ) (calls : List Invocation) → Execution m f list calls → (b : ℕ)
-    → isBlock (endOf m f list calls) b ≡ true → (x : Movement)
-    → countsBy (parent (endOf m f list calls)) b x ≡ countsBy (givenParent (eventsOf m f list calls)) b x
+    (x : Execution) (b : ℕ)
+    → isBlock (endOf x) b ≡ true → (moved : Movement)
+    → countsBy (parent (endOf x)) b moved ≡ countsBy (givenParent (eventsOf x)) b moved
 
 -- so the law above holds of what a netting counts there,
 unfoldable pub LongerNetsMore : Type 0
 LongerNetsMore =
-    (m : Memory) (f : ℕ) (list : List ℕ) (calls : List Invocation) → Execution m f list calls
-    → let events = eventsOf m f list calls in
+    (x : Execution)
+    → let events = eventsOf x in
     (i b v j c w : ℕ) → List·Memᴰ (decided i b v) events → List·Memᴰ (decided j c w) events
     → chainLength (givenParent events) b ≤ chainLength (givenParent events) c
-    → (x : Movement) → countsBy (parent (endOf m f list calls)) b x ≡ true → countsBy (parent (endOf m f list calls)) c x ≡ true
+    → (moved : Movement) → countsBy (parent (endOf x)) b moved ≡ true → countsBy (parent (endOf x)) c moved ≡ true
 
 -- an accepted netting answers the balance by the parents given,
 unfoldable pub NettingMatchesHistory : Type 0
 NettingMatchesHistory =
-    (m : Memory) (f : ℕ) (list : List ℕ) (calls : List Invocation) → Execution m f list calls → (movements : List ℕ) (b i : ℕ)
-    → Accepted (netting (endOf m f list calls) movements b i)
-    → netting (endOf m f list calls) movements b i .answer .first ≡ balanceBy (givenParent (eventsOf m f list calls)) movements b i
+    (x : Execution) (movements : List ℕ) (b i : ℕ)
+    → Accepted (netting (endOf x) movements b i)
+    → netting (endOf x) movements b i .answer .first ≡ balanceBy (givenParent (eventsOf x)) movements b i
 
 -- and every decided block can be netted, for every firm, over any list of at most 2,048 allowed movements.
 unfoldable pub DecidedCanBeNetted : Type 0
 DecidedCanBeNetted =
-    (m : Memory) (f : ℕ) (list : List ℕ) (calls : List Invocation) → Execution m f list calls → (j b v : ℕ)
-    → List·Memᴰ (decided j b v) (eventsOf m f list calls) → (movements : List ℕ) → isMovementList movements ≡ true
+    (x : Execution) (j b v : ℕ)
+    → List·Memᴰ (decided j b v) (eventsOf x) → (movements : List ℕ) → isMovementList movements ≡ true
     → ((k : ℕ) → k < movementCount movements
-    → movementAllowed (replicaCount f) (blockCount (endOf m f list calls)) (movement movements k) ≡ true)
-    → (i : ℕ) → i < replicaCount f → Accepted (netting (endOf m f list calls) movements b i)
+    → movementAllowed (replicaCount (x .f)) (blockCount (endOf x)) (movement movements k) ≡ true)
+    → (i : ℕ) → i < replicaCount (x .f) → Accepted (netting (endOf x) movements b i)

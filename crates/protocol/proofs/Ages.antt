@@ -278,9 +278,10 @@ run-keeps P keeps since m (q ∷ qs) once h =
     (keeps m (o .state) (step-passes m (q .call) (q .list) (λ again. once (kept (o .state) qs (List·Memᴰ·head (sym again))))) h)
 
 -- An opening leaves no certificates.
-pub all-dated : (m : Memory) (f : ℕ) (list : List ℕ) (calls : List Invocation) → Execution m f list calls → AllDated (endOf m f list calls)
+pub all-dated : (x : Execution) → AllDated (endOf x)
 unfolding ruleOf opening
-all-dated m f list calls execution =
-    run-keeps AllDated all-dated-on [] _ calls (execution .once)
-    (accepted-gives (λ o. AllDated (o .state)) m (Open f) list
-    (λ h k i l. let none = opened m f list (h .1 .0) (h .1 .1 .0) .header .certificates in absurd (omega arith)) (execution .opened))
+all-dated x =
+    run-keeps AllDated all-dated-on [] _ (x .calls) (x .once)
+    (accepted-gives (λ o. AllDated (o .state)) (x .start) (Open (x .f)) (x .list)
+    (λ h k i l. let none = opened (x .start) (x .f) (x .list) (h .1 .0) (h .1 .1 .0) .header .certificates in absurd (omega arith))
+    (x .opened))

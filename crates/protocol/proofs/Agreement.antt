@@ -12,7 +12,7 @@ use Rattle.protocol.specs.Calls.{opening, block, decide}
 use Rattle.protocol.specs.Runs.{Invocation, ruleOf, step, run}
 use Rattle.protocol.specs.Theorems.{Accepted}
 use Rattle.protocol.specs.History.{Event, reopened, other, acceptedEvent, eventOf, history, givenParent, highest, panel}
-use Rattle.protocol.specs.Agreement.{PanelsRise, Execution, eventsOf, endOf, Agreement, WordsMatchHistory, Extends, OnlyAppended}
+use Rattle.protocol.specs.Agreement.{PanelsRise, OpensNone, Execution, openedBy, eventsOf, endOf, Agreement, WordsMatchHistory, Extends, OnlyAppended}
 use Rattle.protocol.specs.Agreement.{WouldAgree}
 use Rattle.protocol.proofs.Needs.{Holds, outcome-cases, no-refusal, accepted-after, accepted-first}
 use Rattle.protocol.proofs.Rules.{needs-hold}
@@ -139,29 +139,13 @@ start m f list accepted =
     })
 
 -- All that an execution reaches.
-pub reached-by : (m : Memory) (f : ℕ) (list : List ℕ) (calls : List Invocation) → Execution m f list calls
-    → Reached f (eventsOf m f list calls) (endOf m f list calls)
-reached-by m f list calls execution =
-    runs f [] [] (step m (Open f) list .state) calls (start m f list (execution .opened)) (execution .once) .reached
+pub reached-by : (x : Execution) → Reached (x .f) (eventsOf x) (endOf x)
+reached-by x = runs (x .f) [] [] (openedBy x) (x .calls) (start (x .start) (x .f) (x .list) (x .opened)) (x .once) .reached
 
--- ---- a list of calls, and more calls
-
-history-on : (past : List Event) (m : Memory) (calls more : List Invocation)
-    → history past m (calls ++ more) ≡ history (history past m calls) (run m calls) more
-unfolding history run
-history-on past m [] more = refl
-history-on past m (q ∷ qs) more =
-    let o = step m (q .call) (q .list) in
-    history-on (eventOf (q .call) (o .answer) ∷ past) (o .state) qs more
-
--- The beginning of an execution is one.
-pub begins : (m : Memory) (f : ℕ) (list : List ℕ) (calls more : List Invocation) → Execution m f list (calls ++ more)
-    → Execution m f list calls
-begins m f list calls more execution =
-    record {
-      opened = execution .opened;
-      once = λ again. execution .once (rw (history-on [] _ calls more) (kept (endOf m f list calls) more again));
-    }
+-- And all that more calls reach.
+pub reached-on : (x : Execution) (more : List Invocation) → OpensNone (endOf x) more
+    → Follows (x .f) (history (eventsOf x) (endOf x) more) (endOf x) (run (endOf x) more)
+reached-on x more once = runs (x .f) (eventsOf x) [] (endOf x) more (reached-by x) once
 
 -- A panel after more calls is no lower.
 rises : (past : List Event) (m : Memory) (calls : List Invocation) → PanelsRise (history past m calls)
@@ -173,37 +157,33 @@ rises past m (q ∷ qs) up =
     let now = rises (eventOf (q .call) (o .answer) ∷ past) (o .state) qs up in
     (λ i. let first = now .1 .0 i in let then = now .0 i in omega arith, now .1 .1)
 
-pub panel-stays-up : (m : Memory) (f : ℕ) (list : List ℕ) (calls more : List Invocation) → Execution m f list (calls ++ more) → (i : ℕ)
-    → panel (eventsOf m f list calls) i ≤ panel (eventsOf m f list (calls ++ more)) i
-panel-stays-up m f list calls more execution i =
-    let e = history-on [] (step m (Open f) list .state) calls more in
-    rw e (rises (eventsOf m f list calls) (endOf m f list calls) more
-    (rw e at (reached-by m f list (calls ++ more) execution .panels)) .0 i)
+pub panel-stays-up : (x : Execution) (more : List Invocation) → OpensNone (endOf x) more → (i : ℕ)
+    → panel (eventsOf x) i ≤ panel (history (eventsOf x) (endOf x) more) i
+panel-stays-up x more once i = rises (eventsOf x) (endOf x) more (reached-on x more once .reached .panels) .0 i
 
 -- ---- the theorems
 
 pub agreement : Agreement
 unfolding Agreement
-agreement m f list calls execution =
-    let h = reached-by m f list calls execution in
-    let events = eventsOf m f list calls in
+agreement x =
+    let h = reached-by x in
+    let events = eventsOf x in
     record {
       oneChain =
-          λ i b v j c w x y.
-          let hb = h .decisions i b v x in
-          let hc = h .decisions j c w y in
-          one-chain f events _ h (chosen-known f events _ h hb) (chosen-known f events _ h hc) hb hc;
+          λ i b v j c w hb hc.
+          let first = h .decisions i b v hb in
+          let second = h .decisions j c w hc in
+          one-chain (x .f) events _ h (chosen-known (x .f) events _ h first) (chosen-known (x .f) events _ h second) first second;
       panelsRise = h .panels;
     }
 
 pub words-match-history : WordsMatchHistory
 unfolding WordsMatchHistory
-words-match-history m f list calls execution = reached-by m f list calls execution .told
+words-match-history x = reached-by x .told
 
 pub only-appended : OnlyAppended
 unfolding OnlyAppended
-only-appended m f list calls more execution once =
-    runs f (eventsOf m f list calls) [] (endOf m f list calls) more (reached-by m f list calls execution) once .extends
+only-appended x more once = reached-on x more once .extends
 
 -- What an accepted Decide returns is chosen.
 would-choose : (m : Memory) → Safe m → (i : ℕ) (l : List ℕ) → Accepted (step m (Decide i) l)
@@ -215,9 +195,9 @@ would-choose m safe i l accepted =
 
 pub would-agree : WouldAgree
 unfolding WouldAgree
-would-agree m f list calls execution i j l₁ l₂ a b =
-    let h = reached-by m f list calls execution in
-    let events = eventsOf m f list calls in
-    let hb = would-choose _ (h .safe) i l₁ a in
-    let hc = would-choose _ (h .safe) j l₂ b in
-    one-chain f events _ h (chosen-known f events _ h hb) (chosen-known f events _ h hc) hb hc
+would-agree x i j l₁ l₂ a b =
+    let h = reached-by x in
+    let events = eventsOf x in
+    let first = would-choose _ (h .safe) i l₁ a in
+    let second = would-choose _ (h .safe) j l₂ b in
+    one-chain (x .f) events _ h (chosen-known (x .f) events _ h first) (chosen-known (x .f) events _ h second) first second

@@ -140,9 +140,9 @@ never-across m all call kind another its list =
 
 pub only-accs-and-replies-again : OnlyAccsAndRepliesAgain
 unfolding OnlyAccsAndRepliesAgain ruleOf
-only-accs-and-replies-again m f list calls execution =
-    let end = endOf m f list calls in
-    let all = all-dated m f list calls execution in
+only-accs-and-replies-again execution =
+    let end = endOf execution in
+    let all = all-dated execution in
     record {
       prepare = λ i b j. never-across end all (Prepare i b j) PROP (omega arith) (λ list. prepare-signs end i b j list);
       store = λ i number. never-across end all (Store i number) COMMIT (omega arith) (λ list. store-signs end i number);
@@ -189,8 +189,8 @@ apart number kind i m rule behind its =
 
 pub cuts-tell-apart : CutsTellApart
 unfolding CutsTellApart ruleOf
-cuts-tell-apart m f list calls more execution i beside accepted once call its e mine =
-    let before = endOf m f list calls in
+cuts-tell-apart execution more i beside accepted once call its e mine =
+    let before = endOf execution in
     let number = certificateCount before in
     let cut = step before (Reboot i) beside in
     let end = run (cut .state) more in
@@ -199,7 +199,7 @@ cuts-tell-apart m f list calls more execution i beside accepted once call its e 
     (λ h.
     let x = reboots before i h in
     behind-after number i before _ (x .passes) (omega arith)
-    (λ active k l signer. omega (arith, all-dated m f list calls execution k i l signer .boot, x .counts active)))
+    (λ active k l signer. omega (arith, all-dated execution k i l signer .boot, x .counts active)))
     accepted in
     let still : Behind number i end =
     run-keeps (Behind number i)

@@ -17,19 +17,19 @@ heights-kept m form = height-kept m (formed m form)
 
 pub heights-match-history : HeightsMatchHistory
 unfolding HeightsMatchHistory
-heights-match-history m f list calls execution b l =
-    let end = endOf m f list calls in
-    let h = reached-by m f list calls execution in
+heights-match-history execution b l =
+    let end = endOf execution in
+    let h = reached-by execution in
     height-kept end (h .safe .formed) b l
-    ∙ height-same (parent end) (givenParent (eventsOf m f list calls)) (blockCount end) (falls end (h .safe .formed)) (h .told .parents) b l
+    ∙ height-same (parent end) (givenParent (eventsOf execution)) (blockCount end) (falls end (h .safe .formed)) (h .told .parents) b l
 
 pub heights-stay : HeightsStay
 unfolding HeightsStay
-heights-stay m f list calls more execution once b l =
-    let end = endOf m f list calls in
+heights-stay execution more once b l =
+    let end = endOf execution in
     let later = run end more in
-    let h = reached-by m f list calls execution in
-    let on = runs f (eventsOf m f list calls) [] end more h once in
+    let h = reached-by execution in
+    let on = runs (execution .f) (eventsOf execution) [] end more h once in
     let grows = on .extends .blocks in
     height-kept later (on .reached .safe .formed) b (omega arith)
     ∙ sym

@@ -208,22 +208,22 @@ module _ (m : Memory) (safe : Safe m) where
 
 pub repeat-changes-nothing : RepeatChangesNothing
 unfolding RepeatChangesNothing
-repeat-changes-nothing m f list calls execution call beside e accepted =
-    accepted-gives (λ o. o .answer .second ≡ found → o .state ≡ endOf m f list calls) (endOf m f list calls) call beside
-    (changes-nothing (endOf m f list calls) (reached-by m f list calls execution .safe) beside call e) accepted
+repeat-changes-nothing execution call beside e accepted =
+    accepted-gives (λ o. o .answer .second ≡ found → o .state ≡ endOf execution) (endOf execution) call beside
+    (changes-nothing (endOf execution) (reached-by execution .safe) beside call e) accepted
 
 pub proposals-never-repeat : ProposalsNeverRepeat
 unfolding ProposalsNeverRepeat ruleOf prepare
-proposals-never-repeat i b j m f list calls execution beside accepted =
-    let end = endOf m f list calls in
-    let safe = reached-by m f list calls execution .safe in
+proposals-never-repeat i b j execution beside accepted =
+    let end = endOf execution in
+    let safe = reached-by execution .safe in
     accepted-gives (λ o. o .answer .second ≡ appended) end (Prepare i b j) beside
     (λ hold. issuing-appends end _ i _ _ (prepare-never-found end safe i b j beside hold)) accepted
 
 pub commits-never-repeat : CommitsNeverRepeat
 unfolding CommitsNeverRepeat ruleOf store
-commits-never-repeat i number m f list calls execution beside accepted =
-    let end = endOf m f list calls in
-    let safe = reached-by m f list calls execution .safe in
+commits-never-repeat i number execution beside accepted =
+    let end = endOf execution in
+    let safe = reached-by execution .safe in
     accepted-gives (λ o. o .answer .second ≡ appended) end (Store i number) beside
     (λ hold. issuing-appends end _ i _ _ (store-never-found end safe i number hold)) accepted

@@ -21,7 +21,7 @@ use Rattle.protocol.specs.Runs.{Invocation, ruleOf, step, run}
 use Rattle.protocol.specs.Theorems.{Accepted, Address, tableWord, logWord, blockWord, wordAt, named}
 use Rattle.protocol.specs.Theorems.{OnlyNamedChange, RefusedChangesNothing, SameLengths}
 use Rattle.protocol.specs.History.{Event, reopened, acceptedEvent, eventOf, history}
-use Rattle.protocol.specs.Agreement.{Execution, endOf}
+use Rattle.protocol.specs.Agreement.{Execution, openedBy, endOf}
 use Rattle.protocol.specs.Steps.{OpeningReadsNothing, WithoutStepsIsDefault, stepOf, FirstLimitIsFirstStep, CountersMoveBySteps}
 use Rattle.protocol.proofs.Booleans.{tests, by-test, by-cond, each}
 use Rattle.protocol.proofs.Needs.{accepted-after, accepted-first}
@@ -171,14 +171,15 @@ first-limit-is-first-step m f list accepted i own =
     (ap (λ (r : Replica). r .viewLimit) (opened m f list (h .1 .0) (h .1 .1 .0) .rows i own))
 
 -- The steps that the memory keeps are those of the opening, whatever calls came since.
-kept-since : (m : Memory) (f : ℕ) (list : List ℕ) (calls : List Invocation) → Execution m f list calls → (boot : ℕ)
-    → counterStep (endOf m f list calls) boot ≡ stepOf list boot
+kept-since : (x : Execution) (boot : ℕ) → counterStep (endOf x) boot ≡ stepOf (x .list) boot
 unfolding counterStep step ruleOf opening
-kept-since m f list calls execution boot =
+kept-since x boot =
+    let m = x .start in
     let k = min boot lastStep in
-    let h = accepted-needs m (Open f) list (execution .opened) in
-    run-stays k (omega arith) [] (step m (Open f) list .state) calls (execution .once)
-    ∙ rw (accepted-after m (ruleOf m (Open f) list) (execution .opened)) (opened m f list (h .1 .0) (h .1 .1 .0) .steps k (omega arith))
+    let h = accepted-needs m (Open (x .f)) (x .list) (x .opened) in
+    run-stays k (omega arith) [] (openedBy x) (x .calls) (x .once)
+    ∙ rw (accepted-after m (ruleOf m (Open (x .f)) (x .list)) (x .opened))
+    (opened m (x .f) (x .list) (h .1 .0) (h .1 .1 .0) .steps k (omega arith))
 
 -- What a Reserve and a Reboot leave, by the steps that the memory keeps; and what a Reserve answers.
 module _ (m : Memory) (i : ℕ) (beside : List ℕ) (accepted : Accepted (step m (Reserve i) beside)) where
@@ -212,9 +213,9 @@ rebooted m i beside accepted =
 
 pub counters-move-by-steps : CountersMoveBySteps
 unfolding CountersMoveBySteps
-counters-move-by-steps m f list calls execution i beside =
-    let o = endOf m f list calls in
-    let same = kept-since m f list calls execution in
+counters-move-by-steps execution i beside =
+    let o = endOf execution in
+    let same = kept-since execution in
     record {
       reserve = λ accepted. reserved o i beside accepted ∙ ap (λ (x : ℕ). replica o i .viewLimit + x) (same (replica o i .boot));
       answer = λ accepted. told o i beside accepted;

@@ -26,25 +26,35 @@ pub record Agreed (events : List Event) : Type 0 where
   pub oneChain : (i b v j c w : ℕ) → List·Memᴰ (decided i b v) events → List·Memᴰ (decided j c w) events → OneChain events b c
   pub panelsRise : PanelsRise events
 
+-- None of these calls, made on this memory, is an accepted Open.
+abbrev pub OpensNone : Memory → List Invocation → Type 0
+OpensNone m calls = List·Memᴰ reopened (history [] m calls) → ⊥
+
 -- "The list starts from the memory that an accepted Open leaves, for each f, all fitting lengths and any earlier contents. Each call in
 -- it is one of the other eleven or a refused Open, in any order, with any numbers and lists." Nothing else is assumed. The list beside the
 -- opening is any that it accepts: what holds of executions holds "with any allowed steps" (document 02, #104).
--- Call this an execution of a ledger.
-pub record Execution (m : Memory) (f : ℕ) (list : List ℕ) (calls : List Invocation) : Type 0 where
-  pub opened : Accepted (step m (Open f) list)
-  pub once : List·Memᴰ reopened (history [] (step m (Open f) list .state) calls) → ⊥
+-- Call this an execution of a ledger: the earlier contents, f, the list beside the opening, and the calls after it.
+pub record Execution : Type 0 where
+  pub start : Memory
+  pub f : ℕ
+  pub list : List ℕ
+  pub calls : List Invocation
+  pub opened : Accepted (step start (Open f) list)
+  pub once : OpensNone (step start (Open f) list .state) calls
 
--- The events of an execution, and the memory at its end.
-abbrev pub eventsOf : Memory → ℕ → List ℕ → List Invocation → List Event
-eventsOf m f list calls = history [] (step m (Open f) list .state) calls
+-- The memory that the opening leaves; the events of an execution, and the memory at its end.
+abbrev pub openedBy : Execution → Memory
+openedBy x = step (x .start) (Open (x .f)) (x .list) .state
 
-abbrev pub endOf : Memory → ℕ → List ℕ → List Invocation → Memory
-endOf m f list calls = run (step m (Open f) list .state) calls
+abbrev pub eventsOf : Execution → List Event
+eventsOf x = history [] (openedBy x) (x .calls)
+
+abbrev pub endOf : Execution → Memory
+endOf x = run (openedBy x) (x .calls)
 
 -- Document 02, #104: "A pool with any allowed steps is still safe from conflicting decisions."
 unfoldable pub Agreement : Type 0
-Agreement =
-    (m : Memory) (f : ℕ) (list : List ℕ) (calls : List Invocation) → Execution m f list calls → Agreed (eventsOf m f list calls)
+Agreement = (x : Execution) → Agreed (eventsOf x)
 
 -- ---- The link to the words: parents, decided views and decided blocks at the end are what the calls and answers told.
 
@@ -54,9 +64,7 @@ pub record Told (f : ℕ) (events : List Event) (m : Memory) : Type 0 where
   pub blocks : (i : ℕ) → i < replicaCount f → replica m i .decidedBlock ≡ decisionBlock (highest events i)
 
 unfoldable pub WordsMatchHistory : Type 0
-WordsMatchHistory =
-    (m : Memory) (f : ℕ) (list : List ℕ) (calls : List Invocation) → Execution m f list calls
-    → Told f (eventsOf m f list calls) (endOf m f list calls)
+WordsMatchHistory = (x : Execution) → Told (x .f) (eventsOf x) (endOf x)
 
 -- ---- Certificates and blocks are only ever appended between two openings: those of a memory stand in every later one. Of a block this is
 -- its parent; that its height stays follows, and is stated in Heights.antt.
@@ -68,16 +76,14 @@ pub record Extends (m m′ : Memory) : Type 0 where
   pub parent : (b : ℕ) → b < blockCount m → parent m′ b ≡ parent m b
 
 unfoldable pub OnlyAppended : Type 0
-OnlyAppended =
-    (m : Memory) (f : ℕ) (list : List ℕ) (calls more : List Invocation) → Execution m f list calls
-    → (List·Memᴰ reopened (history [] (endOf m f list calls) more) → ⊥) → Extends (endOf m f list calls) (run (endOf m f list calls) more)
+OnlyAppended = (x : Execution) (more : List Invocation) → OpensNone (endOf x) more → Extends (endOf x) (run (endOf x) more)
 
 -- ---- The stronger form: at the end of an execution, the blocks of any two lists that a Decide would accept are of one line, decided
 -- or not.
 
 unfoldable pub WouldAgree : Type 0
 WouldAgree =
-    (m : Memory) (f : ℕ) (list : List ℕ) (calls : List Invocation) → Execution m f list calls → (i j : ℕ) (l₁ l₂ : List ℕ)
-    → Accepted (step (endOf m f list calls) (Decide i) l₁) → Accepted (step (endOf m f list calls) (Decide j) l₂)
-    → OneChain (eventsOf m f list calls) (step (endOf m f list calls) (Decide i) l₁ .answer .first)
-    (step (endOf m f list calls) (Decide j) l₂ .answer .first)
+    (x : Execution) (i j : ℕ) (l₁ l₂ : List ℕ)
+    → Accepted (step (endOf x) (Decide i) l₁) → Accepted (step (endOf x) (Decide j) l₂)
+    → OneChain (eventsOf x) (step (endOf x) (Decide i) l₁ .answer .first)
+    (step (endOf x) (Decide j) l₂ .answer .first)

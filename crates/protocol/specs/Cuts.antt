@@ -19,7 +19,7 @@ use Rattle.protocol.specs.Calls.{issuing}
 use Rattle.protocol.specs.Runs.{Invocation, ruleOf, step, run}
 use Rattle.protocol.specs.Theorems.{Accepted}
 use Rattle.protocol.specs.History.{reopened, history}
-use Rattle.protocol.specs.Agreement.{Execution, endOf}
+use Rattle.protocol.specs.Agreement.{OpensNone, Execution, endOf}
 use Rattle.protocol.specs.Repeats.{isIssuing}
 
 -- ---- "The record gets an eighth word, the boot of its signer when it was issued": of each call that issues, accepted on any memory. The
@@ -135,17 +135,17 @@ pub record NoneAcrossCuts (m : Memory) : Type 0 where
 
 unfoldable pub OnlyAccsAndRepliesAgain : Type 0
 OnlyAccsAndRepliesAgain =
-    (m : Memory) (f : ℕ) (list : List ℕ) (calls : List Invocation) → Execution m f list calls → NoneAcrossCuts (endOf m f list calls)
+    (x : Execution) → NoneAcrossCuts (endOf x)
 
 -- ---- "A certificate before a cut isn't the one after it." After an opening and some calls, a cut of replica i, and more calls: whatever
 -- replica i issues then has a number that was not issued at the cut.
 
 unfoldable pub CutsTellApart : Type 0
 CutsTellApart =
-    (m : Memory) (f : ℕ) (list : List ℕ) (calls more : List Invocation) → Execution m f list calls → (i : ℕ) (beside : List ℕ)
-    → (let before = endOf m f list calls in
+    (x : Execution) (more : List Invocation) (i : ℕ) (beside : List ℕ)
+    → (let before = endOf x in
     let cut = step before (Reboot i) beside in
     let end = run (cut .state) more in
-    Accepted cut → (List·Memᴰ reopened (history [] (cut .state) more) → ⊥)
+    Accepted cut → OpensNone (cut .state) more
     → (call : Call) (its : List ℕ) → isIssuing call ≡ true → callerOf call ≡ i → Accepted (step end call its)
     → certificateCount before ≤ step end call its .answer .first)

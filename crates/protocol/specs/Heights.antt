@@ -2,13 +2,13 @@
 use Prim.Native.Nat.{ℕ, _<_}
 use mathlib.Core.Path.{_≡_}
 use mathlib.Core.Bool.{true}
-use mathlib.Core.List.{List, [], List·Memᴰ}
+use mathlib.Core.List.{List}
 use Rattle.protocol.specs.Memory.{Memory, blockCount, keptHeight}
 use Rattle.protocol.specs.Ancestry.{height, heightBy}
 use Rattle.protocol.specs.Form.{wellFormed}
 use Rattle.protocol.specs.Runs.{Invocation, run}
-use Rattle.protocol.specs.History.{reopened, history, givenParent}
-use Rattle.protocol.specs.Agreement.{Execution, eventsOf, endOf}
+use Rattle.protocol.specs.History.{givenParent}
+use Rattle.protocol.specs.Agreement.{OpensNone, Execution, eventsOf, endOf}
 
 -- ---- "Block 0 has height 0 and any other one more than its parent; the form test checks this for each block": so in well-formed memory the
 -- height kept with an added block is its height, by the parents in the words.
@@ -20,13 +20,11 @@ HeightsKept = (m : Memory) → wellFormed m ≡ true → (b : ℕ) → b < block
 
 unfoldable pub HeightsMatchHistory : Type 0
 HeightsMatchHistory =
-    (m : Memory) (f : ℕ) (list : List ℕ) (calls : List Invocation) → Execution m f list calls → (b : ℕ) → b < blockCount (endOf m f list calls)
-    → keptHeight (endOf m f list calls) b ≡ heightBy (givenParent (eventsOf m f list calls)) b
+    (x : Execution) (b : ℕ) → b < blockCount (endOf x) → keptHeight (endOf x) b ≡ heightBy (givenParent (eventsOf x)) b
 
 -- ---- Up to the next accepted opening it stays.
 
 unfoldable pub HeightsStay : Type 0
 HeightsStay =
-    (m : Memory) (f : ℕ) (list : List ℕ) (calls more : List Invocation) → Execution m f list calls
-    → (List·Memᴰ reopened (history [] (endOf m f list calls) more) → ⊥) → (b : ℕ) → b < blockCount (endOf m f list calls)
-    → keptHeight (run (endOf m f list calls) more) b ≡ keptHeight (endOf m f list calls) b
+    (x : Execution) (more : List Invocation) → OpensNone (endOf x) more → (b : ℕ) → b < blockCount (endOf x)
+    → keptHeight (run (endOf x) more) b ≡ keptHeight (endOf x) b

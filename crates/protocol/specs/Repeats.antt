@@ -100,10 +100,10 @@ RepeatAtOnce = (m : Memory) (list : List ℕ) → MadeAgain m list
 
 unfoldable pub RepeatChangesNothing : Type 0
 RepeatChangesNothing =
-    (m : Memory) (f : ℕ) (list : List ℕ) (calls : List Invocation) → Execution m f list calls → (call : Call) (beside : List ℕ)
-    → isIssuing call ≡ true → Accepted (step (endOf m f list calls) call beside)
-    → step (endOf m f list calls) call beside .answer .second ≡ found
-    → step (endOf m f list calls) call beside .state ≡ endOf m f list calls
+    (x : Execution) (call : Call) (beside : List ℕ)
+    → isIssuing call ≡ true → Accepted (step (endOf x) call beside)
+    → step (endOf x) call beside .answer .second ≡ found
+    → step (endOf x) call beside .state ≡ endOf x
 
 -- ---- After an opening, no Prepare and no Store finds its certificate. A replica proposes once in a view: its flag falls only as its lowest
 -- view rises. It commits once in a view: its lowest view rises past it. And a lowest view never falls, by a cut neither.
@@ -111,8 +111,8 @@ RepeatChangesNothing =
 -- Wherever this call is accepted after an opening and a list of calls, it answers that its certificate was added.
 abbrev pub NeverFound : Call → Type 0
 NeverFound call =
-    (m : Memory) (f : ℕ) (list : List ℕ) (calls : List Invocation) → Execution m f list calls → (beside : List ℕ)
-    → Accepted (step (endOf m f list calls) call beside) → step (endOf m f list calls) call beside .answer .second ≡ appended
+    (x : Execution) (beside : List ℕ)
+    → Accepted (step (endOf x) call beside) → step (endOf x) call beside .answer .second ≡ appended
 
 unfoldable pub ProposalsNeverRepeat : Type 0
 ProposalsNeverRepeat = (i b : ℕ) (justification : Justification) → NeverFound (Prepare i b justification)

@@ -7,7 +7,7 @@ use lib.ListN.{getD}
 use Rattle.protocol.specs.declared.Call.the-variants.{Open, Reboot, Reserve}
 use Rattle.protocol.specs.Memory.{Memory, replicaCount, lastStep, recovering, replica}
 use Rattle.protocol.specs.Counter.{defaultSteps, stepsFrom}
-use Rattle.protocol.specs.Runs.{Invocation, step}
+use Rattle.protocol.specs.Runs.{step}
 use Rattle.protocol.specs.Theorems.{Accepted, SameLengths}
 use Rattle.protocol.specs.Agreement.{Execution, endOf}
 
@@ -50,5 +50,4 @@ pub record MovesBy (list : List ℕ) (m : Memory) (i : ℕ) (beside : List ℕ) 
 
 unfoldable pub CountersMoveBySteps : Type 0
 CountersMoveBySteps =
-    (m : Memory) (f : ℕ) (list : List ℕ) (calls : List Invocation) → Execution m f list calls → (i : ℕ) (beside : List ℕ)
-    → MovesBy list (endOf m f list calls) i beside
+    (x : Execution) (i : ℕ) (beside : List ℕ) → MovesBy (x .list) (endOf x) i beside

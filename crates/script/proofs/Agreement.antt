@@ -218,9 +218,20 @@ script-is-execution s opening lines h =
     let start = line-starts s opening (h .opens) (h .accepted) in
     let all = runs [] (answerLine s opening .session) lines (start .carried .full) (h .once) in
     let events = rw (← start .carried .memory) at (all .events) in
+    let f = replicaIn (numbersIn opening) in
     record {
-      calls = all .calls;
-      execution = record { opened = start .opened; once = rw events (h .once) };
+      execution =
+          record {
+            start = lent f (s .memory);
+            f = f;
+            list = listIn (numbersIn opening);
+            calls = all .calls;
+            opened = start .opened;
+            once = rw events (h .once);
+          };
+      f = refl;
+      list = refl;
+      start = refl;
       events = events;
       memory = rw (← start .carried .memory) at (all .memory);
     }
@@ -228,4 +239,4 @@ script-is-execution s opening lines h =
 pub scripts-agree : ScriptsAgree
 unfolding ScriptsAgree ScriptIsExecution Agreement
 scripts-agree s opening lines h =
-    let l = script-is-execution s opening lines h in rw (l .events) at (agreement _ _ _ (l .calls) (l .execution))
+    let l = script-is-execution s opening lines h in rw (l .events) at (agreement (l .execution))

@@ -7,7 +7,6 @@ use lib.Dec.{eqb}
 use lib.ListN.{getD}
 use Rattle.protocol.specs.Memory.{Memory}
 use Rattle.protocol.specs.Outcome.{Answer}
-use Rattle.protocol.specs.Runs.{Invocation}
 use Rattle.protocol.specs.History.{Event, reopened, added, decided, other}
 use Rattle.protocol.specs.Agreement.{Agreed, Execution, eventsOf, endOf}
 use Rattle.script.specs.Lines.{fieldCount, numbers}
@@ -78,15 +77,15 @@ ScriptsAgree = (s : Session) (opening : List ℕ) (lines : List (List ℕ)) → 
 abbrev pub ledgerOf : Session → Memory
 ledgerOf s = lent (s .faultBound) (s .memory)
 
--- Calls after the same opening, of this f and with this list beside it, that tell what the lines tell and leave what they leave. (The proof
--- takes for each line its own call, or an opening of f = 0, which is refused, where the line makes none or is a refused opening.)
-pub record ExecutionOf (s : Session) (opening : List ℕ) (lines : List (List ℕ)) (f : ℕ) (list : List ℕ) : Type 0 where
-  pub calls : List Invocation
-  pub execution : Execution (lent f (s .memory)) f list calls
-  pub events : eventsOf (lent f (s .memory)) f list calls ≡ toldAfter s opening lines
-  pub memory : endOf (lent f (s .memory)) f list calls ≡ ledgerOf (sessionAfter (answerLine s opening .session) lines)
+-- An execution with the same opening, on the memory that is lent for its f, that tells what the lines tell and leaves what they leave. (The
+-- proof takes for each line its own call, or an opening of f = 0, which is refused, where the line makes none or is a refused opening.)
+pub record ExecutionOf (s : Session) (opening : List ℕ) (lines : List (List ℕ)) : Type 0 where
+  pub execution : Execution
+  pub f : execution .f ≡ replicaIn (numbersIn opening)
+  pub list : execution .list ≡ listIn (numbersIn opening)
+  pub start : execution .start ≡ lent (execution .f) (s .memory)
+  pub events : eventsOf execution ≡ toldAfter s opening lines
+  pub memory : endOf execution ≡ ledgerOf (sessionAfter (answerLine s opening .session) lines)
 
 unfoldable pub ScriptIsExecution : Type 0
-ScriptIsExecution =
-    (s : Session) (opening : List ℕ) (lines : List (List ℕ)) → OpenedOnce s opening lines
-    → ExecutionOf s opening lines (replicaIn (numbersIn opening)) (listIn (numbersIn opening))
+ScriptIsExecution = (s : Session) (opening : List ℕ) (lines : List (List ℕ)) → OpenedOnce s opening lines → ExecutionOf s opening lines

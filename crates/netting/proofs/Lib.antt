@@ -9,3 +9,4 @@ pub mod Tallying
 pub mod Answering
 pub mod Refusing
 pub mod Cases
+pub mod Claims

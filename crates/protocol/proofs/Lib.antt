@@ -41,3 +41,5 @@ pub mod Rows
 pub mod HeightCases
 pub mod CutCases
 pub mod Cases
+pub mod Witnesses
+pub mod Claims

@@ -28,4 +28,5 @@ pub mod HeightCases
 pub mod CutCases
 pub mod Cases
 pub mod Movements
+pub mod Claims
 pub mod inner

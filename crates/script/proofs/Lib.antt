@@ -6,3 +6,4 @@ pub mod Printing
 pub mod Reading
 pub mod Theorems
 pub mod Agreement
+pub mod Claims

@@ -12,3 +12,4 @@ pub mod Theorems
 pub mod Shown
 pub mod Agreement
 pub mod Cases
+pub mod Claims

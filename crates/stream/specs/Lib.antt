@@ -5,4 +5,5 @@ pub mod Turns
 pub mod Theorems
 pub mod Agreement
 pub mod Cases
+pub mod Claims
 pub mod inner

@@ -1,0 +1,112 @@
+-- Statements with premises, used at a worked execution: the premises hold there by computation. Where one premise more makes a statement
+-- empty, or less than it says, its use fails here.
+use mathlib.Core.Path.{_≡_, refl, ap, _∙_}
+use mathlib.Core.Bool.{Bool, true, false, not, _&&_, false≢true}
+use mathlib.Core.List.{List, [], _∷_, _++_, List·Memᴰ, List·Memᴰ·head, List·Memᴰ·tail, List·Memᴰ·cases-cons, List·Memᴰ·not-nil}
+use mathlib.Core.Logic.{⊎-elim}
+use Rattle.protocol.specs.declared.Call.the-variants.{Open, Block, Prepare, Store, View, Accumulate, Decide}
+use Rattle.protocol.specs.declared.Justification.the-variants.{Acc, Commits}
+use Rattle.protocol.specs.Memory.{Memory}
+use Rattle.protocol.specs.Runs.{Invocation, step}
+use Rattle.protocol.specs.History.{Event, reopened, added, decided, other, eventOf, history}
+use Rattle.protocol.specs.Agreement.{OneChain, Execution, eventsOf, endOf, Agreement, Told, WordsMatchHistory}
+use Rattle.protocol.specs.Rows.{blank, plain, _on_}
+use Rattle.protocol.proofs.Booleans.{and-true}
+use Rattle.protocol.proofs.Rows.{holds}
+
+-- ---- one execution with two decisions
+
+-- For f = 1: block 1 is proposed on an ACC and decided in view 1,
+abbrev pub firstCalls : List Invocation
+firstCalls =
+    plain (View 0 1)
+    ∷ plain (View 1 1)
+    ∷ Accumulate 0 on (0 ∷ 1 ∷ [])
+    ∷ plain (Block 0)
+    ∷ plain (Prepare 0 1 (Acc 2))
+    ∷ plain (Store 0 3)
+    ∷ plain (Store 1 3)
+    ∷ Decide 0 on (4 ∷ 5 ∷ [])
+    ∷ []
+
+-- and block 2, on it, proposed on its commits and decided in view 2.
+abbrev pub moreCalls : List Invocation
+moreCalls =
+    plain (Block 1)
+    ∷ Prepare 1 2 (Commits 1 1) on (4 ∷ 5 ∷ [])
+    ∷ plain (Store 0 6)
+    ∷ plain (Store 2 6)
+    ∷ Decide 0 on (7 ∷ 8 ∷ [])
+    ∷ []
+
+abbrev pub firstEvents : List Event
+firstEvents = decided 0 1 1 ∷ other ∷ other ∷ other ∷ added 1 0 ∷ other ∷ other ∷ other ∷ []
+
+abbrev pub moreEvents : List Event
+moreEvents = decided 0 2 2 ∷ other ∷ other ∷ other ∷ added 2 1 ∷ []
+
+abbrev opened : Memory
+opened = step (blank 1) (Open 1) [] .state
+
+-- What calls tell after the opening. Everything that the rules are made of opens with it.
+unfoldable told : List Invocation → List Event
+unfolding holds eventOf history
+told calls = history [] opened calls
+
+opens : step (blank 1) (Open 1) [] .answer .number ≡ 0
+unfolding holds
+opens = refl
+
+first-told : history [] opened firstCalls ≡ firstEvents
+unfolding told
+first-told = refl
+
+all-told : history [] opened (firstCalls ++ moreCalls) ≡ moreEvents ++ firstEvents
+unfolding told
+all-told = refl
+
+-- No accepted Open is among events.
+abbrev isReopened : Event → Bool
+isReopened reopened = true
+isReopened (added b p) = false
+isReopened (decided i b v) = false
+isReopened other = false
+
+abbrev noneReopens : List Event → Bool
+noneReopens [] = true
+noneReopens (e ∷ past) = not (isReopened e) && noneReopens past
+
+none-reopens : (events : List Event) → noneReopens events ≡ true → List·Memᴰ reopened events → ⊥
+none-reopens [] none w = List·Memᴰ·not-nil w
+none-reopens (e ∷ past) none w =
+    let both = and-true (not (isReopened e)) (noneReopens past) none in
+    ⊎-elim (λ same. false≢true (ap (λ x. not (isReopened x)) same ∙ both .0)) (none-reopens past (both .1)) (List·Memᴰ·cases-cons w)
+
+abbrev executed : (calls : List Invocation) (events : List Event) → history [] opened calls ≡ events → noneReopens events ≡ true → Execution
+executed calls events e none =
+    record { start = blank 1; f = 1; list = []; calls = calls; opened = opens; once = λ w. none-reopens events none (rw e at w) }
+
+-- The first decision alone, and both.
+pub begun : Execution
+begun = executed firstCalls firstEvents first-told refl
+
+pub worked : Execution
+worked = executed (firstCalls ++ moreCalls) (moreEvents ++ firstEvents) all-told refl
+
+pub first-decided : List·Memᴰ (decided 0 1 1) (eventsOf worked)
+unfolding worked
+first-decided = rw all-told (List·Memᴰ·in-append-right moreEvents (List·Memᴰ·head refl))
+
+pub second-decided : List·Memᴰ (decided 0 2 2) (eventsOf worked)
+unfolding worked
+second-decided = rw all-told (List·Memᴰ·head refl)
+
+-- ---- the statements, used
+
+pub agreement-used : Agreement → OneChain (eventsOf worked) 1 2
+unfolding Agreement
+agreement-used statement = statement worked .oneChain 0 1 1 0 2 2 first-decided second-decided
+
+pub words-match-history-used : WordsMatchHistory → Told (worked .f) (eventsOf worked) (endOf worked)
+unfolding WordsMatchHistory
+words-match-history-used statement = statement worked

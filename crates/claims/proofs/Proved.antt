@@ -6,9 +6,9 @@ use Rattle.protocol.proofs.Frame.{only-named-change, lengths-stay}
 use Rattle.protocol.proofs.Unread.{past-counts-unread}
 use Rattle.script.proofs.Theorems.{refused-leaves-session, before-opening, answers-printable}
 use Rattle.protocol.proofs.Values.{values-fit}
-use Rattle.protocol.proofs.Cases.{cases-hold}
+use Rattle.protocol.proofs.cases.Table.{cases-hold}
 use Rattle.stream.proofs.Theorems.{chunks-do-not-matter, turns-give-output}
-use Rattle.stream.proofs.Cases.{worked-script, worked-script-tells, worked-script-opens, steps-script}
+use Rattle.stream.proofs.cases.Scripts.{worked-script, worked-script-tells, worked-script-opens, steps-script}
 use Rattle.field.proofs.Counts.{count-is-least}
 use Rattle.field.proofs.Theorems.{written-reads-back, read-writes-back, read-is-bounded}
 use Rattle.protocol.proofs.Agreement.{agreement, words-match-history, only-appended, would-agree}
@@ -24,7 +24,7 @@ use Rattle.protocol.proofs.Cuts.{issued-with-its-boot, seven-words-decide, only
 use Rattle.netting.proofs.Theorems.{netting-changes-nothing, refused-netting-is-zero, netting-lowest-wins, netting-past-counts-unread}
 use Rattle.netting.proofs.Theorems.{balances-add-up, balances-bounded, longer-counts-more, equally-long-is-one, chain-length-is-height}
 use Rattle.netting.proofs.Theorems.{counts-match-history, longer-nets-more, netting-matches-history, decided-can-be-netted}
-use Rattle.netting.proofs.Cases.{netting-cases-hold}
+use Rattle.netting.proofs.cases.Balances.{netting-cases-hold}
 use Rattle.script.proofs.Agreement.{scripts-agree, script-is-execution}
 use Rattle.stream.proofs.Agreement.{program-agrees}
 

@@ -4,9 +4,9 @@
 use Rattle.protocol.specs.Theorems.{RefusedChangesNothing, AcceptedLeavesForm, OnlyNamedChange, LengthsStay, PastCountsUnread, LowestWins}
 use Rattle.protocol.specs.Theorems.{OpeningOrder, ValuesFit, OnlyLeadersPropose, ViewZeroHasNoLeader}
 use Rattle.script.specs.Theorems.{RefusedLeavesSession, BeforeOpening, AnswersPrintable}
-use Rattle.protocol.specs.Cases.{CasesHold}
+use Rattle.protocol.specs.cases.Table.{CasesHold}
 use Rattle.stream.specs.Theorems.{ChunksDoNotMatter, TurnsGiveOutput}
-use Rattle.stream.specs.Cases.{WorkedScript, WorkedScriptTells, WorkedScriptOpens, StepsScript}
+use Rattle.stream.specs.cases.Scripts.{WorkedScript, WorkedScriptTells, WorkedScriptOpens, StepsScript}
 use Rattle.field.specs.Theorems.{CountIsLeast, WrittenReadsBack, ReadWritesBack, ReadIsBounded}
 use Rattle.protocol.specs.Agreement.{Agreement, WordsMatchHistory, OnlyAppended, WouldAgree}
 use Rattle.panel.specs.Theorems.{PanelShowsHistory, PanelNeverFalls, PanelIsKeptHeight}
@@ -18,7 +18,7 @@ use Rattle.protocol.specs.Cuts.{IssuedWithItsBoot, SevenWordsDecide, BootsUntes
 use Rattle.netting.specs.Theorems.{NettingChangesNothing, RefusedNettingIsZero, NettingLowestWins, NettingPastCountsUnread}
 use Rattle.netting.specs.Theorems.{BalancesAddUp, BalancesBounded, LongerCountsMore, EquallyLongIsOne, ChainLengthIsHeight}
 use Rattle.netting.specs.Theorems.{CountsMatchHistory, LongerNetsMore, NettingMatchesHistory, DecidedCanBeNetted}
-use Rattle.netting.specs.Cases.{NettingCasesHold}
+use Rattle.netting.specs.cases.Balances.{NettingCasesHold}
 use Rattle.script.specs.Agreement.{ScriptsAgree, ScriptIsExecution}
 use Rattle.stream.specs.Agreement.{ProgramAgrees}
 

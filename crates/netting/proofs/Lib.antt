@@ -8,4 +8,4 @@ pub mod Moving
 pub mod Tallying
 pub mod Answering
 pub mod Refusing
-pub mod Cases
+pub mod cases

@@ -1,4 +1,4 @@
 pub mod Netting
 pub mod Theorems
-pub mod Cases
+pub mod cases
 pub mod inner

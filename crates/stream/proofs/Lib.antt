@@ -11,4 +11,4 @@ pub mod Front
 pub mod Theorems
 pub mod Shown
 pub mod Agreement
-pub mod Cases
+pub mod cases

@@ -4,5 +4,5 @@ pub mod Stream
 pub mod Turns
 pub mod Theorems
 pub mod Agreement
-pub mod Cases
+pub mod cases
 pub mod inner

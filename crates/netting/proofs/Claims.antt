@@ -4,7 +4,7 @@ use Rattle.netting.proofs.Theorems.{netting-changes-nothing, refused-ne
 use Rattle.netting.proofs.Theorems.{netting-past-counts-unread, balances-add-up, balances-bounded, longer-counts-more}
 use Rattle.netting.proofs.Theorems.{equally-long-is-one, chain-length-is-height, counts-match-history, longer-nets-more}
 use Rattle.netting.proofs.Theorems.{netting-matches-history, decided-can-be-netted}
-use Rattle.netting.proofs.Cases.{netting-cases-hold}
+use Rattle.netting.proofs.cases.Balances.{netting-cases-hold}
 
 pub claimed : Claims
 claimed =

@@ -8,5 +8,5 @@ pub mod Moving
 pub mod Tallying
 pub mod Answering
 pub mod Refusing
-pub mod Cases
+pub mod cases
 pub mod Claims

@@ -2,7 +2,7 @@
 use Rattle.netting.specs.Theorems.{NettingChangesNothing, RefusedNettingIsZero, NettingLowestWins, NettingPastCountsUnread}
 use Rattle.netting.specs.Theorems.{BalancesAddUp, BalancesBounded, LongerCountsMore, EquallyLongIsOne, ChainLengthIsHeight}
 use Rattle.netting.specs.Theorems.{CountsMatchHistory, LongerNetsMore, NettingMatchesHistory, DecidedCanBeNetted}
-use Rattle.netting.specs.Cases.{NettingCasesHold}
+use Rattle.netting.specs.cases.Balances.{NettingCasesHold}
 
 pub record Claims : Type 0 where
   -- a netting changes no word

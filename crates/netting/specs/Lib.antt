@@ -1,5 +1,5 @@
 pub mod Netting
 pub mod Theorems
-pub mod Cases
+pub mod cases
 pub mod Claims
 pub mod inner

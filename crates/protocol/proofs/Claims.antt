@@ -5,7 +5,7 @@ use Rattle.protocol.proofs.LeavesForm.{accepted-leaves-form}
 use Rattle.protocol.proofs.Frame.{only-named-change, lengths-stay}
 use Rattle.protocol.proofs.Unread.{past-counts-unread}
 use Rattle.protocol.proofs.Values.{values-fit}
-use Rattle.protocol.proofs.Cases.{cases-hold}
+use Rattle.protocol.proofs.cases.Table.{cases-hold}
 use Rattle.protocol.proofs.Agreement.{agreement, would-agree, words-match-history, only-appended}
 use Rattle.protocol.proofs.Heights.{heights-kept, heights-match-history, heights-stay}
 use Rattle.protocol.proofs.Steps.{opening-reads-nothing, without-steps-is-default, first-limit-is-first-step}

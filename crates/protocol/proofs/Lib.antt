@@ -37,9 +37,6 @@ pub mod Cuts
 pub mod Steps
 pub mod Heights
 pub mod Leaders
-pub mod Rows
-pub mod HeightCases
-pub mod CutCases
-pub mod Cases
+pub mod cases
 pub mod Witnesses
 pub mod Claims

@@ -10,9 +10,10 @@ use Rattle.protocol.specs.Memory.{Memory}
 use Rattle.protocol.specs.Runs.{Invocation, step}
 use Rattle.protocol.specs.History.{Event, reopened, added, decided, other, eventOf, history}
 use Rattle.protocol.specs.Agreement.{OneChain, Execution, eventsOf, endOf, Agreement, Told, WordsMatchHistory}
-use Rattle.protocol.specs.Rows.{blank, plain, _on_}
+use Rattle.protocol.specs.cases.Rows.{plain, _on_}
+use Rattle.protocol.specs.cases.Starts.{blank}
 use Rattle.protocol.proofs.Booleans.{and-true}
-use Rattle.protocol.proofs.Rows.{holds}
+use Rattle.protocol.proofs.cases.Rows.{wrong}
 
 -- ---- one execution with two decisions
 
@@ -50,11 +51,11 @@ opened = step (blank 1) (Open 1) [] .state
 
 -- What calls tell after the opening. Everything that the rules are made of opens with it.
 unfoldable told : List Invocation → List Event
-unfolding holds eventOf history
+unfolding wrong eventOf history
 told calls = history [] opened calls
 
 opens : step (blank 1) (Open 1) [] .answer .number ≡ 0
-unfolding holds
+unfolding wrong
 opens = refl
 
 first-told : history [] opened firstCalls ≡ firstEvents
@@ -93,9 +94,13 @@ begun = executed firstCalls firstEvents first-told refl
 pub worked : Execution
 worked = executed (firstCalls ++ moreCalls) (moreEvents ++ firstEvents) all-told refl
 
+-- What the first calls told is told by all of them.
+after-more : {e : Event} {past : List Event} → List·Memᴰ e past → List·Memᴰ e (moreEvents ++ past)
+after-more w = List·Memᴰ·tail (List·Memᴰ·tail (List·Memᴰ·tail (List·Memᴰ·tail (List·Memᴰ·tail w))))
+
 pub first-decided : List·Memᴰ (decided 0 1 1) (eventsOf worked)
 unfolding worked
-first-decided = rw all-told (List·Memᴰ·in-append-right moreEvents (List·Memᴰ·head refl))
+first-decided = rw all-told (after-more (List·Memᴰ·head refl))
 
 pub second-decided : List·Memᴰ (decided 0 2 2) (eventsOf worked)
 unfolding worked

@@ -1,7 +1,7 @@
 -- What is claimed of the ledger, its calls and lists of calls: each field is a statement of this crate; proofs/Claims.antt holds the proof of each.
 use Rattle.protocol.specs.Theorems.{RefusedChangesNothing, AcceptedLeavesForm, OnlyNamedChange, LengthsStay, PastCountsUnread}
 use Rattle.protocol.specs.Theorems.{LowestWins, OpeningOrder, ValuesFit, OnlyLeadersPropose, ViewZeroHasNoLeader}
-use Rattle.protocol.specs.Cases.{CasesHold}
+use Rattle.protocol.specs.cases.Table.{CasesHold}
 use Rattle.protocol.specs.Agreement.{Agreement, WouldAgree, WordsMatchHistory, OnlyAppended}
 use Rattle.protocol.specs.Heights.{HeightsKept, HeightsMatchHistory, HeightsStay}
 use Rattle.protocol.specs.Steps.{OpeningReadsNothing, WithoutStepsIsDefault, FirstLimitIsFirstStep, CountersMoveBySteps}

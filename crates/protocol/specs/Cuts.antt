@@ -122,7 +122,7 @@ BootsUntested =
 
 -- ---- After an opening, no PROP, COMMIT, NEWVIEW or REQ is issued again across a cut. A replica comes back at the limit that it had before, so
 -- to no view again in which it proposed, committed or entered; and a REQ has its signer's boot in its seventh word too. An ACC and a REPLY
--- can be: Accumulate and Reply refuse no view for lying below the lowest (`accAfterACut`, `replyAfterACut` in CutCases.antt).
+-- can be: Accumulate and Reply refuse no view for lying below the lowest (`accAfterACut`, `replyAfterACut` in cases/Cuts.antt).
 
 abbrev pub NotAcrossACut : Memory → Call → Type 0
 NotAcrossACut m call = (list : List ℕ) → Accepted (step m call list) → AtNoOtherBoot m (issuedIn (step m call list))

@@ -1,6 +1,6 @@
 -- What is promised, in the order of document 01: its memory, its calls, lists of calls; then the theorems' statements, those on turns, on
--- repeats, on a pool's own steps, on kept heights and on power cuts of document 02 among them, and the table of cases; and the movements of
--- document 02.
+-- repeats, on a pool's own steps, on kept heights and on power cuts of document 02 among them; and the movements of document 02. The table
+-- of cases stands apart.
 pub mod Memory
 pub mod Ancestry
 pub mod Form
@@ -19,14 +19,7 @@ pub mod Repeats
 pub mod Steps
 pub mod Heights
 pub mod Cuts
-pub mod Rows
-pub mod LeaderCases
-pub mod RepeatCases
-pub mod StepCases
-pub mod TableCases
-pub mod HeightCases
-pub mod CutCases
-pub mod Cases
 pub mod Movements
+pub mod cases
 pub mod Claims
 pub mod inner

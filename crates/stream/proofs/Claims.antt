@@ -1,7 +1,7 @@
 -- The proof of each claim.
 use Rattle.stream.specs.Claims.{Claims}
 use Rattle.stream.proofs.Theorems.{chunks-do-not-matter, turns-give-output}
-use Rattle.stream.proofs.Cases.{worked-script, steps-script, worked-script-tells, worked-script-opens}
+use Rattle.stream.proofs.cases.Scripts.{worked-script, steps-script, worked-script-tells, worked-script-opens}
 use Rattle.stream.proofs.Agreement.{program-agrees}
 
 pub claimed : Claims

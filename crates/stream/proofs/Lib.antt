@@ -11,5 +11,5 @@ pub mod Front
 pub mod Theorems
 pub mod Shown
 pub mod Agreement
-pub mod Cases
+pub mod cases
 pub mod Claims

@@ -1,6 +1,6 @@
 -- What is claimed of the program's bytes: each field is a statement of this crate; proofs/Claims.antt holds the proof of each.
 use Rattle.stream.specs.Theorems.{ChunksDoNotMatter, TurnsGiveOutput}
-use Rattle.stream.specs.Cases.{WorkedScript, StepsScript, WorkedScriptTells, WorkedScriptOpens}
+use Rattle.stream.specs.cases.Scripts.{WorkedScript, StepsScript, WorkedScriptTells, WorkedScriptOpens}
 use Rattle.stream.specs.Agreement.{ProgramAgrees}
 
 pub record Claims : Type 0 where

@@ -4,6 +4,6 @@ pub mod Stream
 pub mod Turns
 pub mod Theorems
 pub mod Agreement
-pub mod Cases
+pub mod cases
 pub mod Claims
 pub mod inner

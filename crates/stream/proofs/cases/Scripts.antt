@@ -28,8 +28,8 @@ use Rattle.script.specs.Text.{answerText}
 use Rattle.script.specs.Agreement.{eventTable, lineEvent}
 use Rattle.stream.specs.Output.{linesFrom, answersTo, output}
 use Rattle.stream.specs.Agreement.{toldHistory}
-use Rattle.stream.specs.Cases.{lineOf, textOf, workedInput, workedOutput, WorkedScript, WorkedScriptTells}
-use Rattle.stream.specs.Cases.{WorkedScriptOpens, stepsInput, stepsOutput, StepsScript}
+use Rattle.stream.specs.cases.Scripts.{lineOf, textOf, workedInput, workedOutput, WorkedScript, WorkedScriptTells}
+use Rattle.stream.specs.cases.Scripts.{WorkedScriptOpens, stepsInput, stepsOutput, StepsScript}
 
 -- What a script prints. Everything that the program is made of opens with it.
 unfoldable printed : List (List ℕ) → List ℕ

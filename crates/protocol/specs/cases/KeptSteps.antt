@@ -5,7 +5,8 @@ use lib.ListN.{replicate, set}
 use Rattle.protocol.specs.declared.Call.the-variants.{Open, View, Reboot, Reserve}
 use Rattle.protocol.specs.Memory.{Memory, memory, stepAt}
 use Rattle.protocol.specs.Outcome.{wrongForm}
-use Rattle.protocol.specs.Rows.{Case, blank, plain, accepted, refused, opened, everyCall}
+use Rattle.protocol.specs.cases.Rows.{Case, _gives_, plain, accepted, refused}
+use Rattle.protocol.specs.cases.Starts.{blank, opened, everyCallRefused}
 
 -- Word by word: three of the header, eight steps, nine words a replica.
 abbrev pub wordByWord : List ℕ
@@ -18,12 +19,15 @@ wordByWord =
     ∷ []
 
 -- "The steps are kept after the header in the table"
-unfoldable pub stepsAfterTheHeader : Case
+abbrev pub stepsAfterTheHeader : Case
 stepsAfterTheHeader =
     record {
       start = memory wordByWord (blank 1 .log) (blank 1 .blocks);
-      calls = plain (Reserve 0) ∷ plain (Reserve 2) ∷ plain (Reboot 2) ∷ [];
-      expected = accepted 4 0 ∷ accepted 4 0 ∷ accepted 1 4 ∷ [];
+      rows =
+          plain (Reserve 0) gives accepted 4 0
+          ∷ plain (Reserve 2) gives accepted 4 0
+          ∷ plain (Reboot 2) gives accepted 1 4
+          ∷ [];
     }
 
 -- A fresh ledger with one of its steps set by hand.
@@ -31,21 +35,22 @@ abbrev pub steppedBy : ℕ → ℕ → Memory
 steppedBy k value = memory (set (opened .table) (stepAt k) value) (opened .log) (opened .blocks)
 
 -- "the form test covers them": no call but opening takes a step of 0.
-unfoldable pub noStepIsZero : Case
+abbrev pub noStepIsZero : Case
 noStepIsZero =
     record {
       start = steppedBy 0 0;
-      calls = everyCall ++ (plain (Open 1) ∷ plain (Reserve 0) ∷ []);
-      expected = replicate 12 (refused wrongForm) ++ (accepted 3 0 ∷ accepted 128 0 ∷ []);
+      rows = everyCallRefused ++ (plain (Open 1) gives accepted 3 0 ∷ plain (Reserve 0) gives accepted 128 0 ∷ []);
     }
 
 -- A last step that is the one before it is none that is smaller.
-unfoldable pub equalStepsDoNotFall : Case
+abbrev pub equalStepsDoNotFall : Case
 equalStepsDoNotFall =
     record {
       start = steppedBy 7 512;
-      calls = plain (View 0 1) ∷ plain (Reserve 0) ∷ [];
-      expected = accepted 0 0 ∷ accepted 128 0 ∷ [];
+      rows =
+          plain (View 0 1) gives accepted 0 0
+          ∷ plain (Reserve 0) gives accepted 128 0
+          ∷ [];
     }
 
 -- What such a ledger gives where the step breaks the form.
@@ -53,21 +58,19 @@ abbrev pub withStep : ℕ → ℕ → Case
 withStep k value =
     record {
       start = steppedBy k value;
-      calls = plain (View 0 1) ∷ plain (Reserve 0) ∷ [];
-      expected = replicate 2 (refused wrongForm);
+      rows =
+          plain (View 0 1) gives refused wrongForm
+          ∷ plain (Reserve 0) gives refused wrongForm
+          ∷ [];
     }
 
 -- A table of so many zeros is not opened.
 abbrev pub ofLength : ℕ → Case
 ofLength words =
-    record {
-      start = memory (replicate words 0) (blank 1 .log) (blank 1 .blocks);
-      calls = plain (Open 1) ∷ [];
-      expected = refused wrongForm ∷ [];
-    }
+    record { start = memory (replicate words 0) (blank 1 .log) (blank 1 .blocks); rows = plain (Open 1) gives refused wrongForm ∷ [] }
 
 -- A step of 4,097, a fall at each pair of neighbours; and lengths about 38, that of a table for f = 1, and 30, which it would be without steps.
-unfoldable pub brokenTables : List Case
+abbrev pub brokenTables : List Case
 brokenTables =
     withStep 7 4097
     ∷ withStep 1 63
@@ -82,5 +85,5 @@ brokenTables =
     ∷ ofLength 39
     ∷ []
 
-unfoldable pub tableCases : List Case
-tableCases = stepsAfterTheHeader ∷ noStepIsZero ∷ equalStepsDoNotFall ∷ brokenTables
+unfoldable pub keptStepCases : List Case
+keptStepCases = stepsAfterTheHeader ∷ noStepIsZero ∷ equalStepsDoNotFall ∷ brokenTables

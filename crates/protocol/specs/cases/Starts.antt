@@ -1,20 +1,14 @@
--- What a row of the table of cases is, and what rows start from: memories, calls, and the worked script.
+-- What the cases start from: memories, and the worked script; and the rows of every call on memory of a broken form.
 use Prim.Native.Nat.{ℕ}
-use mathlib.Core.List.{List, [], _∷_}
+use mathlib.Core.List.{List, [], _∷_, map}
 use lib.ListN.{replicate}
-use Rattle.protocol.specs.declared.Call.{Call}
 use Rattle.protocol.specs.declared.Call.the-variants.{Open, Block, Prepare, Store, View, Accumulate, Decide, Reboot}
 use Rattle.protocol.specs.declared.Call.the-variants.{Reserve, Request, Reply, Recover}
 use Rattle.protocol.specs.declared.Justification.the-variants.{Acc, Commits}
 use Rattle.protocol.specs.Memory.{Memory, Certificate, tableLength, certificateAt, words, blockAt, appendCertificate}
-use Rattle.protocol.specs.Outcome.{Answer, wrongStatus}
+use Rattle.protocol.specs.Outcome.{wrongForm, wrongStatus}
 use Rattle.protocol.specs.Runs.{Invocation, run}
-
--- A start, calls, and the answers expected of them.
-pub record Case : Type 0 where
-  pub start : Memory
-  pub calls : List Invocation
-  pub expected : List Answer
+use Rattle.protocol.specs.cases.Rows.{Row, _gives_, plain, _on_, accepted, refused, invocationOf}
 
 -- Zeros, with a table for f and so many slots for certificates and for blocks.
 abbrev pub zeros : ℕ → ℕ → ℕ → Memory
@@ -25,56 +19,30 @@ zeros f certificates blocks =
 abbrev pub blank : ℕ → Memory
 blank f = zeros f 32 16
 
--- A call without a list, and one with a list beside it.
-abbrev pub plain : Call → Invocation
-plain call = record { call = call; list = [] }
-
-abbrev pub _on_ : Call → List ℕ → Invocation
-call on list = record { call = call; list = list }
-
-infix 68 _on_
-abbrev pub accepted : ℕ → ℕ → Answer
-accepted first second = record { number = 0; first = first; second = second }
-
-abbrev pub refused : ℕ → Answer
-refused number = record { number = number; first = 0; second = 0 }
-
 -- "Input fields: `0 1 0`, `5 0 1`, `5 1 1`, `6 1 0 0 1`, `1 0 0`, `2 1 1 2`, `4 0 3`, `8 1 0`, `4 1 3`, `4 2 3`, `7 0 0 4 5`." Document 02,
 -- #103: "In 01's script prepare and accumulate move to box 0 and the answers are worked out anew": so `6 0 0 0 1` and `2 0 1 2`; the answers
 -- come out as they were.
-abbrev pub script : List Invocation
+abbrev pub script : List Row
 script =
-    plain (Open 1)
-    ∷ plain (View 0 1)
-    ∷ plain (View 1 1)
-    ∷ Accumulate 0 on (0 ∷ 1 ∷ [])
-    ∷ plain (Block 0)
-    ∷ plain (Prepare 0 1 (Acc 2))
-    ∷ plain (Store 0 3)
-    ∷ plain (Reboot 1)
-    ∷ plain (Store 1 3)
-    ∷ plain (Store 2 3)
-    ∷ Decide 0 on (4 ∷ 5 ∷ [])
-    ∷ []
-
-abbrev pub scriptAnswers : List Answer
-scriptAnswers =
-    accepted 3 0
-    ∷ accepted 0 0
-    ∷ accepted 1 0
-    ∷ accepted 2 0
-    ∷ accepted 1 0
-    ∷ accepted 3 0
-    ∷ accepted 4 0
-    ∷ accepted 1 64
-    ∷ refused wrongStatus
-    ∷ accepted 5 0
-    ∷ accepted 1 1
+    plain (Open 1) gives accepted 3 0
+    ∷ plain (View 0 1) gives accepted 0 0
+    ∷ plain (View 1 1) gives accepted 1 0
+    ∷ Accumulate 0 on (0 ∷ 1 ∷ []) gives accepted 2 0
+    ∷ plain (Block 0) gives accepted 1 0
+    ∷ plain (Prepare 0 1 (Acc 2)) gives accepted 3 0
+    ∷ plain (Store 0 3) gives accepted 4 0
+    ∷ plain (Reboot 1) gives accepted 1 64
+    ∷ plain (Store 1 3) gives refused wrongStatus
+    ∷ plain (Store 2 3) gives accepted 5 0
+    ∷ Decide 0 on (4 ∷ 5 ∷ []) gives accepted 1 1
     ∷ []
 
 -- The memory that a list of calls leaves, from zeros.
 abbrev pub from : List Invocation → Memory
 from calls = run (blank 1) calls
+
+abbrev pub afterScript : Memory
+afterScript = from (map invocationOf script)
 
 abbrev pub opened : Memory
 opened = from (plain (Open 1) ∷ [])
@@ -98,18 +66,18 @@ abbrev pub committed : Memory
 committed = run accumulated (plain (Prepare 0 1 (Acc 2)) ∷ plain (Store 0 3) ∷ plain (Store 1 3) ∷ [])
 
 -- Every call but opening, on small numbers: where the form is broken, each gives 1.
-abbrev pub everyCall : List Invocation
-everyCall =
-    plain (Block 0)
-    ∷ plain (Prepare 0 0 (Acc 0))
-    ∷ plain (Prepare 0 0 (Commits 0 0))
-    ∷ plain (Store 0 0)
-    ∷ plain (View 0 1)
-    ∷ plain (Accumulate 0)
-    ∷ plain (Decide 0)
-    ∷ plain (Reboot 0)
-    ∷ plain (Reserve 0)
-    ∷ plain (Request 0)
-    ∷ plain (Reply 0 0)
-    ∷ plain (Recover 0)
+abbrev pub everyCallRefused : List Row
+everyCallRefused =
+    plain (Block 0) gives refused wrongForm
+    ∷ plain (Prepare 0 0 (Acc 0)) gives refused wrongForm
+    ∷ plain (Prepare 0 0 (Commits 0 0)) gives refused wrongForm
+    ∷ plain (Store 0 0) gives refused wrongForm
+    ∷ plain (View 0 1) gives refused wrongForm
+    ∷ plain (Accumulate 0) gives refused wrongForm
+    ∷ plain (Decide 0) gives refused wrongForm
+    ∷ plain (Reboot 0) gives refused wrongForm
+    ∷ plain (Reserve 0) gives refused wrongForm
+    ∷ plain (Request 0) gives refused wrongForm
+    ∷ plain (Reply 0 0) gives refused wrongForm
+    ∷ plain (Recover 0) gives refused wrongForm
     ∷ []

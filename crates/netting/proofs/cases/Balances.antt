@@ -12,7 +12,7 @@ use Rattle.protocol.specs.Calls.{freshReplicas, opening, block}
 use Rattle.protocol.specs.Runs.{ruleOf, step, run}
 use Rattle.protocol.specs.Movements.{movementAllowed, isMovementList}
 use Rattle.netting.specs.Netting.{sumBelow, palletsOf, nettingRule, netting}
-use Rattle.netting.specs.Cases.{Case, AsExpected, balances, limits, refusals, NettingCasesHold}
+use Rattle.netting.specs.cases.Balances.{Case, AsExpected, balances, limits, refusals, NettingCasesHold}
 
 -- Everything that a netting is made of opens with this.
 unfoldable answers : List Case → List (AnswerOf ℤ)

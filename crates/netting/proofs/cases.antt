@@ -1,0 +1,2 @@
+-- The table of nettings, by computation.
+pub mod Balances

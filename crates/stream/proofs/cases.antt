@@ -1,0 +1,2 @@
+-- The worked scripts, by computation.
+pub mod Scripts

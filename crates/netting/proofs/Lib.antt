@@ -9,4 +9,5 @@ pub mod Tallying
 pub mod Answering
 pub mod Refusing
 pub mod cases
+pub mod Witnesses
 pub mod Claims

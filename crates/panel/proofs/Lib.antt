@@ -1,3 +1,4 @@
 pub mod Panels
 pub mod Theorems
+pub mod Witnesses
 pub mod Claims

@@ -7,9 +7,9 @@ use mathlib.Core.Logic.{⊎-elim}
 use Rattle.protocol.specs.declared.Call.the-variants.{Open, Block, Prepare, Store, View, Accumulate, Decide}
 use Rattle.protocol.specs.declared.Justification.the-variants.{Acc, Commits}
 use Rattle.protocol.specs.Memory.{Memory}
-use Rattle.protocol.specs.Runs.{Invocation, step}
+use Rattle.protocol.specs.Runs.{Invocation, step, run}
 use Rattle.protocol.specs.History.{Event, reopened, added, decided, other, eventOf, history}
-use Rattle.protocol.specs.Agreement.{OneChain, Execution, eventsOf, endOf, Agreement, Told, WordsMatchHistory}
+use Rattle.protocol.specs.Agreement.{OneChain, OpensNone, Execution, eventsOf, endOf, Agreement, Told, WordsMatchHistory}
 use Rattle.protocol.specs.cases.Rows.{plain, _on_}
 use Rattle.protocol.specs.cases.Starts.{blank}
 use Rattle.protocol.proofs.Booleans.{and-true}
@@ -62,6 +62,10 @@ first-told : history [] opened firstCalls ≡ firstEvents
 unfolding told
 first-told = refl
 
+more-told : history [] (run opened firstCalls) moreCalls ≡ moreEvents
+unfolding told
+more-told = refl
+
 all-told : history [] opened (firstCalls ++ moreCalls) ≡ moreEvents ++ firstEvents
 unfolding told
 all-told = refl
@@ -94,17 +98,24 @@ begun = executed firstCalls firstEvents first-told refl
 pub worked : Execution
 worked = executed (firstCalls ++ moreCalls) (moreEvents ++ firstEvents) all-told refl
 
+-- No opening is among the calls after the first decision.
+pub none-opens : OpensNone (endOf begun) moreCalls
+unfolding begun
+none-opens w = none-reopens moreEvents refl (rw more-told at w)
+
 -- What the first calls told is told by all of them.
 after-more : {e : Event} {past : List Event} → List·Memᴰ e past → List·Memᴰ e (moreEvents ++ past)
 after-more w = List·Memᴰ·tail (List·Memᴰ·tail (List·Memᴰ·tail (List·Memᴰ·tail (List·Memᴰ·tail w))))
 
-pub first-decided : List·Memᴰ (decided 0 1 1) (eventsOf worked)
+pub worked-told : eventsOf worked ≡ moreEvents ++ firstEvents
 unfolding worked
-first-decided = rw all-told (after-more (List·Memᴰ·head refl))
+worked-told = all-told
+
+pub first-decided : List·Memᴰ (decided 0 1 1) (eventsOf worked)
+first-decided = rw worked-told (after-more (List·Memᴰ·head refl))
 
 pub second-decided : List·Memᴰ (decided 0 2 2) (eventsOf worked)
-unfolding worked
-second-decided = rw all-told (List·Memᴰ·head refl)
+second-decided = rw worked-told (List·Memᴰ·head refl)
 
 -- ---- the statements, used
 

@@ -15,7 +15,7 @@ use Rattle.netting.specs.Netting.{sumBelow, palletsOf, nettingRule, nett
 use Rattle.netting.specs.cases.Balances.{Case, AsExpected, balances, limits, refusals, NettingCasesHold}
 
 -- Everything that a netting is made of opens with this.
-unfoldable answers : List Case → List (AnswerOf ℤ)
+unfoldable pub answers : List Case → List (AnswerOf ℤ)
 unfolding update appendBlock ancestorWithin allHold allBelow blockFormed replicaFormed certificateFormed lengthsFit countsFit
     stepsFormed wellFormed stepsFrom stepsAllowed firstRefusal answered follow freshReplicas opening block ruleOf step run movementAllowed
     isMovementList sumBelow palletsOf nettingRule netting

@@ -27,7 +27,7 @@ abbrev unopened : Memory
 unopened = memory (replicate (tableLength 1) 0) [] (replicate (blockAt 6) 0)
 
 -- Block 1 on block 0, blocks 2 and 3 on block 1, block 4 on block 2, block 5 on block 4.
-abbrev forked : Memory
+abbrev pub forked : Memory
 forked =
     run unopened (plain (Open 1) ∷ plain (Block 0) ∷ plain (Block 1) ∷ plain (Block 1) ∷ plain (Block 2) ∷ plain (Block 4) ∷ [])
 
@@ -36,7 +36,7 @@ abbrev moves : ℕ → ℕ → ℕ → ℕ → List ℕ
 moves block giver taker pallets = block ∷ giver ∷ taker ∷ pallets ∷ []
 
 -- A movement in each of blocks 1, 2 and 3, and one that no list may hold.
-abbrev day : List ℕ
+abbrev pub day : List ℕ
 day = moves 1 0 1 5 ++ (moves 2 1 2 3 ++ moves 3 2 0 7)
 
 abbrev broken : List ℕ

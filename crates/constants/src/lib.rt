@@ -47,15 +47,6 @@ ghost use Rattle.protocol.specs.Memory.{
 ghost use Rattle.protocol.specs.Form.{maxStep, lastKind};
 ghost use Rattle.protocol.specs.Certificates as Kinds;
 ghost use Rattle.protocol.specs.Certificates.{found, appended};
-ghost use Rattle.protocol.specs.Movements.{
-  movementWords,
-  movementBlockAt,
-  giverAt,
-  takerAt,
-  palletsAt,
-  maxPallets,
-  maxMovements,
-};
 ghost use Rattle.protocol.specs.Outcome as Refusals;
 
 pub const MAX_FAULT_BOUND: u32 = 30;
@@ -166,24 +157,9 @@ pub const HEIGHT_AT: usize = 1;
 
 pub const MAX_BLOCKS: u32 = 4096;
 
-// The movements.
-pub const MOVEMENT_WORDS: usize = 4;
-
-pub const MOVEMENT_BLOCK_AT: usize = 0;
-
-pub const GIVER_AT: usize = 1;
-
-pub const TAKER_AT: usize = 2;
-
-pub const PALLETS_AT: usize = 3;
-
-pub const MAX_PALLETS: u32 = 10000;
-
-pub const MAX_MOVEMENTS: usize = 2048;
-
-// The largest f, view, view limit and boot, step of the counter, number of certificates and of blocks, and pallets of a movement.
-pub fn limits() -> [u32; 6]
-    ensures { λ r. ⌜ r ≡ maxFaultBound ∷ ceiling ∷ maxStep ∷ maxCertificates ∷ maxBlocks ∷ maxPallets ∷ [] ⌝ }
+// The largest f, view, view limit and boot, step of the counter, number of certificates and of blocks.
+pub fn limits() -> [u32; 5]
+    ensures { λ r. ⌜ r ≡ maxFaultBound ∷ ceiling ∷ maxStep ∷ maxCertificates ∷ maxBlocks ∷ [] ⌝ }
 {
     [
         MAX_FAULT_BOUND,
@@ -191,20 +167,18 @@ pub fn limits() -> [u32; 6]
         MAX_STEP,
         MAX_CERTIFICATES,
         MAX_BLOCKS,
-        MAX_PALLETS,
     ]
 }
 
-// The most replicas and movements.
-pub fn most() -> [usize; 2]
-    ensures { λ r. ⌜ r ≡ replicaCount maxFaultBound ∷ maxMovements ∷ [] ⌝ }
+pub fn most_replicas() -> usize
+    ensures { λ r. ⌜ r ≡ replicaCount maxFaultBound ⌝ }
 {
-    [MAX_REPLICAS, MAX_MOVEMENTS]
+    MAX_REPLICAS
 }
 
-// The words of the header, the steps, a replica, a certificate, a block and a movement.
-pub fn widths() -> [usize; 6]
-    ensures { λ r. ⌜ r ≡ headerWords ∷ stepCount ∷ replicaWords ∷ certificateWords ∷ blockWords ∷ movementWords ∷ [] ⌝ }
+// The words of the header, the steps, a replica, a certificate and a block.
+pub fn widths() -> [usize; 5]
+    ensures { λ r. ⌜ r ≡ headerWords ∷ stepCount ∷ replicaWords ∷ certificateWords ∷ blockWords ∷ [] ⌝ }
 {
     [
         HEADER_WORDS,
@@ -212,7 +186,6 @@ pub fn widths() -> [usize; 6]
         REPLICA_WORDS,
         CERTIFICATE_WORDS,
         BLOCK_WORDS,
-        MOVEMENT_WORDS,
     ]
 }
 
@@ -272,12 +245,6 @@ pub fn block_offsets() -> [usize; BLOCK_WORDS]
     ensures { λ r. ⌜ r ≡ parentAt ∷ heightAt ∷ [] ⌝ }
 {
     [PARENT_AT, HEIGHT_AT]
-}
-
-pub fn movement_offsets() -> [usize; MOVEMENT_WORDS]
-    ensures { λ r. ⌜ r ≡ movementBlockAt ∷ giverAt ∷ takerAt ∷ palletsAt ∷ [] ⌝ }
-{
-    [MOVEMENT_BLOCK_AT, GIVER_AT, TAKER_AT, PALLETS_AT]
 }
 
 pub fn kinds() -> [u32; 7]

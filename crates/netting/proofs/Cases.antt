@@ -9,7 +9,7 @@ use Rattle.protocol.specs.Counter.{stepsFrom, stepsAllowed}
 use Rattle.protocol.specs.Outcome.{firstRefusal, answered, follow}
 use Rattle.protocol.specs.Calls.{freshReplicas, opening, block}
 use Rattle.protocol.specs.Runs.{ruleOf, step, run}
-use Rattle.protocol.specs.Movements.{movementAllowed, isMovementList}
+use Rattle.movements.specs.Movements.{movementAllowed, isMovementList}
 use Rattle.netting.specs.declared.Netted.{Netted}
 use Rattle.netting.specs.Netting.{sumBelow, palletsOf, nettingNeeds, nettingAnswer, netting}
 use Rattle.netting.specs.Cases.{Case, AsExpected, balances, limits, refusals, NettingCasesHold}

@@ -9,9 +9,9 @@ use Rattle.protocol.specs.Memory.{memory, replicaCount, faultBound, blockCount}
 use Rattle.protocol.specs.Form.{lengthsFit, wellFormed}
 use Rattle.protocol.specs.Outcome.{firstRefusal, wrongForm, unknownNumber}
 use Rattle.protocol.specs.FirstNeeds.{isReplica, isBlock, replicaNeeds}
-use Rattle.protocol.specs.Movements.{isMovementList}
 use Rattle.protocol.proofs.Booleans.{tests, by-test, each}
 use Rattle.protocol.proofs.Formed.{form}
+use Rattle.movements.specs.Movements.{isMovementList}
 use Rattle.ancestry.proofs.Fitting.{ancestry-fits}
 use Rattle.checks.specs.declared.FoundReplica.{FoundReplica}
 use Rattle.checks.specs.declared.FoundReplica.the-variants as OfReplica

@@ -13,13 +13,14 @@ use Rattle.protocol.specs.Runs.{Invocation}
 use Rattle.protocol.specs.Theorems.{Alike}
 use Rattle.protocol.specs.History.{decided, givenParent}
 use Rattle.protocol.specs.Agreement.{Execution, eventsOf, endOf, Agreement}
-use Rattle.protocol.specs.Movements.{movement, movementCount}
 use Rattle.protocol.proofs.Booleans.{tests}
 use Rattle.protocol.proofs.Needs.{failing-need, lowest-refusal}
 use Rattle.protocol.proofs.Formed.{formed, form, falls}
 use Rattle.protocol.proofs.Alike.{twin, parent-same, form-same}
 use Rattle.protocol.proofs.Reached.{Reached, given-falls, chosen-known}
 use Rattle.protocol.proofs.Agreement.{reached-by, agreement}
+use Rattle.movements.specs.Movements.{movement, movementCount}
+use Rattle.movements.proofs.Allowed.{is-allowed, list-short}
 use Rattle.netting.specs.Netting.{sumBelow, received, given, countsBy, balanceBy, nettingNeeds, nettingAnswer, netting}
 use Rattle.netting.specs.Theorems.{AcceptedNetting, NettingChangesNothing, RefusedNetting, RefusedNettingIsZero}
 use Rattle.netting.specs.Theorems.{NettingLowestWins, NettingPastCountsUnread}
@@ -28,8 +29,7 @@ use Rattle.netting.specs.Theorems.{chainLength, ChainLengthIsHeight, Cou
 use Rattle.netting.specs.Theorems.{NettingMatchesHistory, DecidedCanBeNetted}
 use Rattle.netting.proofs.Sums.{over-firms, total-same, total-less}
 use Rattle.netting.proofs.Chains.{chain-same, chain-of-chain, chain-as-high, chain-length}
-use Rattle.netting.proofs.Nettings.{balance-same, balance-small, is-allowed, list-short, number-is, passes, nets, answers}
-use Rattle.netting.proofs.Nettings.{accepted-netting}
+use Rattle.netting.proofs.Nettings.{balance-same, balance-small, number-is, passes, nets, answers, accepted-netting}
 
 pub netting-changes-nothing : NettingChangesNothing
 unfolding NettingChangesNothing netting

@@ -27,5 +27,4 @@ pub mod TableCases
 pub mod HeightCases
 pub mod CutCases
 pub mod Cases
-pub mod Movements
 pub mod inner

@@ -1,4 +1,4 @@
-// What the code and the definitions share: a call, the answer to it with its refusals, what lets a leader propose, and a movement.
+// What the code and the definitions share: a call, the answer to it with its refusals, and what lets a leader propose.
 
 // The number that a call returns, 0 where it is accepted, and its two values.
 pub struct Answer {
@@ -69,12 +69,4 @@ pub enum Call {
     Reply(u32, u32),
     // replica
     Recover(u32),
-}
-
-// A movement of pallets (document 02, #101): the block that it stands in, the replica whose firm gave, the one whose firm took, how many.
-pub struct Movement {
-    pub block: u32,
-    pub giver: u32,
-    pub taker: u32,
-    pub pallets: u32,
 }

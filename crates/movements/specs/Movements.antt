@@ -5,8 +5,8 @@ use mathlib.Core.Bool.{Bool, not}
 use mathlib.Core.List.{List, [], _∷_}
 use lib.ListN.{length, getD}
 use lib.Dec.{ltb, leb, eqb}
-use Rattle.protocol.specs.declared.Movement.{Movement}
 use Rattle.protocol.specs.Form.{allHold}
+use Rattle.movements.specs.declared.Movement.{Movement}
 
 -- "A movement is four words: block, giver, taker, pallets."
 abbrev pub movementWords : ℕ

@@ -1,9 +1,9 @@
 use mathlib.Core.List.{[], _∷_}
 use borrow.Author.Needs.{needs}
-use Rattle.protocol.specs.Movements.{isMovementList}
 use Rattle.protocol.proofs.Joined.{joined-all}
-use Rattle.netting.proofs.is_movement_list.Statement.{statement}
-use Rattle.netting.proofs.is_movement_list.Tie as tie
+use Rattle.movements.specs.Movements.{isMovementList}
+use Rattle.movements.proofs.is_movement_list.Statement.{statement}
+use Rattle.movements.proofs.is_movement_list.Tie as tie
 
 returns : tie.Need-returns
 unfolding isMovementList

@@ -1,8 +1,8 @@
 use mathlib.Core.List.{[], _∷_}
-use Rattle.protocol.specs.Movements.{movementAllowed}
 use Rattle.protocol.proofs.Joined.{joined-all}
-use Rattle.netting.proofs.is_allowed.Statement.{statement}
-use Rattle.netting.proofs.is_allowed.Tie as tie
+use Rattle.movements.specs.Movements.{movementAllowed}
+use Rattle.movements.proofs.is_allowed.Statement.{statement}
+use Rattle.movements.proofs.is_allowed.Tie as tie
 
 returns : tie.Need-returns
 unfolding movementAllowed

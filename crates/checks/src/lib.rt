@@ -17,14 +17,14 @@ ghost use Rattle.checks.specs.inner.Verdicts.{
   certificateRefusal,
 };
 use certificates::Certificate;
-use constants::CERTIFICATE_COUNT_AT;
-use constants::FAULT_BOUND_AT;
 use protocol::ACCEPTED;
 use protocol::Answer;
 use protocol::OUT_OF_RANGE;
 use protocol::UNKNOWN_NUMBER;
 use protocol::WRONG_FORM;
 use records::Replica;
+use table::CERTIFICATE_COUNT_AT;
+use table::FAULT_BOUND_AT;
 
 pub fn accepted(first: u32, second: u32) -> Answer
     ensures { λ r. ⌜ r ≡ record { number = 0; first = first; second = second } ⌝ }

@@ -62,11 +62,11 @@ fn claimed_word(table: &[u32], log: &[u32], list: &[u32], at: usize) -> u32
     if list.len() == 0 {
         return 0;
     }
-    if table.len() <= constants::CERTIFICATE_COUNT_AT {
+    if table.len() <= table::CERTIFICATE_COUNT_AT {
         return 0;
     }
     let number = list[0];
-    if table[constants::CERTIFICATE_COUNT_AT] <= number {
+    if table[table::CERTIFICATE_COUNT_AT] <= number {
         return 0;
     }
     let index = layout::certificate_at(number) + at;
@@ -98,8 +98,8 @@ pub fn coded_call(
             }
         }
         3 => {
-            let view = claimed_word(table, log, list, constants::VIEW_AT);
-            let block = claimed_word(table, log, list, constants::PROPOSED_BLOCK_AT);
+            let view = claimed_word(table, log, list, log::VIEW_AT);
+            let block = claimed_word(table, log, list, log::PROPOSED_BLOCK_AT);
             coded_when(
                 is_short(0, list),
                 Call::Prepare(replica, number, Justification::Commits(view, block)),

@@ -1,6 +1,27 @@
 // The form that every call but opening tests (document 01, "Memory", the paragraph "Form"). In a full memory it is most of a call's time.
 use crate::*;
-use constants::*;
+use blocks::BLOCK_WORDS;
+use blocks::MAX_BLOCKS;
+use log::CERTIFICATE_WORDS;
+use log::MAX_CERTIFICATES;
+use table::BLOCK_COUNT_AT;
+use table::BOOT_AT;
+use table::CEILING;
+use table::CERTIFICATE_COUNT_AT;
+use table::DECIDED_BLOCK_AT;
+use table::DECIDED_VIEW_AT;
+use table::FAULT_BOUND_AT;
+use table::FLAG_AT;
+use table::MAX_FAULT_BOUND;
+use table::MIN_VIEW_AT;
+use table::RAISED;
+use table::RETIRED;
+use table::ROW_START;
+use table::STATUS_AT;
+use table::STEPS_AT;
+use table::STORED_BLOCK_AT;
+use table::STORED_VIEW_AT;
+use table::VIEW_LIMIT_AT;
 ghost use mathlib.Core.Path.{_≡_};
 ghost use Prim.Native.Nat.{_+_, _≤_};
 ghost use lib.ListN.{length};

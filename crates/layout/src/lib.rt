@@ -4,9 +4,9 @@ ghost use mathlib.Core.Path.{_≡_};
 ghost use Prim.Native.Nat.{_+_, _≤_, _<_};
 ghost use lib.ListN.{length, getD, set};
 ghost use Rattle.protocol.specs.Memory.{maxFaultBound, replicaCount, rowAt, certificateAt};
-use constants::CERTIFICATE_WORDS;
-use constants::REPLICA_WORDS;
-use constants::ROW_START;
+use log::CERTIFICATE_WORDS;
+use table::REPLICA_WORDS;
+use table::ROW_START;
 
 pub mod form;
 

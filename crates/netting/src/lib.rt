@@ -14,17 +14,17 @@ ghost use Rattle.netting.specs.inner.Tallies.{
   Nettable,
   balanceAnswer,
 };
+use blocks::MAX_BLOCKS;
 use checks::FoundReplica;
-use constants::BLOCK_COUNT_AT;
-use constants::FAULT_BOUND_AT;
-use constants::MAX_BLOCKS;
-use constants::MAX_REPLICAS;
 use movements::MOVEMENT_WORDS;
 use movements::Movement;
 use protocol::ACCEPTED;
 use protocol::UNKNOWN_NUMBER;
 use protocol::WRONG_FORM;
 use protocol::WRONG_MOVEMENT;
+use table::BLOCK_COUNT_AT;
+use table::FAULT_BOUND_AT;
+use table::MAX_REPLICAS;
 
 // The number that a netting returns, 0 where it is accepted, and its two values: a balance and 0.
 pub struct Netted {

@@ -1,5 +1,9 @@
 // What the code and the definitions share: a call, the answer to it with its refusals, and what lets a leader propose.
 
+ghost use mathlib.Core.Path.{_≡_};
+ghost use mathlib.Core.List.{[], _∷_};
+ghost use Rattle.protocol.specs.Outcome as Refusals;
+
 // The number that a call returns, 0 where it is accepted, and its two values.
 pub struct Answer {
     pub number: u32,
@@ -37,6 +41,29 @@ pub const WRONG_MOVEMENT: u32 = 11;
 
 // "steps that break these rules or aren't eight" (document 02, #104): for an opening.
 pub const WRONG_STEPS: u32 = 12;
+
+// They are the definitions': nothing calls this.
+pub fn refusals() -> [u32; 12]
+    ensures { λ r. ⌜ r
+        ≡ Refusals.wrongForm ∷ Refusals.outOfRange ∷ Refusals.unknownNumber ∷ Refusals.wrongStatus ∷ Refusals.wrongCertificate
+        ∷ Refusals.wrongBlock ∷ Refusals.wrongView ∷ Refusals.counterLimit ∷ Refusals.noRoom ∷ Refusals.unreadable
+        ∷ Refusals.wrongMovement ∷ Refusals.wrongSteps ∷ [] ⌝ }
+{
+    [
+        WRONG_FORM,
+        OUT_OF_RANGE,
+        UNKNOWN_NUMBER,
+        WRONG_STATUS,
+        WRONG_CERTIFICATE,
+        WRONG_BLOCK,
+        WRONG_VIEW,
+        COUNTER_LIMIT,
+        NO_ROOM,
+        UNREADABLE,
+        WRONG_MOVEMENT,
+        WRONG_STEPS,
+    ]
+}
 
 // What lets a leader propose (document 01: the ground of a proposal): the number of an ACC, or the view and the block of a
 // commit quorum, whose numbers are the list beside the call.

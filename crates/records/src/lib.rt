@@ -36,15 +36,15 @@ pub fn replica_in(table: &[u32], replica: u32) -> Replica
     ensures { λ r. ⌜ r ≡ replicaFrom (replicaAt (memory (now (table .entry)) [] []) replica) ⌝ }
 {
     Replica {
-        status: replica_word(table, replica, constants::STATUS_AT),
-        boot: replica_word(table, replica, constants::BOOT_AT),
-        min_view: replica_word(table, replica, constants::MIN_VIEW_AT),
-        view_limit: replica_word(table, replica, constants::VIEW_LIMIT_AT),
-        flag: replica_word(table, replica, constants::FLAG_AT),
-        stored_view: replica_word(table, replica, constants::STORED_VIEW_AT),
-        stored_block: replica_word(table, replica, constants::STORED_BLOCK_AT),
-        decided_view: replica_word(table, replica, constants::DECIDED_VIEW_AT),
-        decided_block: replica_word(table, replica, constants::DECIDED_BLOCK_AT),
+        status: replica_word(table, replica, table::STATUS_AT),
+        boot: replica_word(table, replica, table::BOOT_AT),
+        min_view: replica_word(table, replica, table::MIN_VIEW_AT),
+        view_limit: replica_word(table, replica, table::VIEW_LIMIT_AT),
+        flag: replica_word(table, replica, table::FLAG_AT),
+        stored_view: replica_word(table, replica, table::STORED_VIEW_AT),
+        stored_block: replica_word(table, replica, table::STORED_BLOCK_AT),
+        decided_view: replica_word(table, replica, table::DECIDED_VIEW_AT),
+        decided_block: replica_word(table, replica, table::DECIDED_BLOCK_AT),
     }
 }
 
@@ -68,13 +68,13 @@ pub fn certificate_in(log: &[u32], number: u32) -> Certificate
     ensures { λ r. ⌜ r ≡ certificateFrom (certificate (memory [] (now (log .entry)) []) number) ⌝ }
 {
     Certificate {
-        kind: certificate_word(log, number, constants::KIND_AT),
-        signer: certificate_word(log, number, constants::SIGNER_AT),
-        view: certificate_word(log, number, constants::VIEW_AT),
-        block: certificate_word(log, number, constants::PROPOSED_BLOCK_AT),
-        of_view: certificate_word(log, number, constants::OF_VIEW_AT),
-        subject: certificate_word(log, number, constants::SUBJECT_AT),
-        subject_boot: certificate_word(log, number, constants::SUBJECT_BOOT_AT),
-        signer_boot: certificate_word(log, number, constants::SIGNER_BOOT_AT),
+        kind: certificate_word(log, number, log::KIND_AT),
+        signer: certificate_word(log, number, log::SIGNER_AT),
+        view: certificate_word(log, number, log::VIEW_AT),
+        block: certificate_word(log, number, log::PROPOSED_BLOCK_AT),
+        of_view: certificate_word(log, number, log::OF_VIEW_AT),
+        subject: certificate_word(log, number, log::SUBJECT_AT),
+        subject_boot: certificate_word(log, number, log::SUBJECT_BOOT_AT),
+        signer_boot: certificate_word(log, number, log::SIGNER_BOOT_AT),
     }
 }

@@ -19,22 +19,22 @@ use checks::Tested;
 use checks::accepted;
 use checks::need;
 use checks::refused;
-use constants::FLAG_AT;
-use constants::LIVE;
-use constants::LOWERED;
-use constants::MIN_VIEW_AT;
-use constants::RECOVERING;
-use constants::REPLY;
-use constants::REQ;
-use constants::STATUS_AT;
-use constants::STORED_BLOCK_AT;
-use constants::STORED_VIEW_AT;
 use issuing::issue;
+use log::REPLY;
+use log::REQ;
 use protocol::Answer;
 use protocol::COUNTER_LIMIT;
 use protocol::WRONG_CERTIFICATE;
 use protocol::WRONG_STATUS;
 use records::Replica;
+use table::FLAG_AT;
+use table::LIVE;
+use table::LOWERED;
+use table::MIN_VIEW_AT;
+use table::RECOVERING;
+use table::STATUS_AT;
+use table::STORED_BLOCK_AT;
+use table::STORED_VIEW_AT;
 
 // What a restarted replica asks the others with.
 fn req(replica: u32, r: Replica) -> Certificate

@@ -6,10 +6,10 @@ ghost use lib.ListN.{length};
 ghost use Rattle.protocol.specs.Memory.{memory, certificateAt, certificateWords, words, appendCertificate};
 ghost use Rattle.protocol.specs.Certificates.{firstBelow, found, appended};
 ghost use Rattle.protocol.specs.inner.Groups.{fourOk};
+ghost use Rattle.log.specs.inner.Certificates.{certificateOf};
 ghost use Rattle.certificates.specs.inner.Filing.{
   LogFits,
   LogHasRoom,
-  certificateOf,
   equalFrom,
   isEqual,
   isOfOtherView,
@@ -18,6 +18,7 @@ ghost use Rattle.certificates.specs.inner.Filing.{
   filingRefusal,
 };
 use log::CERTIFICATE_WORDS;
+use log::Certificate;
 use log::KIND_AT;
 use log::OF_VIEW_AT;
 use log::PROPOSED_BLOCK_AT;
@@ -29,17 +30,6 @@ use log::VIEW_AT;
 use protocol::ACCEPTED;
 use protocol::NO_ROOM;
 use table::CERTIFICATE_COUNT_AT;
-
-pub struct Certificate {
-    pub kind: u32,
-    pub signer: u32,
-    pub view: u32,
-    pub block: u32,
-    pub of_view: u32,
-    pub subject: u32,
-    pub subject_boot: u32,
-    pub signer_boot: u32,
-}
 
 // What filing tells of a certificate: the second value of the call that issues it.
 pub const FOUND: u32 = 1;

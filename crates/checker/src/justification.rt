@@ -66,7 +66,7 @@ pub fn judge(log: &[u32], replica: u32, justification: Justification, list: &[u3
 {
     match justification {
         Justification::Acc(number) => {
-            let acc = records::certificate_in(log, number);
+            let acc = log::certificate_in(log, number);
             if (acc.kind == ACC) & (acc.signer == replica) {
                 return Judgement::By(Justified {
                     view: acc.view,

@@ -13,13 +13,12 @@ ghost use Rattle.protocol.specs.Calls.{
   store as storeRule,
   view as viewRule,
 };
-ghost use Rattle.certificates.specs.inner.Filing.{certificateOf};
+ghost use Rattle.log.specs.inner.Certificates.{certificateOf};
 ghost use Rattle.records.specs.inner.Replicas.{replicaOf};
 ghost use Rattle.checks.specs.inner.Verdicts.{tested};
 use self::justification::Judgement;
 use self::justification::Justified;
 use blocks::ROOT;
-use certificates::Certificate;
 use checks::FoundCertificate;
 use checks::FoundReplica;
 use checks::Tested;
@@ -28,6 +27,7 @@ use checks::refused;
 use issuing::issue;
 use leader::FIRST_VIEW;
 use log::COMMIT;
+use log::Certificate;
 use log::NEWVIEW;
 use log::PROP;
 use protocol::Answer;

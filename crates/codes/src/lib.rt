@@ -69,7 +69,7 @@ fn claimed_word(table: &[u32], log: &[u32], list: &[u32], at: usize) -> u32
     if table[table::CERTIFICATE_COUNT_AT] <= number {
         return 0;
     }
-    let index = layout::certificate_at(number) + at;
+    let index = log::certificate_at(number) + at;
     if log.len() <= index {
         return 0;
     }

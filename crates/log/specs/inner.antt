@@ -1,2 +1,3 @@
 -- What the contracts of inner functions cite: nothing to believe.
+pub mod Certificates
 pub mod Records

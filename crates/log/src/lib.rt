@@ -1,12 +1,14 @@
-// The certificate log: its numbers and kinds, and the form of each issued certificate. In a full memory that is the longest part of the form
-// test.
+// The certificate log: its numbers and kinds, where a certificate stands, how it is read, and the form of all that are issued. In a full
+// memory that is the longest part of the form test.
 ghost use mathlib.Core.Path.{_≡_};
 ghost use mathlib.Core.List.{[], _∷_};
-ghost use Prim.Native.Nat.{_+_, _≤_};
-ghost use lib.ListN.{length};
+ghost use Prim.Native.Nat.{_+_, _≤_, _<_};
+ghost use lib.ListN.{length, getD};
 ghost use Rattle.protocol.specs.Memory.{
+  memory,
   certificateWords,
   certificateAt,
+  certificate,
   kindAt,
   signerAt,
   viewAt,
@@ -19,6 +21,7 @@ ghost use Rattle.protocol.specs.Memory.{
 };
 ghost use Rattle.protocol.specs.Form.{allBelow, lastKind};
 ghost use Rattle.protocol.specs.Certificates as Kinds;
+ghost use Rattle.log.specs.inner.Certificates.{certificateFrom};
 ghost use Rattle.log.specs.inner.Records.{certificateOk, hasKind, exceeds, groupSize, groupHasKinds, groupExceeds};
 use table::CEILING;
 
@@ -86,6 +89,49 @@ pub fn kinds() -> [u32; 7]
         ≡ Kinds.PROP ∷ Kinds.COMMIT ∷ Kinds.NEWVIEW ∷ Kinds.ACC ∷ Kinds.REQ ∷ Kinds.REPLY ∷ lastKind ∷ [] ⌝ }
 {
     [PROP, COMMIT, NEWVIEW, ACC, REQ, REPLY, LAST_KIND]
+}
+
+pub struct Certificate {
+    pub kind: u32,
+    pub signer: u32,
+    pub view: u32,
+    pub block: u32,
+    pub of_view: u32,
+    pub subject: u32,
+    pub subject_boot: u32,
+    pub signer_boot: u32,
+}
+
+// Where a certificate starts.
+pub fn certificate_at(number: u32) -> usize
+    ensures { λ r. ⌜ r ≡ certificateAt number ⌝ }
+{
+    CERTIFICATE_WORDS * (number as usize)
+}
+
+// A word of a certificate, by its index in it.
+pub fn certificate_word(log: &[u32], number: u32, at: usize) -> u32
+    requires { ⌜ certificateAt number + at < length (now log) ⌝ }
+    ensures { λ r. ⌜ r ≡ getD (now (log .entry)) (certificateAt number + at) 0 ⌝ }
+{
+    log[certificate_at(number) + at]
+}
+
+// A certificate read whole, so that each word is read once.
+pub fn certificate_in(log: &[u32], number: u32) -> Certificate
+    requires { ⌜ certificateAt number + certificateWords ≤ length (now log) ⌝ }
+    ensures { λ r. ⌜ r ≡ certificateFrom (certificate (memory [] (now (log .entry)) []) number) ⌝ }
+{
+    Certificate {
+        kind: certificate_word(log, number, KIND_AT),
+        signer: certificate_word(log, number, SIGNER_AT),
+        view: certificate_word(log, number, VIEW_AT),
+        block: certificate_word(log, number, PROPOSED_BLOCK_AT),
+        of_view: certificate_word(log, number, OF_VIEW_AT),
+        subject: certificate_word(log, number, SUBJECT_AT),
+        subject_boot: certificate_word(log, number, SUBJECT_BOOT_AT),
+        signer_boot: certificate_word(log, number, SIGNER_BOOT_AT),
+    }
 }
 
 // How many certificates a turn of the loop tests.

@@ -148,6 +148,6 @@ pub fn net(
     if added <= block {
         return refused(UNKNOWN_NUMBER);
     }
-    let replicas = layout::replica_count(table[FAULT_BOUND_AT]);
+    let replicas = table::replica_count(table[FAULT_BOUND_AT]);
     balance_at(blocks, movements, block, replica, replicas, added)
 }

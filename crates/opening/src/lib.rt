@@ -86,18 +86,18 @@ pub fn open_ledger(
     ensures { λ r. ⌜ outcome r (now (table .exit)) (now (log .exit)) (now (blocks .exit))
         ≡ outcomeBy (λ m. openingRule m f (now (list .entry))) (now (table .entry)) (now (log .entry)) (now (blocks .entry)) ⌝ }
 {
-    if !layout::form::is_fault_bound(f) {
+    if !form::is_fault_bound(f) {
         return refused(OUT_OF_RANGE);
     }
     if !counter::steps_allowed(list) {
         return refused(WRONG_STEPS);
     }
-    if !layout::form::lengths_fit(table, log, blocks, f) {
+    if !form::lengths_fit(table, log, blocks, f) {
         return refused(WRONG_FORM);
     }
     fresh_header(table, blocks, f);
     let limit = counter::open_steps(table, list);
-    let replicas = layout::replica_count(f);
+    let replicas = table::replica_count(f);
     fresh_rows(table, replicas, limit);
     accepted(replicas, 0)
 }
@@ -107,7 +107,7 @@ pub fn block(table: &mut [u32], log: &mut [u32], blocks: &mut [u32], parent: u32
     ensures { λ r. ⌜ outcome r (now (table .exit)) (now (log .exit)) (now (blocks .exit))
         ≡ outcomeBy (λ m. blockRule m parent) (now (table .entry)) (now (log .entry)) (now (blocks .entry)) ⌝ }
 {
-    if layout::form::is_well_formed(table, log, blocks) {
+    if form::is_well_formed(table, log, blocks) {
         let count = table[BLOCK_COUNT_AT];
         if count <= parent {
             return refused(UNKNOWN_NUMBER);

@@ -15,7 +15,6 @@ ghost use Rattle.quorum.specs.inner.Lists.{
   Greatest,
 };
 ghost use Rattle.quorum.specs.inner.Signers.{holds};
-use layout::certificate_word;
 use log::COMMIT;
 use log::KIND_AT;
 use log::NEWVIEW;
@@ -26,6 +25,7 @@ use log::SIGNER_AT;
 use log::SUBJECT_AT;
 use log::SUBJECT_BOOT_AT;
 use log::VIEW_AT;
+use log::certificate_word;
 
 // What each certificate of a quorum has to be.
 enum Wanted {

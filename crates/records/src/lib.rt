@@ -1,4 +1,4 @@
-// Replicas and certificates read whole, as records, so that each word is read once; and words of a replica set together.
+// Replicas read whole, as records, so that each word is read once; and words of a replica set together.
 ghost use mathlib.Core.Path.{_≡_};
 ghost use mathlib.Core.List.{[]};
 ghost use Prim.Native.Nat.{_+_, _≤_};
@@ -8,16 +8,11 @@ ghost use Rattle.protocol.specs.Memory.{
   rowAt,
   replicaWords,
   replica as replicaAt,
-  certificateAt,
-  certificateWords,
-  certificate,
   assign,
 };
-ghost use Rattle.records.specs.inner.Replicas.{replicaFrom, certificateFrom, assignments, Settable};
-use certificates::Certificate;
-use layout::certificate_word;
-use layout::replica_word;
-use layout::set_replica_word;
+ghost use Rattle.records.specs.inner.Replicas.{replicaFrom, assignments, Settable};
+use table::replica_word;
+use table::set_replica_word;
 
 pub struct Replica {
     pub status: u32,
@@ -60,21 +55,5 @@ pub fn set_words(table: &mut [u32], replica: u32, offsets: &[usize], values: &[u
         let offset = offsets[i];
         set_replica_word(table, replica, offset, values[i]);
         i += 1;
-    }
-}
-
-pub fn certificate_in(log: &[u32], number: u32) -> Certificate
-    requires { ⌜ certificateAt number + certificateWords ≤ length (now log) ⌝ }
-    ensures { λ r. ⌜ r ≡ certificateFrom (certificate (memory [] (now (log .entry)) []) number) ⌝ }
-{
-    Certificate {
-        kind: certificate_word(log, number, log::KIND_AT),
-        signer: certificate_word(log, number, log::SIGNER_AT),
-        view: certificate_word(log, number, log::VIEW_AT),
-        block: certificate_word(log, number, log::PROPOSED_BLOCK_AT),
-        of_view: certificate_word(log, number, log::OF_VIEW_AT),
-        subject: certificate_word(log, number, log::SUBJECT_AT),
-        subject_boot: certificate_word(log, number, log::SUBJECT_BOOT_AT),
-        signer_boot: certificate_word(log, number, log::SIGNER_BOOT_AT),
     }
 }

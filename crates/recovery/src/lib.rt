@@ -9,10 +9,9 @@ ghost use Rattle.protocol.specs.Calls.{
   reply as replyRule,
   recover as recoverRule,
 };
-ghost use Rattle.certificates.specs.inner.Filing.{certificateOf};
+ghost use Rattle.log.specs.inner.Certificates.{certificateOf};
 ghost use Rattle.records.specs.inner.Replicas.{replicaOf};
 ghost use Rattle.checks.specs.inner.Verdicts.{tested};
-use certificates::Certificate;
 use checks::FoundCertificate;
 use checks::FoundReplica;
 use checks::Tested;
@@ -20,6 +19,7 @@ use checks::accepted;
 use checks::need;
 use checks::refused;
 use issuing::issue;
+use log::Certificate;
 use log::REPLY;
 use log::REQ;
 use protocol::Answer;
@@ -154,7 +154,7 @@ pub fn recover(
         return refused(listed.refusal());
     };
     let best = quorum::greatest(log, list);
-    let c = records::certificate_in(log, list[best]);
+    let c = log::certificate_in(log, list[best]);
     let min_view = larger(r.min_view, c.of_view + 1);
     let replied = quorum::is_reply_quorum(log, list, replica, r.boot, r.min_view);
     let tested = need(Tested::Passed, r.status == RECOVERING, WRONG_STATUS);

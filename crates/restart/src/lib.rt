@@ -14,7 +14,6 @@ use checks::Tested;
 use checks::accepted;
 use checks::need;
 use checks::refused;
-use layout::set_replica_word;
 use protocol::Answer;
 use protocol::COUNTER_LIMIT;
 use protocol::WRONG_STATUS;
@@ -30,6 +29,7 @@ use table::STATUS_AT;
 use table::STORED_BLOCK_AT;
 use table::STORED_VIEW_AT;
 use table::VIEW_LIMIT_AT;
+use table::set_replica_word;
 
 // Whether a reboot, to this boot and view limit, retires the replica.
 fn retires(r: Replica, boot: u32, limit: u32) -> bool

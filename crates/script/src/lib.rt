@@ -84,8 +84,8 @@ fn read_numbers(line: &[u8], given: &mut [u32]) -> Read
 fn lent_length(f: u32) -> usize
     ensures { λ r. ⌜ (r ≡ lentLength f) × (r ≤ maxTable) ⌝ }
 {
-    if layout::form::is_fault_bound(f) {
-        layout::row_at(layout::replica_count(f))
+    if form::is_fault_bound(f) {
+        table::row_at(table::replica_count(f))
     } else {
         0
     }

@@ -1,9 +1,11 @@
-// The table's numbers (document 01, "Memory"), as the code has them: f, the header, the counter's steps, the replicas' rows. They have the
-// names of protocol/specs/, in upper case, as the numbers of the log, the blocks and the movements have, each beside what it describes. A
-// function for each group, that nothing calls, holds them to the definitions: where a number differs, the check names it here, before it
+// The table (document 01, "Memory"): its numbers, and where a replica's words stand, how they are read and written. The numbers have the names
+// of protocol/specs/, in upper case, and so have those of the log, the blocks, the counter and the movements, each beside what it describes. A
+// function for each group, that nothing calls, holds them to the definitions: where a number differs, the check names it there, before it
 // looks at any crate above.
 ghost use mathlib.Core.Path.{_≡_};
 ghost use mathlib.Core.List.{[], _∷_};
+ghost use Prim.Native.Nat.{_+_, _≤_, _<_};
+ghost use lib.ListN.{length, getD, set};
 ghost use Rattle.protocol.specs.Memory.{
   maxFaultBound,
   replicaCount,
@@ -15,6 +17,7 @@ ghost use Rattle.protocol.specs.Memory.{
   stepsAt,
   stepCount,
   rowStart,
+  rowAt,
   replicaWords,
   statusAt,
   bootAt,
@@ -140,4 +143,34 @@ pub fn statuses_and_flags() -> [u32; 5]
     ensures { λ r. ⌜ r ≡ live ∷ recovering ∷ retired ∷ lowered ∷ raised ∷ [] ⌝ }
 {
     [LIVE, RECOVERING, RETIRED, LOWERED, RAISED]
+}
+
+// The number of replicas.
+pub fn replica_count(f: u32) -> u32
+    requires { ⌜ f ≤ maxFaultBound ⌝ }
+    ensures { λ r. ⌜ r ≡ replicaCount f ⌝ }
+{
+    2 * f + 1
+}
+
+// Where a replica's row starts.
+pub fn row_at(replica: u32) -> usize
+    ensures { λ r. ⌜ r ≡ rowAt replica ⌝ }
+{
+    ROW_START + REPLICA_WORDS * (replica as usize)
+}
+
+// A word of a replica, by its index in the row.
+pub fn replica_word(table: &[u32], replica: u32, at: usize) -> u32
+    requires { ⌜ rowAt replica + at < length (now table) ⌝ }
+    ensures { λ r. ⌜ r ≡ getD (now (table .entry)) (rowAt replica + at) 0 ⌝ }
+{
+    table[row_at(replica) + at]
+}
+
+pub fn set_replica_word(table: &mut [u32], replica: u32, at: usize, value: u32)
+    requires { ⌜ rowAt replica + at < length (now table) ⌝ }
+    ensures { λ _. ⌜ now (table .exit) ≡ set (now (table .entry)) (rowAt replica + at) value ⌝ }
+{
+    table[row_at(replica) + at] = value;
 }

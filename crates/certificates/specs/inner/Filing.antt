@@ -6,11 +6,9 @@ use mathlib.Core.List.{List}
 use lib.ListN.{length, getD}
 use lib.Dec.{eqb}
 use Rattle.protocol.specs.Memory.{Memory, memory, certificateCountAt, certificateWords, certificateAt, maxCertificates, viewAt}
-use Rattle.protocol.specs.Memory as Memory
 use Rattle.protocol.specs.Form.{allBelow}
 use Rattle.protocol.specs.Certificates.{numberFor, foundOrAppended, canFile, file}
 use Rattle.protocol.specs.Outcome.{noRoom}
-use Rattle.certificates.specs.declared.Certificate.{Certificate}
 use Rattle.certificates.specs.declared.Filed.{Filed}
 use Rattle.certificates.specs.declared.Filed.the-variants.{At, Refused}
 
@@ -30,20 +28,6 @@ pub record LogFits (table log : List ℕ) : Type 0 where
 pub record LogHasRoom (table log : List ℕ) : Type 0 where
   pub fits : LogFits table log
   pub room : certificateAt (countIn table) < length log
-
--- A certificate of the code, as the rules have it.
-abbrev pub certificateOf : Certificate → Memory.Certificate
-certificateOf c =
-    record {
-      kind = c .kind;
-      signer = c .signer;
-      view = c .view;
-      block = c .block;
-      ofView = c .«of_view»;
-      subject = c .subject;
-      subjectBoot = c .«subject_boot»;
-      signerBoot = c .«signer_boot»;
-    }
 
 -- The words of the log from an index on are those of a certificate.
 unfoldable pub equalFrom : List ℕ → ℕ → List ℕ → Bool

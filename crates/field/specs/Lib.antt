@@ -2,3 +2,4 @@
 pub mod Digits
 pub mod Field
 pub mod Theorems
+pub mod inner

@@ -4,3 +4,4 @@ pub mod Session
 pub mod Agreement
 pub mod Text
 pub mod Theorems
+pub mod inner

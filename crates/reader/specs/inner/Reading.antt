@@ -3,17 +3,12 @@ use Prim.Native.Nat.{ℕ, _+_}
 use mathlib.Core.Bool.{cond}
 use mathlib.Core.List.{List}
 use lib.Dec.{leb, eqb}
-use lib.ListN.{take, drop}
 use denote.Ref.{now}
 use Rattle.protocol.specs.Outcome.{unreadable}
-use Rattle.field.specs.Field.{columns, maxNumber, readField}
+use Rattle.field.specs.Field.{columns, maxNumber, numberFrom}
 use Rattle.reader.specs.declared.Reader.{Reader}
 use Rattle.reader.specs.declared.Read.{Read}
 use Rattle.reader.specs.declared.Read.the-variants.{To, Refused}
-
--- What is read from the eight columns from a column on: a number, or noNumber.
-abbrev pub numberFrom : List ℕ → ℕ → ℕ
-numberFrom line column = readField (take columns (drop column line))
 
 -- The column after the field that starts at a column; the same column where none starts there.
 unfoldable pub columnAfter : List ℕ → ℕ → ℕ

@@ -7,8 +7,8 @@ ghost use Rattle.protocol.specs.Memory.{memory, certificateAt, certificateWords
 ghost use Rattle.protocol.specs.Certificates.{firstBelow, found, appended};
 ghost use Rattle.protocol.specs.inner.Groups.{fourOk};
 ghost use Rattle.log.specs.inner.Certificates.{certificateOf};
+ghost use Rattle.log.specs.inner.LogFits.{LogFits};
 ghost use Rattle.certificates.specs.inner.Filing.{
-  LogFits,
   LogHasRoom,
   equalFrom,
   isEqual,

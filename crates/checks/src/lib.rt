@@ -6,7 +6,7 @@ ghost use lib.ListN.{length};
 ghost use Rattle.protocol.specs.Memory.{memory, certificateCountAt};
 ghost use Rattle.protocol.specs.Outcome.{_else_};
 ghost use Rattle.protocol.specs.FirstNeeds.{listNeeds};
-ghost use Rattle.certificates.specs.inner.Filing.{LogFits};
+ghost use Rattle.log.specs.inner.LogFits.{LogFits};
 ghost use Rattle.checks.specs.inner.Verdicts.{
   next,
   tested,

@@ -4,7 +4,7 @@ use Rattle.protocol.specs.Memory.{Memory}
 use Rattle.protocol.specs.Form.{lengthsFit}
 use Rattle.protocol.proofs.Booleans.{tests, each}
 use Rattle.protocol.proofs.Formed.{Formed, sizes}
-use Rattle.certificates.specs.inner.Filing.{LogFits}
+use Rattle.log.specs.inner.LogFits.{LogFits}
 
 pub log-fits : (m : Memory) → Formed m → LogFits (m .table) (m .log)
 unfolding lengthsFit

@@ -2,23 +2,23 @@
 ghost use mathlib.Core.Path.{_≡_};
 ghost use Rattle.protocol.specs.Outcome.{outcome, outcomeBy};
 ghost use Rattle.protocol.specs.Calls.{accumulate as accumulateRule, decide as decideRule};
-use certificates::Certificate;
 use checks::FoundReplica;
 use checks::Tested;
 use checks::accepted;
 use checks::need;
 use checks::refused;
-use constants::ACC;
-use constants::DECIDED_BLOCK_AT;
-use constants::DECIDED_VIEW_AT;
-use constants::LIVE;
-use constants::VIEW_AT;
 use issuing::issue;
-use layout::certificate_word;
+use log::ACC;
+use log::Certificate;
+use log::VIEW_AT;
+use log::certificate_in;
+use log::certificate_word;
 use protocol::Answer;
 use protocol::WRONG_CERTIFICATE;
 use protocol::WRONG_STATUS;
-use records::certificate_in;
+use table::DECIDED_BLOCK_AT;
+use table::DECIDED_VIEW_AT;
+use table::LIVE;
 
 // A quorum of NEWVIEWs of one view gives an ACC of the greatest of-view.
 pub fn accumulate(

@@ -1,7 +1,7 @@
 // Lines of parents: which blocks are in a block's line.
 ghost use Rattle.ancestry.specs.inner.AncestryFits.{Markable, AncestorsMarked, Climbed};
+use blocks::MAX_BLOCKS;
 use blocks::ROOT;
-use constants::MAX_BLOCKS;
 
 // Marks block b, and gives its parent.
 fn mark_block(blocks: &[u32], b: u32, marks: &mut [bool; MAX_BLOCKS as usize]) -> u32

@@ -1,15 +1,35 @@
-// The blocks (document 02, #105): where a block's record stands, how it is read and written, and the form of all that are added.
+// The blocks (document 02, #105): their numbers, where a block's record stands, how it is read and written, and the form of all that are
+// added.
 ghost use mathlib.Core.Path.{_≡_};
+ghost use mathlib.Core.List.{[], _∷_};
 ghost use Prim.Native.Nat.{_+_, _≤_};
 ghost use lib.ListN.{length};
 ghost use lib.Seq.{sets};
-ghost use Rattle.protocol.specs.Memory.{blockWords, blockAt, blockRecord, maxBlocks};
+ghost use Rattle.protocol.specs.Memory.{blockWords, parentAt, heightAt, blockAt, blockRecord, maxBlocks};
 ghost use Rattle.protocol.specs.Form.{allBelow};
 ghost use Rattle.protocol.specs.inner.Groups.{twoOk, fourOk};
 ghost use Rattle.blocks.specs.inner.Records.{parentIn, heightIn, blockOk, Testable};
-use constants::BLOCK_WORDS;
-use constants::HEIGHT_AT;
-use constants::PARENT_AT;
+
+pub const BLOCK_WORDS: usize = 2;
+
+pub const PARENT_AT: usize = 0;
+
+pub const HEIGHT_AT: usize = 1;
+
+pub const MAX_BLOCKS: u32 = 4096;
+
+// The numbers are those of the definitions: nothing calls these two.
+pub fn width_and_offsets() -> [usize; 3]
+    ensures { λ r. ⌜ r ≡ blockWords ∷ parentAt ∷ heightAt ∷ [] ⌝ }
+{
+    [BLOCK_WORDS, PARENT_AT, HEIGHT_AT]
+}
+
+pub fn most_blocks() -> u32
+    ensures { λ r. ⌜ r ≡ maxBlocks ⌝ }
+{
+    MAX_BLOCKS
+}
 
 // The block that is there from the opening on: it has only itself in its line, and no leader proposes it.
 pub const ROOT: u32 = 0;

@@ -9,8 +9,9 @@ use lib.Dec.{eqb}
 use borrow.Author.Tests.{not-true}
 use Rattle.protocol.specs.Memory.{words, viewAt, certificateAt}
 use Rattle.protocol.proofs.Booleans.{tests, by-test, at-below}
-use Rattle.certificates.specs.declared.Certificate.{Certificate}
-use Rattle.certificates.specs.inner.Filing.{certificateOf, equalFrom, isEqual, isOfOtherView}
+use Rattle.log.specs.declared.Certificate.{Certificate}
+use Rattle.log.specs.inner.Certificates.{certificateOf}
+use Rattle.certificates.specs.inner.Filing.{equalFrom, isEqual, isOfOtherView}
 
 pub of-other-view : (log : List ℕ) (c : Certificate) (number : ℕ) → isOfOtherView log (c .view) number ≡ true
     → isEqual log (words (certificateOf c)) number ≡ false

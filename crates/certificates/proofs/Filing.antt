@@ -13,7 +13,8 @@ use Rattle.protocol.specs.Outcome.{noRoom}
 use Rattle.protocol.proofs.Booleans.{tests, by-test}
 use Rattle.protocol.proofs.Words.{stored, stored-all}
 use Rattle.certificates.specs.declared.Filed.the-variants.{At, Refused}
-use Rattle.certificates.specs.inner.Filing.{countIn, equalFrom, isEqual, filedAt, leaves, filing}
+use Rattle.log.specs.inner.LogFits.{countIn}
+use Rattle.certificates.specs.inner.Filing.{equalFrom, isEqual, filedAt, leaves, filing}
 
 -- ---- what filing gives, from the number that the search gives
 

@@ -1,5 +1,4 @@
--- Laws of searching, comparing and filing; and where the log fits.
+-- Laws of searching, comparing and filing.
 pub mod Search
 pub mod Equal
 pub mod Filing
-pub mod Fits

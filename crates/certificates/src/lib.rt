@@ -1,15 +1,15 @@
 // Filing a certificate in the log: an equal one is found, or a new one appended, or there is no room for it.
 ghost use mathlib.Core.Path.{_≡_};
-ghost use mathlib.Core.List.{List};
+ghost use mathlib.Core.List.{List, [], _∷_};
 ghost use Prim.Native.Nat.{ℕ, _+_, _≤_};
 ghost use lib.ListN.{length};
 ghost use Rattle.protocol.specs.Memory.{memory, certificateAt, certificateWords, words, appendCertificate};
-ghost use Rattle.protocol.specs.Certificates.{firstBelow};
+ghost use Rattle.protocol.specs.Certificates.{firstBelow, found, appended};
 ghost use Rattle.protocol.specs.inner.Groups.{fourOk};
+ghost use Rattle.log.specs.inner.Certificates.{certificateOf};
+ghost use Rattle.log.specs.inner.LogFits.{LogFits};
 ghost use Rattle.certificates.specs.inner.Filing.{
-  LogFits,
   LogHasRoom,
-  certificateOf,
   equalFrom,
   isEqual,
   isOfOtherView,
@@ -17,30 +17,30 @@ ghost use Rattle.certificates.specs.inner.Filing.{
   filing,
   filingRefusal,
 };
-use constants::APPENDED;
-use constants::CERTIFICATE_COUNT_AT;
-use constants::CERTIFICATE_WORDS;
-use constants::FOUND;
-use constants::KIND_AT;
-use constants::OF_VIEW_AT;
-use constants::PROPOSED_BLOCK_AT;
-use constants::SIGNER_AT;
-use constants::SIGNER_BOOT_AT;
-use constants::SUBJECT_AT;
-use constants::SUBJECT_BOOT_AT;
-use constants::VIEW_AT;
+use log::CERTIFICATE_WORDS;
+use log::Certificate;
+use log::KIND_AT;
+use log::OF_VIEW_AT;
+use log::PROPOSED_BLOCK_AT;
+use log::SIGNER_AT;
+use log::SIGNER_BOOT_AT;
+use log::SUBJECT_AT;
+use log::SUBJECT_BOOT_AT;
+use log::VIEW_AT;
 use protocol::ACCEPTED;
 use protocol::NO_ROOM;
+use table::CERTIFICATE_COUNT_AT;
 
-pub struct Certificate {
-    pub kind: u32,
-    pub signer: u32,
-    pub view: u32,
-    pub block: u32,
-    pub of_view: u32,
-    pub subject: u32,
-    pub subject_boot: u32,
-    pub signer_boot: u32,
+// What filing tells of a certificate: the second value of the call that issues it.
+pub const FOUND: u32 = 1;
+
+pub const APPENDED: u32 = 0;
+
+// They are the definitions': nothing calls this.
+pub fn filings() -> [u32; 2]
+    ensures { λ r. ⌜ r ≡ found ∷ appended ∷ [] ⌝ }
+{
+    [FOUND, APPENDED]
 }
 
 // Where a certificate is filed, or the refusal.

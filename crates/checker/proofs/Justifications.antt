@@ -17,7 +17,7 @@ use Rattle.protocol.proofs.Booleans.{tests}
 use Rattle.protocol.proofs.Lists.{every-at}
 use Rattle.protocol.proofs.Needs.{Holds}
 use Rattle.protocol.proofs.Formed.{Formed}
-use Rattle.layout.proofs.Within.{certificate-bounds}
+use Rattle.form.proofs.Within.{certificate-bounds}
 use Rattle.quorum.specs.inner.Lists.{certificatesIn}
 use Rattle.quorum.proofs.Accepted.{listed, some-listed, commit-at}
 use Rattle.records.specs.declared.Replica.{Replica}

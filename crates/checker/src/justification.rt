@@ -10,12 +10,12 @@ ghost use Rattle.checks.specs.inner.Verdicts.{tested};
 ghost use Rattle.checker.specs.inner.Justifications.{Justifying, judgementOf, judgementRefusal};
 use checks::Tested;
 use checks::need;
-use constants::ACC;
-use constants::CERTIFICATE_COUNT_AT;
+use log::ACC;
 use protocol::ACCEPTED;
 use protocol::Justification;
 use protocol::UNKNOWN_NUMBER;
 use protocol::WRONG_CERTIFICATE;
+use table::CERTIFICATE_COUNT_AT;
 
 // What a justification that holds gives: the view to propose in, and the block to build on.
 pub struct Justified {
@@ -66,7 +66,7 @@ pub fn judge(log: &[u32], replica: u32, justification: Justification, list: &[u3
 {
     match justification {
         Justification::Acc(number) => {
-            let acc = records::certificate_in(log, number);
+            let acc = log::certificate_in(log, number);
             if (acc.kind == ACC) & (acc.signer == replica) {
                 return Judgement::By(Justified {
                     view: acc.view,

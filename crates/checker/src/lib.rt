@@ -13,33 +13,23 @@ ghost use Rattle.protocol.specs.Calls.{
   store as storeRule,
   view as viewRule,
 };
-ghost use Rattle.certificates.specs.inner.Filing.{certificateOf};
+ghost use Rattle.log.specs.inner.Certificates.{certificateOf};
 ghost use Rattle.records.specs.inner.Replicas.{replicaOf};
 ghost use Rattle.checks.specs.inner.Verdicts.{tested};
 use self::justification::Judgement;
 use self::justification::Justified;
 use blocks::ROOT;
-use certificates::Certificate;
 use checks::FoundCertificate;
 use checks::FoundReplica;
 use checks::Tested;
 use checks::need;
 use checks::refused;
-use constants::BLOCK_COUNT_AT;
-use constants::CEILING;
-use constants::COMMIT;
-use constants::FAULT_BOUND_AT;
-use constants::FLAG_AT;
-use constants::LIVE;
-use constants::LOWERED;
-use constants::MIN_VIEW_AT;
-use constants::NEWVIEW;
-use constants::PROP;
-use constants::RAISED;
-use constants::STORED_BLOCK_AT;
-use constants::STORED_VIEW_AT;
 use issuing::issue;
 use leader::FIRST_VIEW;
+use log::COMMIT;
+use log::Certificate;
+use log::NEWVIEW;
+use log::PROP;
 use protocol::Answer;
 use protocol::COUNTER_LIMIT;
 use protocol::Justification;
@@ -50,6 +40,16 @@ use protocol::WRONG_CERTIFICATE;
 use protocol::WRONG_STATUS;
 use protocol::WRONG_VIEW;
 use records::Replica;
+use table::BLOCK_COUNT_AT;
+use table::CEILING;
+use table::FAULT_BOUND_AT;
+use table::FLAG_AT;
+use table::LIVE;
+use table::LOWERED;
+use table::MIN_VIEW_AT;
+use table::RAISED;
+use table::STORED_BLOCK_AT;
+use table::STORED_VIEW_AT;
 
 mod justification;
 

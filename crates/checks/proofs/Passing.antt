@@ -13,9 +13,10 @@ use Rattle.protocol.proofs.Needs as Needs
 use Rattle.protocol.proofs.Needs.{Holds, positive, all-needs, refused-first, all-pass}
 use Rattle.quorum.specs.inner.Lists.{Listed}
 use Rattle.quorum.proofs.Accepted.{first-of}
-use Rattle.certificates.specs.declared.Certificate.{Certificate}
+use Rattle.log.specs.declared.Certificate.{Certificate}
 use Rattle.records.specs.declared.Replica.{Replica}
-use Rattle.records.specs.inner.Replicas.{replicaFrom, certificateFrom}
+use Rattle.log.specs.inner.Certificates.{certificateFrom}
+use Rattle.records.specs.inner.Replicas.{replicaFrom}
 use Rattle.checks.specs.declared.Tested.{Tested}
 use Rattle.checks.specs.declared.Tested.the-variants as Test
 use Rattle.checks.specs.declared.FoundReplica.{FoundReplica}

@@ -6,7 +6,7 @@ ghost use lib.ListN.{length};
 ghost use Rattle.protocol.specs.Memory.{memory, certificateCountAt};
 ghost use Rattle.protocol.specs.Outcome.{_else_};
 ghost use Rattle.protocol.specs.FirstNeeds.{listNeeds};
-ghost use Rattle.certificates.specs.inner.Filing.{LogFits};
+ghost use Rattle.log.specs.inner.LogFits.{LogFits};
 ghost use Rattle.checks.specs.inner.Verdicts.{
   next,
   tested,
@@ -16,15 +16,15 @@ ghost use Rattle.checks.specs.inner.Verdicts.{
   replicaRefusal,
   certificateRefusal,
 };
-use certificates::Certificate;
-use constants::CERTIFICATE_COUNT_AT;
-use constants::FAULT_BOUND_AT;
+use log::Certificate;
 use protocol::ACCEPTED;
 use protocol::Answer;
 use protocol::OUT_OF_RANGE;
 use protocol::UNKNOWN_NUMBER;
 use protocol::WRONG_FORM;
 use records::Replica;
+use table::CERTIFICATE_COUNT_AT;
+use table::FAULT_BOUND_AT;
 
 pub fn accepted(first: u32, second: u32) -> Answer
     ensures { λ r. ⌜ r ≡ record { number = 0; first = first; second = second } ⌝ }
@@ -115,8 +115,8 @@ pub fn need(before: Tested, test: bool, number: u32) -> Tested
 pub fn find_replica(table: &[u32], log: &[u32], blocks: &[u32], replica: u32) -> FoundReplica
     ensures { λ r. ⌜ r ≡ replicaFound (memory (now (table .entry)) (now (log .entry)) (now (blocks .entry))) replica ⌝ }
 {
-    if layout::form::is_well_formed(table, log, blocks) {
-        if replica < layout::replica_count(table[FAULT_BOUND_AT]) {
+    if form::is_well_formed(table, log, blocks) {
+        if replica < table::replica_count(table[FAULT_BOUND_AT]) {
             return FoundReplica::Found(records::replica_in(table, replica));
         }
         return FoundReplica::Refused(OUT_OF_RANGE);
@@ -130,7 +130,7 @@ pub fn find_certificate(table: &[u32], log: &[u32], number: u32) -> FoundCertifi
     ensures { λ r. ⌜ ((b : List ℕ) → r ≡ certificateFound (memory (now (table .entry)) (now (log .entry)) b) number) ⌝ }
 {
     if number < table[CERTIFICATE_COUNT_AT] {
-        return FoundCertificate::Found(records::certificate_in(log, number));
+        return FoundCertificate::Found(log::certificate_in(log, number));
     }
     FoundCertificate::Refused(UNKNOWN_NUMBER)
 }

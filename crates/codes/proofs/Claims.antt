@@ -26,15 +26,11 @@ module _ (m : Memory) (k : ℕ) where
   claimed [] n e = absurd (n refl)
   claimed (x ∷ xs) n e = rw e refl
 
-  -- A table without a count issues nothing; a word past the log is 0.
+  -- A table without a count issues nothing.
   pub no-count : (list : List ℕ) → length (m .table) ≤ certificateCountAt → 0 ≡ claimedWord m list k
   no-count list l =
       let z : certificateCount m ≡ 0 = List·getD-eq-default (m .table) 0 l in
       not-issued list (omega tests)
-
-  pub past-log : (list : List ℕ) → (length list ≡ 0 → ⊥) → isIssued m (getD list 0 0) ≡ true
-      → length (m .log) ≤ certificateAt (getD list 0 0) + k → 0 ≡ claimedWord m list k
-  past-log list n e l = sym (List·getD-eq-default (m .log) 0 l) ∙ claimed list n e
 
 -- A code above one bound that is not the next number is above the next bound.
 above : (k code : ℕ) → k ≤ code → (code ≡ k → ⊥) → suc k ≤ code

@@ -62,8 +62,3 @@ codeTable m replica number list =
 -- Any other code makes no call.
 abbrev pub codedCall : Memory → ℕ → ℕ → ℕ → List ℕ → Coded
 codedCall m code replica number list = getD (codeTable m replica number list) code noCall
-
--- The refusal that it holds; 0, "accepted", where it holds none.
-abbrev pub codeRefusal : Coded → ℕ
-codeRefusal (Of call) = 0
-codeRefusal (Refused refusal) = refusal

@@ -1,13 +1,17 @@
 // Call codes, as script lines and the C interface have them: a code, a replica, a number and a list give a call, or are refused.
 ghost use mathlib.Core.Path.{_≡_};
 ghost use mathlib.Core.List.{[]};
-ghost use Prim.Native.Nat.{_<_};
-ghost use Rattle.protocol.specs.Memory.{memory, certificateWords};
-ghost use Rattle.codes.specs.Codes.{isPlain, isShort, claimedWord, when, codedCall, codeRefusal};
+ghost use lib.ListN.{getD};
+ghost use Rattle.protocol.specs.Memory.{memory, viewAt, proposedBlockAt};
+ghost use Rattle.codes.specs.Codes.{isPlain, isShort, claimedWord, when, codedCall};
+ghost use Rattle.codes.specs.inner.Refusals.{codeRefusal};
+use log::PROPOSED_BLOCK_AT;
+use log::VIEW_AT;
 use protocol::ACCEPTED;
 use protocol::Call;
 use protocol::Justification;
 use protocol::UNREADABLE;
+use table::CERTIFICATE_COUNT_AT;
 
 // The most numbers that a list may have.
 const MAX_LIST: usize = 31;
@@ -54,26 +58,42 @@ fn coded_when(test: bool, call: Call) -> Coded
     }
 }
 
-// A word of the list's first certificate, where that is issued and there; else 0.
-fn claimed_word(table: &[u32], log: &[u32], list: &[u32], at: usize) -> u32
-    requires { ⌜ at < certificateWords ⌝ }
-    ensures { λ r. ⌜ r ≡ claimedWord (memory (now (table .entry)) (now (log .entry)) []) (now (list .entry)) at ⌝ }
+// The view and the block that a prepare on commits claims.
+struct Claim {
+    view: u32,
+    block: u32,
+}
+
+// A word of the log, 0 past its end.
+fn word_at(log: &[u32], index: usize) -> u32
+    ensures { λ r. ⌜ r ≡ getD (now (log .entry)) index 0 ⌝ }
 {
-    if list.len() == 0 {
-        return 0;
-    }
-    if table.len() <= constants::CERTIFICATE_COUNT_AT {
-        return 0;
-    }
-    let number = list[0];
-    if table[constants::CERTIFICATE_COUNT_AT] <= number {
-        return 0;
-    }
-    let index = layout::certificate_at(number) + at;
     if log.len() <= index {
         return 0;
     }
     log[index]
+}
+
+// Those of the list's first certificate, each where the certificate is issued and the word is there; else 0.
+fn claimed(table: &[u32], log: &[u32], list: &[u32]) -> Claim
+    ensures { λ r. ⌜ (r .view ≡ claimedWord (memory (now (table .entry)) (now (log .entry)) []) (now (list .entry)) viewAt)
+        × (r .block ≡ claimedWord (memory (now (table .entry)) (now (log .entry)) []) (now (list .entry)) proposedBlockAt) ⌝ }
+{
+    let none = Claim { view: 0, block: 0 };
+    if list.len() == 0 {
+        return none;
+    }
+    if table.len() <= CERTIFICATE_COUNT_AT {
+        return none;
+    }
+    let number = list[0];
+    if table[CERTIFICATE_COUNT_AT] <= number {
+        return none;
+    }
+    let start = log::certificate_at(number);
+    let view = word_at(log, start + VIEW_AT);
+    let block = word_at(log, start + PROPOSED_BLOCK_AT);
+    Claim { view, block }
 }
 
 // The call of a code.
@@ -98,11 +118,10 @@ pub fn coded_call(
             }
         }
         3 => {
-            let view = claimed_word(table, log, list, constants::VIEW_AT);
-            let block = claimed_word(table, log, list, constants::PROPOSED_BLOCK_AT);
+            let c = claimed(table, log, list);
             coded_when(
                 is_short(0, list),
-                Call::Prepare(replica, number, Justification::Commits(view, block)),
+                Call::Prepare(replica, number, Justification::Commits(c.view, c.block)),
             )
         }
         4 => coded_when(is_plain(0, list), Call::Store(replica, number)),

@@ -6,16 +6,24 @@ ghost use Prim.Native.Nat.{ℕ, _+_, _≤_};
 ghost use lib.ListN.{length, getD};
 ghost use lib.Seq.{sets};
 ghost use Rattle.protocol.specs.Memory.{memory, stepCount, stepAt, rowStart};
-ghost use Rattle.protocol.specs.Form.{stepsFormed};
+ghost use Rattle.protocol.specs.Form.{maxStep, stepsFormed};
 ghost use Rattle.protocol.specs.Counter.{stepsFrom, stepsAllowed, counterStep};
 ghost use Rattle.counter.specs.inner.Rising.{stepIn};
-use constants::MAX_STEP;
-use constants::STEP_COUNT;
-use constants::STEPS_AT;
+use table::STEP_COUNT;
+use table::STEPS_AT;
+
+pub const MAX_STEP: u32 = 4096;
 
 const LAST_STEP: u32 = 7;
 
 const DEFAULT_STEPS: [u32; STEP_COUNT] = [64, 64, 128, 128, 256, 256, 512, 1024];
+
+// It is the definition's: nothing calls this.
+pub fn largest_step() -> u32
+    ensures { λ r. ⌜ r ≡ maxStep ⌝ }
+{
+    MAX_STEP
+}
 
 // The step of a boot; later boots have the last.
 pub fn counter_step(table: &[u32], boot: u32) -> u32

@@ -1,10 +1,9 @@
 -- "A field is eight columns, a decimal right-justified after blanks, no leading zeros."
-use Prim.Native.Nat.{ℕ, _+_, _-_, _*_, _≤_}
-use mathlib.Core.Path.{_≡_}
+use Prim.Native.Nat.{ℕ, _+_, _-_, _*_}
 use mathlib.Core.Bool.{Bool, cond, _&&_}
 use mathlib.Core.List.{List, [], _∷_, _++_}
 use lib.Dec.{eqb, leb, ltb}
-use lib.ListN.{length, replicate}
+use lib.ListN.{length, take, drop, replicate}
 use Rattle.field.specs.Digits.{digitZero, isDigit, digitCount, digits}
 
 abbrev pub columns : ℕ
@@ -46,11 +45,6 @@ unfoldable pub writeField : ℕ → List ℕ → Written
 writeField number bytes =
     cond (eqb (length bytes) columns && leb number maxNumber) (written accepted (fieldOf number)) (written unwritable bytes)
 
--- What the write's inner function is given.
-pub record Writable (number : ℕ) (bytes : List ℕ) : Type 0 where
-  pub eight : length bytes ≡ columns
-  pub small : number ≤ maxNumber
-
 -- ---- reading
 
 -- The number that digits make after the number so far; noNumber where a byte is no digit.
@@ -75,3 +69,7 @@ aligned (byte ∷ rest) = cond (eqb byte blank) (aligned rest) (unpadded (byte �
 -- "Its read gives the number, or 4,294,967,295 for bytes that are no such field."
 unfoldable pub readField : List ℕ → ℕ
 readField bytes = cond (eqb (length bytes) columns) (aligned bytes) noNumber
+
+-- What is read from the eight columns of a line from a column on: a number, or noNumber.
+abbrev pub numberFrom : List ℕ → ℕ → ℕ
+numberFrom line column = readField (take columns (drop column line))

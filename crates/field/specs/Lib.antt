@@ -3,3 +3,4 @@ pub mod Digits
 pub mod Field
 pub mod Theorems
 pub mod Claims
+pub mod inner

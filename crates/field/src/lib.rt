@@ -1,7 +1,7 @@
 // The eight-column number: reading and writing one field (document 01, "Script program").
 ghost use Prim.Native.Nat.{_≤_, _<_};
 ghost use mathlib.Core.Path.{_≡_};
-ghost use lib.ListN.{length, take, drop, replicate};
+ghost use lib.ListN.{length, drop, replicate};
 ghost use Rattle.field.specs.Digits.{digitCount};
 ghost use Rattle.field.specs.Field.{
   columns,
@@ -10,10 +10,11 @@ ghost use Rattle.field.specs.Field.{
   fieldOf,
   written,
   writeField,
-  Writable,
   unpadded,
   readField,
+  numberFrom,
 };
+ghost use Rattle.field.specs.inner.Writing.{Writable};
 
 pub const COLUMNS: usize = 8;
 
@@ -150,7 +151,7 @@ pub fn read_number(bytes: &[u8]) -> u32
 
 // The same for the field that starts at a column of a longer line; none starts where fewer than eight are left.
 pub fn read_at(bytes: &[u8], at: usize) -> u32
-    ensures { λ r. ⌜ r ≡ readField (take columns (drop at (now (bytes .entry)))) ⌝ }
+    ensures { λ r. ⌜ r ≡ numberFrom (now (bytes .entry)) at ⌝ }
 {
     if bytes.len() < COLUMNS {
         return NO_NUMBER;

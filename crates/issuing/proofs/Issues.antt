@@ -6,7 +6,7 @@ use Rattle.protocol.specs.Memory.{Memory, Certificate, Assignment, words}
 use Rattle.protocol.specs.Certificates.{canFile}
 use Rattle.protocol.specs.Outcome.{Outcome, Need, _else_, Rule, firstRefusal, answered, follow, noRoom}
 use Rattle.protocol.specs.Calls.{issuing}
-use Rattle.certificates.proofs.Fits.{log-fits}
+use Rattle.log.proofs.Fits.{log-fits}
 use Rattle.checks.proofs.Ready.{Ready, row-within}
 use Rattle.checks.proofs.Passing.{At}
 use Rattle.issuing.specs.inner.Issuable.{Issuable}

@@ -4,13 +4,13 @@ ghost use mathlib.Core.List.{List, []};
 ghost use Prim.Native.Nat.{ℕ};
 ghost use Rattle.protocol.specs.Outcome.{outcome, outcomeBy};
 ghost use Rattle.protocol.specs.Calls.{issuing};
-ghost use Rattle.certificates.specs.inner.Filing.{certificateOf};
+ghost use Rattle.log.specs.inner.Certificates.{certificateOf};
 ghost use Rattle.records.specs.inner.Replicas.{assignments, Settable};
 ghost use Rattle.issuing.specs.inner.Issuable.{Issuable};
-use certificates::Certificate;
 use certificates::Filed;
 use checks::accepted;
 use checks::refused;
+use log::Certificate;
 use protocol::Answer;
 
 // The answer of a call that issues, once its other needs hold: the certificate's number, and whether it was found or appended; or the

@@ -15,5 +15,5 @@ pub fn leads(f: u32, view: u32, replica: u32) -> bool
     if view < FIRST_VIEW {
         return false;
     }
-    replica == (view - FIRST_VIEW) % layout::replica_count(f)
+    replica == (view - FIRST_VIEW) % table::replica_count(f)
 }

@@ -14,7 +14,8 @@ use Rattle.protocol.proofs.Needs.{refuses}
 use Rattle.protocol.proofs.Rules.{no-form}
 use Rattle.codes.specs.declared.Coded.{Coded}
 use Rattle.codes.specs.declared.Coded.the-variants.{Of, Refused}
-use Rattle.codes.specs.Codes.{noCall, codedCall, codeRefusal}
+use Rattle.codes.specs.Codes.{noCall, codedCall}
+use Rattle.codes.specs.inner.Refusals.{codeRefusal}
 use Rattle.codes.proofs.Aside.{coded-aside}
 use Rattle.codes.proofs.Readable.{unreadable-anywhere, refused-unreadable, no-opening}
 use Rattle.ledger.specs.Called.{MakeCall, calledBy, called}

@@ -1,21 +1,138 @@
-// The form of the log: of each issued certificate, its words. In a full memory this is the longest part of the form test.
+// The certificate log: its numbers and kinds, where a certificate stands, how it is read, and the form of all that are issued. In a full
+// memory that is the longest part of the form test.
 ghost use mathlib.Core.Path.{_≡_};
-ghost use Prim.Native.Nat.{_+_, _≤_};
-ghost use lib.ListN.{length};
-ghost use Rattle.protocol.specs.Memory.{certificateWords, certificateAt};
-ghost use Rattle.protocol.specs.Form.{allBelow};
+ghost use mathlib.Core.List.{[], _∷_};
+ghost use Prim.Native.Nat.{_+_, _≤_, _<_};
+ghost use lib.ListN.{length, getD};
+ghost use Rattle.protocol.specs.Memory.{
+  memory,
+  certificateWords,
+  certificateAt,
+  certificate,
+  kindAt,
+  signerAt,
+  viewAt,
+  proposedBlockAt,
+  ofViewAt,
+  subjectAt,
+  subjectBootAt,
+  signerBootAt,
+  maxCertificates,
+};
+ghost use Rattle.protocol.specs.Form.{allBelow, lastKind};
+ghost use Rattle.protocol.specs.Certificates as Kinds;
+ghost use Rattle.log.specs.inner.Certificates.{certificateFrom};
 ghost use Rattle.log.specs.inner.Records.{certificateOk, hasKind, exceeds, groupSize, groupHasKinds, groupExceeds};
-use constants::CEILING;
-use constants::CERTIFICATE_WORDS;
-use constants::KIND_AT;
-use constants::LAST_KIND;
-use constants::OF_VIEW_AT;
-use constants::PROPOSED_BLOCK_AT;
-use constants::SIGNER_AT;
-use constants::SIGNER_BOOT_AT;
-use constants::SUBJECT_AT;
-use constants::SUBJECT_BOOT_AT;
-use constants::VIEW_AT;
+use table::CEILING;
+
+pub const CERTIFICATE_WORDS: usize = 8;
+
+pub const KIND_AT: usize = 0;
+
+pub const SIGNER_AT: usize = 1;
+
+pub const VIEW_AT: usize = 2;
+
+pub const PROPOSED_BLOCK_AT: usize = 3;
+
+pub const OF_VIEW_AT: usize = 4;
+
+pub const SUBJECT_AT: usize = 5;
+
+pub const SUBJECT_BOOT_AT: usize = 6;
+
+pub const SIGNER_BOOT_AT: usize = 7;
+
+pub const MAX_CERTIFICATES: u32 = 4096;
+
+// A certificate's kind.
+pub const PROP: u32 = 1;
+
+pub const COMMIT: u32 = 2;
+
+pub const NEWVIEW: u32 = 3;
+
+pub const ACC: u32 = 4;
+
+pub const REQ: u32 = 5;
+
+pub const REPLY: u32 = 6;
+
+pub const LAST_KIND: u32 = REPLY;
+
+// The numbers are those of the definitions: nothing calls these three.
+pub fn width_and_offsets() -> [usize; 9]
+    ensures { λ r. ⌜ r
+        ≡ certificateWords ∷ kindAt ∷ signerAt ∷ viewAt ∷ proposedBlockAt ∷ ofViewAt ∷ subjectAt ∷ subjectBootAt ∷ signerBootAt ∷ [] ⌝ }
+{
+    [
+        CERTIFICATE_WORDS,
+        KIND_AT,
+        SIGNER_AT,
+        VIEW_AT,
+        PROPOSED_BLOCK_AT,
+        OF_VIEW_AT,
+        SUBJECT_AT,
+        SUBJECT_BOOT_AT,
+        SIGNER_BOOT_AT,
+    ]
+}
+
+pub fn most_certificates() -> u32
+    ensures { λ r. ⌜ r ≡ maxCertificates ⌝ }
+{
+    MAX_CERTIFICATES
+}
+
+pub fn kinds() -> [u32; 7]
+    ensures { λ r. ⌜ r
+        ≡ Kinds.PROP ∷ Kinds.COMMIT ∷ Kinds.NEWVIEW ∷ Kinds.ACC ∷ Kinds.REQ ∷ Kinds.REPLY ∷ lastKind ∷ [] ⌝ }
+{
+    [PROP, COMMIT, NEWVIEW, ACC, REQ, REPLY, LAST_KIND]
+}
+
+pub struct Certificate {
+    pub kind: u32,
+    pub signer: u32,
+    pub view: u32,
+    pub block: u32,
+    pub of_view: u32,
+    pub subject: u32,
+    pub subject_boot: u32,
+    pub signer_boot: u32,
+}
+
+// Where a certificate starts.
+pub fn certificate_at(number: u32) -> usize
+    ensures { λ r. ⌜ r ≡ certificateAt number ⌝ }
+{
+    CERTIFICATE_WORDS * (number as usize)
+}
+
+// A word of a certificate, by its index in it.
+pub fn certificate_word(log: &[u32], number: u32, at: usize) -> u32
+    requires { ⌜ certificateAt number + at < length (now log) ⌝ }
+    ensures { λ r. ⌜ r ≡ getD (now (log .entry)) (certificateAt number + at) 0 ⌝ }
+{
+    log[certificate_at(number) + at]
+}
+
+// A certificate read whole, so that each word is read once.
+pub fn certificate_in(log: &[u32], number: u32) -> Certificate
+    requires { ⌜ certificateAt number + certificateWords ≤ length (now log) ⌝ }
+    ensures { λ r. ⌜ r ≡ certificateFrom (certificate (memory [] (now (log .entry)) []) number) ⌝ }
+{
+    Certificate {
+        kind: certificate_word(log, number, KIND_AT),
+        signer: certificate_word(log, number, SIGNER_AT),
+        view: certificate_word(log, number, VIEW_AT),
+        block: certificate_word(log, number, PROPOSED_BLOCK_AT),
+        of_view: certificate_word(log, number, OF_VIEW_AT),
+        subject: certificate_word(log, number, SUBJECT_AT),
+        subject_boot: certificate_word(log, number, SUBJECT_BOOT_AT),
+        signer_boot: certificate_word(log, number, SIGNER_BOOT_AT),
+    }
+}
 
 // How many certificates a turn of the loop tests.
 const GROUP: usize = 8;

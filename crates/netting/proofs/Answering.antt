@@ -10,10 +10,11 @@ use lib.IntN.{ℤ, pos}
 use mir.Syntax.{w32}
 use mir.Val.{ofZ, toZ}
 use mir.Facts.{toZ-ofZ}
-use Rattle.protocol.specs.declared.Movement.{Movement}
 use Rattle.protocol.specs.Memory.{maxFaultBound, replicaCount, maxBlocks}
 use Rattle.protocol.specs.Outcome.{firstRefusal, RuleOf, wrongMovement}
-use Rattle.protocol.specs.Movements.{movement, movementCount}
+use Rattle.movements.specs.Movements.{movement, movementCount}
+use Rattle.movements.proofs.Allowed.{is-allowed, list-short}
+use Rattle.movements.specs.declared.Movement.{Movement}
 use Rattle.protocol.proofs.Booleans.{tests, by-test, at-below}
 use Rattle.protocol.proofs.Needs.{refuses, accepts, fails, holds}
 use Rattle.blocks.specs.inner.Records.{parentIn}
@@ -21,7 +22,7 @@ use Rattle.ancestry.specs.inner.AncestryFits.{AncestorsMarked}
 use Rattle.netting.specs.declared.Netted.{Netted}
 use Rattle.netting.specs.Netting.{countsBy, balanceAfter, balanceBy, balanceTold}
 use Rattle.netting.specs.inner.Tallies.{marked, Talliable, Tallied, Nettable, balanceRule, balanceAnswer}
-use Rattle.netting.proofs.Nettings.{balance-same, balance-small, is-allowed, list-short}
+use Rattle.netting.proofs.Nettings.{balance-same, balance-small}
 use Rattle.netting.proofs.Moving.{small-fits}
 
 -- A list of one value has it everywhere.

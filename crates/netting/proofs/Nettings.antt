@@ -6,14 +6,14 @@ use mathlib.Core.List.{List}
 use native.Mathlib.Omega.{arith}
 use lib.Dec.{eqb}
 use lib.IntN.{natAbs}
-use Rattle.protocol.specs.declared.Movement.{Movement}
+use Rattle.movements.specs.declared.Movement.{Movement}
 use Rattle.protocol.specs.Memory.{Memory, replicaCount, faultBound, blockCount, parent}
 use Rattle.protocol.specs.Form.{wellFormed}
 use Rattle.protocol.specs.Outcome.{firstRefusal}
 use Rattle.protocol.specs.FirstNeeds.{isReplica, isBlock}
 use Rattle.protocol.specs.Theorems.{Accepted}
-use Rattle.protocol.specs.Movements.{movement, movementCount, movementAllowed, isMovementList, maxPallets, maxMovements}
-use Rattle.protocol.proofs.Booleans.{tests, by-cond, each, at-below, all-below}
+use Rattle.movements.specs.Movements.{movement, movementCount, movementAllowed, isMovementList, maxPallets, maxMovements}
+use Rattle.protocol.proofs.Booleans.{by-cond, at-below, all-below}
 use Rattle.protocol.proofs.Needs.{all-needs, returned, no-refusal, accepted-first}
 use Rattle.netting.specs.Netting.{palletsOf, balanceAfter, balanceBy, lent, nettingRule, netting}
 use Rattle.netting.specs.Theorems.{maxBalance}
@@ -49,21 +49,6 @@ pub balance-small : (counts : Movement → Bool) (movements : List ℕ) (k i : �
     → natAbs (balanceAfter counts movements k i) ≤ maxBalance
 balance-small counts movements k i few short =
     less-small _ _ maxBalance (pallets-small _ counts movements k i few short) (pallets-small _ counts movements k i few short)
-
--- What an allowed movement, and a list of movements, tell.
-pub record Allowed (replicas added : ℕ) (x : Movement) : Type 0 where
-  pub giver : x .giver < replicas
-  pub taker : x .taker < replicas
-  pub block : x .block < added
-  pub few : x .pallets ≤ maxPallets
-
-pub is-allowed : (replicas added : ℕ) (x : Movement) → movementAllowed replicas added x ≡ true → Allowed replicas added x
-unfolding movementAllowed
-is-allowed replicas added x e = let t = each _ e in omega tests
-
-pub list-short : (movements : List ℕ) → isMovementList movements ≡ true → movementCount movements ≤ maxMovements
-unfolding isMovementList
-list-short movements e = let t = each _ e in omega tests
 
 -- ---- an accepted netting
 

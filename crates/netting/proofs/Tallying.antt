@@ -8,16 +8,17 @@ use lib.Dec.{eqb}
 use lib.ListN.{length, getD, set, length-set}
 use lib.Seq.{getD-set-same, getD-set-other}
 use lib.IntN.{ℤ, pos, _+ℤ_, _-ℤ_}
-use Rattle.protocol.specs.declared.Movement.{Movement}
 use Rattle.protocol.specs.Form.{allBelow}
-use Rattle.protocol.specs.Movements.{movement, movementCount, movementAllowed, maxPallets, maxMovements}
 use Rattle.protocol.proofs.Booleans.{tests, by-test, by-cond, true-and, at-below}
 use Rattle.protocol.proofs.Below.{refuted-one}
+use Rattle.movements.specs.declared.Movement.{Movement}
+use Rattle.movements.specs.Movements.{movement, movementCount, movementAllowed, maxPallets, maxMovements}
+use Rattle.movements.proofs.Allowed.{is-allowed, list-short}
 use Rattle.netting.specs.Netting.{sumBelow, palletsOf, received, given}
 use Rattle.netting.specs.Theorems.{maxBalance}
 use Rattle.netting.specs.inner.Tallies.{marked, Movable, Talliable, Tallied}
 use Rattle.netting.proofs.Signed.{less-plus, less-minus, less-small}
-use Rattle.netting.proofs.Nettings.{pallets-small, is-allowed, list-short}
+use Rattle.netting.proofs.Nettings.{pallets-small}
 
 -- Every firm's balance is what it received less what it gave.
 abbrev pub Differ : List ℤ → (ℕ → ℕ) → (ℕ → ℕ) → Type 0

@@ -12,13 +12,14 @@ use Rattle.protocol.specs.Outcome.{firstRefusal, answered, follow}
 use Rattle.protocol.specs.Theorems.{Accepted, Alike}
 use Rattle.protocol.specs.History.{decided, givenParent}
 use Rattle.protocol.specs.Agreement.{Execution, eventsOf, endOf, Agreement}
-use Rattle.protocol.specs.Movements.{movement, movementCount}
 use Rattle.protocol.proofs.Booleans.{tests}
 use Rattle.protocol.proofs.Needs.{outcome-cases, outcome-state, refused, lowest}
 use Rattle.protocol.proofs.Formed.{formed, form, falls}
 use Rattle.protocol.proofs.Alike.{twin, parent-same, form-same}
 use Rattle.protocol.proofs.Reached.{Reached, given-falls, chosen-known}
 use Rattle.protocol.proofs.Agreement.{reached-by, agreement}
+use Rattle.movements.specs.Movements.{movement, movementCount}
+use Rattle.movements.proofs.Allowed.{is-allowed, list-short}
 use Rattle.netting.specs.Netting.{sumBelow, received, given, countsBy, balanceBy, lent, nettingRule, netting}
 use Rattle.netting.specs.Theorems.{NettingChangesNothing, RefusedNettingIsZero}
 use Rattle.netting.specs.Theorems.{NettingLowestWins, NettingPastCountsUnread}
@@ -27,8 +28,7 @@ use Rattle.netting.specs.Theorems.{chainLength, ChainLengthIsHeight, Cou
 use Rattle.netting.specs.Theorems.{NettingMatchesHistory, DecidedCanBeNetted}
 use Rattle.netting.proofs.Sums.{over-firms, total-same, total-less}
 use Rattle.netting.proofs.Chains.{chain-same, chain-of-chain, chain-as-high, chain-length}
-use Rattle.netting.proofs.Nettings.{balance-same, balance-small, is-allowed, list-short, Nets, passes, nets, answers}
-use Rattle.netting.proofs.Nettings.{accepted-netting}
+use Rattle.netting.proofs.Nettings.{balance-same, balance-small, Nets, passes, nets, answers, accepted-netting}
 
 pub netting-changes-nothing : NettingChangesNothing
 unfolding NettingChangesNothing netting nettingRule

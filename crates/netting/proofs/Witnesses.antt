@@ -3,7 +3,7 @@ use Prim.Native.Nat.{_≤_}
 use mathlib.Core.Path.{_≡_, refl}
 use mathlib.Core.Bool.{true}
 use native.Mathlib.Omega.{arith}
-use Rattle.protocol.specs.declared.Movement.{Movement}
+use Rattle.movements.specs.declared.Movement.{Movement}
 use Rattle.protocol.specs.Ancestry.{ancestorWithin}
 use Rattle.protocol.specs.History.{givenParent}
 use Rattle.protocol.specs.Agreement.{eventsOf}

@@ -9,8 +9,8 @@ use Rattle.protocol.specs.Ancestry.{isAncestorBy}
 use Rattle.protocol.specs.Form.{allBelow, wellFormed}
 use Rattle.protocol.specs.Outcome.{_else_, AnswerOf, OutcomeOf, RuleOf, follow, wrongForm, outOfRange, unknownNumber, wrongMovement}
 use Rattle.protocol.specs.FirstNeeds.{isReplica, isBlock}
-use Rattle.protocol.specs.declared.Movement.{Movement}
-use Rattle.protocol.specs.Movements.{movement, movementCount, movementAllowed, isMovementList}
+use Rattle.movements.specs.declared.Movement.{Movement}
+use Rattle.movements.specs.Movements.{movement, movementCount, movementAllowed, isMovementList}
 use Rattle.netting.specs.declared.Netted.{Netted}
 
 -- "For a chosen block, a movement counts exactly if its block is in the chosen block's line." The line goes by the parents that a function

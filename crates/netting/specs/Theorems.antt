@@ -4,12 +4,12 @@ use mathlib.Core.Path.{_≡_}
 use mathlib.Core.Bool.{true, false, cond}
 use mathlib.Core.List.{List, List·Memᴰ}
 use lib.IntN.{ℤ, pos, _+ℤ_, natAbs}
-use Rattle.protocol.specs.declared.Movement.{Movement}
 use Rattle.protocol.specs.Memory.{Memory, replicaCount, faultBound, blockCount, parent}
 use Rattle.protocol.specs.Ancestry.{Falls, isAncestorBy, heightBy}
 use Rattle.protocol.specs.Outcome.{_else_}
 use Rattle.protocol.specs.FirstNeeds.{isBlock}
-use Rattle.protocol.specs.Movements.{movement, movementCount, movementAllowed, isMovementList}
+use Rattle.movements.specs.declared.Movement.{Movement}
+use Rattle.movements.specs.Movements.{movement, movementCount, movementAllowed, isMovementList}
 use Rattle.protocol.specs.Theorems.{Accepted, Refused, Lowest, Alike}
 use Rattle.protocol.specs.History.{decided, givenParent}
 use Rattle.protocol.specs.Agreement.{Execution, eventsOf, endOf}

@@ -1,11 +1,10 @@
 // Netting of movements: a firm's balance of pallets at a chosen block (document 02, #101).
 ghost use mathlib.Core.Path.{_≡_};
 ghost use mathlib.Core.Bool.{cond};
-ghost use Prim.Native.Nat.{_+_, _≤_, _<_};
+ghost use Prim.Native.Nat.{_<_};
 ghost use lib.ListN.{length, getD, set};
 ghost use lib.IntN.{pos, _+ℤ_, _-ℤ_};
 ghost use Rattle.protocol.specs.Memory.{memory};
-ghost use Rattle.protocol.specs.Movements.{movementWords, movementAt, movement, movementAllowed, isMovementList};
 ghost use Rattle.netting.specs.Netting.{balanceTold, nettingOutcome, netting};
 ghost use Rattle.netting.specs.inner.Tallies.{
   marked,
@@ -15,23 +14,17 @@ ghost use Rattle.netting.specs.inner.Tallies.{
   Nettable,
   balanceAnswer,
 };
+use blocks::MAX_BLOCKS;
 use checks::FoundReplica;
-use constants::BLOCK_COUNT_AT;
-use constants::FAULT_BOUND_AT;
-use constants::GIVER_AT;
-use constants::MAX_BLOCKS;
-use constants::MAX_MOVEMENTS;
-use constants::MAX_PALLETS;
-use constants::MAX_REPLICAS;
-use constants::MOVEMENT_BLOCK_AT;
-use constants::MOVEMENT_WORDS;
-use constants::PALLETS_AT;
-use constants::TAKER_AT;
+use movements::MOVEMENT_WORDS;
+use movements::Movement;
 use protocol::ACCEPTED;
-use protocol::Movement;
 use protocol::UNKNOWN_NUMBER;
 use protocol::WRONG_FORM;
 use protocol::WRONG_MOVEMENT;
+use table::BLOCK_COUNT_AT;
+use table::FAULT_BOUND_AT;
+use table::MAX_REPLICAS;
 
 // The number that a netting returns, 0 where it is accepted, and its two values: a balance and 0.
 pub struct Netted {
@@ -58,40 +51,6 @@ fn refused(number: u32) -> Netted
         balance: 0,
         second: 0,
     }
-}
-
-// Whole movements, and not too many.
-fn is_movement_list(movements: &[u32]) -> bool
-    ensures { λ r. ⌜ r ≡ isMovementList (now (movements .entry)) ⌝ }
-{
-    (movements.len() % MOVEMENT_WORDS == 0) & (movements.len() <= MOVEMENT_WORDS * MAX_MOVEMENTS)
-}
-
-// The movement at a place of the list.
-fn movement_in(movements: &[u32], place: usize) -> Movement
-    requires { ⌜ movementAt place + movementWords ≤ length (now movements) ⌝ }
-    ensures { λ r. ⌜ r ≡ movement (now (movements .entry)) place ⌝ }
-{
-    let at = MOVEMENT_WORDS * place;
-    Movement {
-        block: movements[at + MOVEMENT_BLOCK_AT],
-        giver: movements[at + GIVER_AT],
-        taker: movements[at + TAKER_AT],
-        pallets: movements[at + PALLETS_AT],
-    }
-}
-
-// Whether a movement keeps the rules, where there are so many replicas and so many blocks are added.
-fn is_allowed(x: Movement, replicas: u32, added: u32) -> bool
-    ensures { λ r. ⌜ r ≡ movementAllowed replicas added x ⌝ }
-{
-    (x.block != 0)
-        & (x.block < added)
-        & (x.giver < replicas)
-        & (x.taker < replicas)
-        & (x.giver != x.taker)
-        & (1 <= x.pallets)
-        & (x.pallets <= MAX_PALLETS)
 }
 
 // The pallets of a movement, or none where its block is not marked.
@@ -132,8 +91,8 @@ fn tally(movements: &[u32], marks: &[bool], replicas: u32, added: u32, balances:
     let count = movements.len() / MOVEMENT_WORDS;
     let mut place: usize = 0;
     while place < count {
-        let x = movement_in(movements, place);
-        if !is_allowed(x, replicas, added) {
+        let x = movements::movement_in(movements, place);
+        if !movements::is_allowed(x, replicas, added) {
             return false;
         }
         let pallets = counted_pallets(marks, x);
@@ -178,7 +137,7 @@ pub fn net(
     ensures { λ r. ⌜ nettingOutcome r (now (table .exit)) (now (log .exit)) (now (blocks .exit)) (now (movements .exit))
         ≡ netting (memory (now (table .entry)) (now (log .entry)) (now (blocks .entry))) (now (movements .entry)) block replica ⌝ }
 {
-    if !is_movement_list(movements) {
+    if !movements::is_movement_list(movements) {
         return refused(WRONG_FORM);
     }
     let found = checks::find_replica(table, log, blocks, replica);
@@ -189,6 +148,6 @@ pub fn net(
     if added <= block {
         return refused(UNKNOWN_NUMBER);
     }
-    let replicas = layout::replica_count(table[FAULT_BOUND_AT]);
+    let replicas = table::replica_count(table[FAULT_BOUND_AT]);
     balance_at(blocks, movements, block, replica, replicas, added)
 }

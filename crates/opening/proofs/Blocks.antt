@@ -13,7 +13,7 @@ use Rattle.protocol.specs.FirstNeeds.{isBlock}
 use Rattle.protocol.specs.Calls.{block}
 use Rattle.protocol.proofs.Booleans.{tests}
 use Rattle.protocol.proofs.Formed.{formed, sizes}
-use Rattle.layout.proofs.Within.{height-below}
+use Rattle.form.proofs.Within.{height-below}
 use Rattle.protocol.proofs.Needs.{refuses, accepts, fails, holds}
 
 module _ (m : Memory) (p : ℕ) where

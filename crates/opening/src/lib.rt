@@ -10,26 +10,26 @@ ghost use Rattle.opening.specs.inner.Fresh.{freshRows};
 use blocks::ROOT;
 use checks::accepted;
 use checks::refused;
-use constants::BLOCK_COUNT_AT;
-use constants::BOOT_AT;
-use constants::CERTIFICATE_COUNT_AT;
-use constants::DECIDED_BLOCK_AT;
-use constants::DECIDED_VIEW_AT;
-use constants::FAULT_BOUND_AT;
-use constants::FLAG_AT;
-use constants::LIVE;
-use constants::LOWERED;
-use constants::MIN_VIEW_AT;
-use constants::STATUS_AT;
-use constants::STORED_BLOCK_AT;
-use constants::STORED_VIEW_AT;
-use constants::VIEW_LIMIT_AT;
 use protocol::Answer;
 use protocol::NO_ROOM;
 use protocol::OUT_OF_RANGE;
 use protocol::UNKNOWN_NUMBER;
 use protocol::WRONG_FORM;
 use protocol::WRONG_STEPS;
+use table::BLOCK_COUNT_AT;
+use table::BOOT_AT;
+use table::CERTIFICATE_COUNT_AT;
+use table::DECIDED_BLOCK_AT;
+use table::DECIDED_VIEW_AT;
+use table::FAULT_BOUND_AT;
+use table::FLAG_AT;
+use table::LIVE;
+use table::LOWERED;
+use table::MIN_VIEW_AT;
+use table::STATUS_AT;
+use table::STORED_BLOCK_AT;
+use table::STORED_VIEW_AT;
+use table::VIEW_LIMIT_AT;
 
 // A replica as opening leaves it.
 fn fresh_row(table: &mut [u32], replica: u32, limit: u32)
@@ -86,18 +86,18 @@ pub fn open_ledger(
     ensures { λ r. ⌜ outcome r (now (table .exit)) (now (log .exit)) (now (blocks .exit))
         ≡ outcomeBy (λ m. openingRule m f (now (list .entry))) (now (table .entry)) (now (log .entry)) (now (blocks .entry)) ⌝ }
 {
-    if !layout::form::is_fault_bound(f) {
+    if !form::is_fault_bound(f) {
         return refused(OUT_OF_RANGE);
     }
     if !counter::steps_allowed(list) {
         return refused(WRONG_STEPS);
     }
-    if !layout::form::lengths_fit(table, log, blocks, f) {
+    if !form::lengths_fit(table, log, blocks, f) {
         return refused(WRONG_FORM);
     }
     fresh_header(table, blocks, f);
     let limit = counter::open_steps(table, list);
-    let replicas = layout::replica_count(f);
+    let replicas = table::replica_count(f);
     fresh_rows(table, replicas, limit);
     accepted(replicas, 0)
 }
@@ -107,7 +107,7 @@ pub fn block(table: &mut [u32], log: &mut [u32], blocks: &mut [u32], parent: u32
     ensures { λ r. ⌜ outcome r (now (table .exit)) (now (log .exit)) (now (blocks .exit))
         ≡ outcomeBy (λ m. blockRule m parent) (now (table .entry)) (now (log .entry)) (now (blocks .entry)) ⌝ }
 {
-    if layout::form::is_well_formed(table, log, blocks) {
+    if form::is_well_formed(table, log, blocks) {
         let count = table[BLOCK_COUNT_AT];
         if count <= parent {
             return refused(UNKNOWN_NUMBER);

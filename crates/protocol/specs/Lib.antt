@@ -19,7 +19,6 @@ pub mod Repeats
 pub mod Steps
 pub mod Heights
 pub mod Cuts
-pub mod Movements
 pub mod cases
 pub mod Claims
 pub mod inner

@@ -1,4 +1,8 @@
-// What the code and the definitions share: a call, the answer to it with its refusals, what lets a leader propose, and a movement.
+// What the code and the definitions share: a call, the answer to it with its refusals, and what lets a leader propose.
+
+ghost use mathlib.Core.Path.{_≡_};
+ghost use mathlib.Core.List.{[], _∷_};
+ghost use Rattle.protocol.specs.Outcome as Refusals;
 
 // The number that a call returns, 0 where it is accepted, and its two values.
 pub struct Answer {
@@ -38,6 +42,29 @@ pub const WRONG_MOVEMENT: u32 = 11;
 // "steps that break these rules or aren't eight" (document 02, #104): for an opening.
 pub const WRONG_STEPS: u32 = 12;
 
+// They are the definitions': nothing calls this.
+pub fn refusals() -> [u32; 12]
+    ensures { λ r. ⌜ r
+        ≡ Refusals.wrongForm ∷ Refusals.outOfRange ∷ Refusals.unknownNumber ∷ Refusals.wrongStatus ∷ Refusals.wrongCertificate
+        ∷ Refusals.wrongBlock ∷ Refusals.wrongView ∷ Refusals.counterLimit ∷ Refusals.noRoom ∷ Refusals.unreadable
+        ∷ Refusals.wrongMovement ∷ Refusals.wrongSteps ∷ [] ⌝ }
+{
+    [
+        WRONG_FORM,
+        OUT_OF_RANGE,
+        UNKNOWN_NUMBER,
+        WRONG_STATUS,
+        WRONG_CERTIFICATE,
+        WRONG_BLOCK,
+        WRONG_VIEW,
+        COUNTER_LIMIT,
+        NO_ROOM,
+        UNREADABLE,
+        WRONG_MOVEMENT,
+        WRONG_STEPS,
+    ]
+}
+
 // What lets a leader propose (document 01: the ground of a proposal): the number of an ACC, or the view and the block of a
 // commit quorum, whose numbers are the list beside the call.
 pub enum Justification {
@@ -69,12 +96,4 @@ pub enum Call {
     Reply(u32, u32),
     // replica
     Recover(u32),
-}
-
-// A movement of pallets (document 02, #101): the block that it stands in, the replica whose firm gave, the one whose firm took, how many.
-pub struct Movement {
-    pub block: u32,
-    pub giver: u32,
-    pub taker: u32,
-    pub pallets: u32,
 }

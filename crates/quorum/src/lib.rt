@@ -15,17 +15,17 @@ ghost use Rattle.quorum.specs.inner.Lists.{
   Greatest,
 };
 ghost use Rattle.quorum.specs.inner.Signers.{holds};
-use constants::COMMIT;
-use constants::KIND_AT;
-use constants::NEWVIEW;
-use constants::OF_VIEW_AT;
-use constants::PROPOSED_BLOCK_AT;
-use constants::REPLY;
-use constants::SIGNER_AT;
-use constants::SUBJECT_AT;
-use constants::SUBJECT_BOOT_AT;
-use constants::VIEW_AT;
-use layout::certificate_word;
+use log::COMMIT;
+use log::KIND_AT;
+use log::NEWVIEW;
+use log::OF_VIEW_AT;
+use log::PROPOSED_BLOCK_AT;
+use log::REPLY;
+use log::SIGNER_AT;
+use log::SUBJECT_AT;
+use log::SUBJECT_BOOT_AT;
+use log::VIEW_AT;
+use log::certificate_word;
 
 // What each certificate of a quorum has to be.
 enum Wanted {

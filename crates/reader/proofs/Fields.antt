@@ -8,7 +8,8 @@ use mathlib.Core.Bool.{true, false}
 use Rattle.protocol.proofs.Booleans.{tests, by-test}
 use Rattle.field.specs.Field.{columns, maxNumber}
 use Rattle.field.proofs.Reading.{too-short}
-use Rattle.reader.specs.Reading.{numberFrom, columnAfter, readOf, fieldAt}
+use Rattle.field.specs.Field.{numberFrom}
+use Rattle.reader.specs.inner.Reading.{columnAfter, readOf, fieldAt}
 
 module _ (line : List ℕ) (column : ℕ) where
   pub field-within : numberFrom line column ≤ maxNumber → column + columns ≤ length line

@@ -1,2 +1,2 @@
 -- The line reader (document 01, "Script program").
-pub mod Reading
+pub mod inner

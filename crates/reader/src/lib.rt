@@ -1,6 +1,7 @@
 // The line reader: the bytes of a line and the column reached (document 01, "Script program").
 ghost use mathlib.Core.Path.{_≡_};
-ghost use Rattle.reader.specs.Reading.{numberFrom, columnAfter, movedOn, readOf, fieldAt, readRefusal};
+ghost use Rattle.field.specs.Field.{numberFrom};
+ghost use Rattle.reader.specs.inner.Reading.{columnAfter, movedOn, readOf, fieldAt, readRefusal};
 use field::COLUMNS;
 use field::MAX_NUMBER;
 use protocol::ACCEPTED;

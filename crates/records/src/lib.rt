@@ -1,4 +1,4 @@
-// Replicas and certificates read whole, as records, so that each word is read once; and words of a replica set together.
+// Replicas read whole, as records, so that each word is read once; and words of a replica set together.
 ghost use mathlib.Core.Path.{_≡_};
 ghost use mathlib.Core.List.{[]};
 ghost use Prim.Native.Nat.{_+_, _≤_};
@@ -8,16 +8,11 @@ ghost use Rattle.protocol.specs.Memory.{
   rowAt,
   replicaWords,
   replica as replicaAt,
-  certificateAt,
-  certificateWords,
-  certificate,
   assign,
 };
-ghost use Rattle.records.specs.inner.Replicas.{replicaFrom, certificateFrom, assignments, Settable};
-use certificates::Certificate;
-use layout::certificate_word;
-use layout::replica_word;
-use layout::set_replica_word;
+ghost use Rattle.records.specs.inner.Replicas.{replicaFrom, assignments, Settable};
+use table::replica_word;
+use table::set_replica_word;
 
 pub struct Replica {
     pub status: u32,
@@ -36,15 +31,15 @@ pub fn replica_in(table: &[u32], replica: u32) -> Replica
     ensures { λ r. ⌜ r ≡ replicaFrom (replicaAt (memory (now (table .entry)) [] []) replica) ⌝ }
 {
     Replica {
-        status: replica_word(table, replica, constants::STATUS_AT),
-        boot: replica_word(table, replica, constants::BOOT_AT),
-        min_view: replica_word(table, replica, constants::MIN_VIEW_AT),
-        view_limit: replica_word(table, replica, constants::VIEW_LIMIT_AT),
-        flag: replica_word(table, replica, constants::FLAG_AT),
-        stored_view: replica_word(table, replica, constants::STORED_VIEW_AT),
-        stored_block: replica_word(table, replica, constants::STORED_BLOCK_AT),
-        decided_view: replica_word(table, replica, constants::DECIDED_VIEW_AT),
-        decided_block: replica_word(table, replica, constants::DECIDED_BLOCK_AT),
+        status: replica_word(table, replica, table::STATUS_AT),
+        boot: replica_word(table, replica, table::BOOT_AT),
+        min_view: replica_word(table, replica, table::MIN_VIEW_AT),
+        view_limit: replica_word(table, replica, table::VIEW_LIMIT_AT),
+        flag: replica_word(table, replica, table::FLAG_AT),
+        stored_view: replica_word(table, replica, table::STORED_VIEW_AT),
+        stored_block: replica_word(table, replica, table::STORED_BLOCK_AT),
+        decided_view: replica_word(table, replica, table::DECIDED_VIEW_AT),
+        decided_block: replica_word(table, replica, table::DECIDED_BLOCK_AT),
     }
 }
 
@@ -60,21 +55,5 @@ pub fn set_words(table: &mut [u32], replica: u32, offsets: &[usize], values: &[u
         let offset = offsets[i];
         set_replica_word(table, replica, offset, values[i]);
         i += 1;
-    }
-}
-
-pub fn certificate_in(log: &[u32], number: u32) -> Certificate
-    requires { ⌜ certificateAt number + certificateWords ≤ length (now log) ⌝ }
-    ensures { λ r. ⌜ r ≡ certificateFrom (certificate (memory [] (now (log .entry)) []) number) ⌝ }
-{
-    Certificate {
-        kind: certificate_word(log, number, constants::KIND_AT),
-        signer: certificate_word(log, number, constants::SIGNER_AT),
-        view: certificate_word(log, number, constants::VIEW_AT),
-        block: certificate_word(log, number, constants::PROPOSED_BLOCK_AT),
-        of_view: certificate_word(log, number, constants::OF_VIEW_AT),
-        subject: certificate_word(log, number, constants::SUBJECT_AT),
-        subject_boot: certificate_word(log, number, constants::SUBJECT_BOOT_AT),
-        signer_boot: certificate_word(log, number, constants::SIGNER_BOOT_AT),
     }
 }

@@ -4,7 +4,7 @@ use mathlib.Core.List.{List}
 use native.Mathlib.Omega.{arith}
 use lib.ListN.{getD}
 use Rattle.protocol.specs.Memory.{Memory, certificate}
-use Rattle.layout.proofs.Within.{certificate-bounds}
+use Rattle.form.proofs.Within.{certificate-bounds}
 use Rattle.checks.proofs.Ready.{Ready, ReadyList, issued-at}
 
 pub of-view-fits : (m : Memory) (i : ℕ) (list : List ℕ) → Ready m i → ReadyList m list → (k : ℕ)

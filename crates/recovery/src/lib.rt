@@ -9,32 +9,32 @@ ghost use Rattle.protocol.specs.Calls.{
   reply as replyRule,
   recover as recoverRule,
 };
-ghost use Rattle.certificates.specs.inner.Filing.{certificateOf};
+ghost use Rattle.log.specs.inner.Certificates.{certificateOf};
 ghost use Rattle.records.specs.inner.Replicas.{replicaOf};
 ghost use Rattle.checks.specs.inner.Verdicts.{tested};
-use certificates::Certificate;
 use checks::FoundCertificate;
 use checks::FoundReplica;
 use checks::Tested;
 use checks::accepted;
 use checks::need;
 use checks::refused;
-use constants::FLAG_AT;
-use constants::LIVE;
-use constants::LOWERED;
-use constants::MIN_VIEW_AT;
-use constants::RECOVERING;
-use constants::REPLY;
-use constants::REQ;
-use constants::STATUS_AT;
-use constants::STORED_BLOCK_AT;
-use constants::STORED_VIEW_AT;
 use issuing::issue;
+use log::Certificate;
+use log::REPLY;
+use log::REQ;
 use protocol::Answer;
 use protocol::COUNTER_LIMIT;
 use protocol::WRONG_CERTIFICATE;
 use protocol::WRONG_STATUS;
 use records::Replica;
+use table::FLAG_AT;
+use table::LIVE;
+use table::LOWERED;
+use table::MIN_VIEW_AT;
+use table::RECOVERING;
+use table::STATUS_AT;
+use table::STORED_BLOCK_AT;
+use table::STORED_VIEW_AT;
 
 // What a restarted replica asks the others with.
 fn req(replica: u32, r: Replica) -> Certificate
@@ -154,7 +154,7 @@ pub fn recover(
         return refused(listed.refusal());
     };
     let best = quorum::greatest(log, list);
-    let c = records::certificate_in(log, list[best]);
+    let c = log::certificate_in(log, list[best]);
     let min_view = larger(r.min_view, c.of_view + 1);
     let replied = quorum::is_reply_quorum(log, list, replica, r.boot, r.min_view);
     let tested = need(Tested::Passed, r.status == RECOVERING, WRONG_STATUS);

@@ -5,7 +5,7 @@ use native.Mathlib.Omega.{arith}
 use Rattle.protocol.specs.Memory.{Memory, replica}
 use Rattle.protocol.specs.Counter.{counterStep}
 use Rattle.protocol.proofs.Booleans.{tests}
-use Rattle.layout.proofs.Within.{replica-bounds}
+use Rattle.form.proofs.Within.{replica-bounds}
 use Rattle.counter.proofs.Steps.{counter-step-bounds}
 use Rattle.checks.proofs.Ready.{Ready}
 

@@ -14,22 +14,22 @@ use checks::Tested;
 use checks::accepted;
 use checks::need;
 use checks::refused;
-use constants::BOOT_AT;
-use constants::CEILING;
-use constants::FLAG_AT;
-use constants::LOWERED;
-use constants::MIN_VIEW_AT;
-use constants::RECOVERING;
-use constants::RETIRED;
-use constants::STATUS_AT;
-use constants::STORED_BLOCK_AT;
-use constants::STORED_VIEW_AT;
-use constants::VIEW_LIMIT_AT;
-use layout::set_replica_word;
 use protocol::Answer;
 use protocol::COUNTER_LIMIT;
 use protocol::WRONG_STATUS;
 use records::Replica;
+use table::BOOT_AT;
+use table::CEILING;
+use table::FLAG_AT;
+use table::LOWERED;
+use table::MIN_VIEW_AT;
+use table::RECOVERING;
+use table::RETIRED;
+use table::STATUS_AT;
+use table::STORED_BLOCK_AT;
+use table::STORED_VIEW_AT;
+use table::VIEW_LIMIT_AT;
+use table::set_replica_word;
 
 // Whether a reboot, to this boot and view limit, retires the replica.
 fn retires(r: Replica, boot: u32, limit: u32) -> bool

@@ -10,8 +10,9 @@ use Rattle.protocol.proofs.Booleans.{by-test}
 use Rattle.field.specs.Field.{columns}
 use Rattle.reader.specs.declared.Read.{Read}
 use Rattle.reader.specs.declared.Read.the-variants.{To, Refused}
-use Rattle.reader.specs.Reading.{readRefusal}
-use Rattle.script.specs.Lines.{minFields, maxFields, fieldCount, numbers, hasNumbers, lineRead}
+use Rattle.reader.specs.inner.Reading.{readRefusal}
+use Rattle.script.specs.Lines.{minFields, maxFields, fieldCount, numbers, hasNumbers}
+use Rattle.script.specs.inner.Reading.{lineRead}
 use Rattle.script.specs.Session.{Session, Answered, answerNumbers, answerLine}
 use Rattle.script.proofs.Reading.{clash, same, readable}
 

@@ -9,11 +9,12 @@ use native.Mathlib.Numerals.{unary-clauses}
 use Rattle.protocol.proofs.Booleans.{tests, by-test, each, all-hold, at-below}
 use Rattle.protocol.specs.Form.{allBelow}
 use Rattle.protocol.specs.Outcome.{unreadable}
-use Rattle.field.specs.Field.{columns}
+use Rattle.field.specs.Field.{columns, numberFrom}
 use Rattle.reader.specs.declared.Read.{Read}
 use Rattle.reader.specs.declared.Read.the-variants.{To, Refused}
-use Rattle.reader.specs.Reading.{numberFrom, fieldAt}
-use Rattle.script.specs.Lines.{minFields, maxFields, fieldCount, numberAt, numbers, isNumber, hasNumbers, lineRead}
+use Rattle.reader.specs.inner.Reading.{fieldAt}
+use Rattle.script.specs.Lines.{minFields, maxFields, fieldCount, numberAt, numbers, isNumber, hasNumbers}
+use Rattle.script.specs.inner.Reading.{lineRead}
 
 pub clash : {n x : ℕ} → To n ≡ Refused x → ⊥
 clash e = let no : _≡_ {A = ℕ} 0 1 = cc in omega (tests, no)

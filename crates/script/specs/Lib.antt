@@ -5,3 +5,4 @@ pub mod Agreement
 pub mod Text
 pub mod Theorems
 pub mod Claims
+pub mod inner

@@ -1,15 +1,11 @@
 -- The fields of a line and their numbers.
 use Prim.Native.Nat.{ℕ, zero, suc, _*_, _/_}
-use mathlib.Core.Bool.{Bool, cond}
+use mathlib.Core.Bool.{Bool}
 use mathlib.Core.List.{List, [], _∷_, _++_}
 use lib.Dec.{leb, eqb}
 use lib.ListN.{length}
 use Rattle.protocol.specs.Form.{allHold, allBelow}
-use Rattle.protocol.specs.Outcome.{unreadable}
-use Rattle.field.specs.Field.{columns, maxNumber}
-use Rattle.reader.specs.declared.Read.{Read}
-use Rattle.reader.specs.declared.Read.the-variants.{To, Refused}
-use Rattle.reader.specs.Reading.{numberFrom}
+use Rattle.field.specs.Field.{columns, maxNumber, numberFrom}
 
 -- "A line has 3 to 34 fields"
 abbrev pub minFields : ℕ
@@ -42,7 +38,3 @@ hasNumbers line =
     ∷ leb (fieldCount line) maxFields
     ∷ allBelow (fieldCount line) (isNumber line)
     ∷ [])
-
--- The column that reading a line's numbers reaches, which is its end, or the refusal.
-unfoldable pub lineRead : List ℕ → Read
-lineRead line = cond (hasNumbers line) (To (length line)) (Refused unreadable)

@@ -7,7 +7,7 @@ ghost use lib.ListN.{length, take};
 ghost use Rattle.protocol.specs.Memory.{memory};
 ghost use Rattle.protocol.specs.Outcome.{told, outcome};
 ghost use Rattle.field.specs.Field.{columns, maxNumber, fieldOf};
-ghost use Rattle.script.specs.Lines.{minFields, maxFields, fieldCount, numbers, hasNumbers, lineRead};
+ghost use Rattle.script.specs.Lines.{minFields, maxFields, fieldCount, numbers, hasNumbers};
 ghost use Rattle.script.specs.Session.{
   session,
   leaves,
@@ -19,6 +19,7 @@ ghost use Rattle.script.specs.Session.{
   answerLine,
 };
 ghost use Rattle.script.specs.Text.{answerText, answerBytes, Printable};
+ghost use Rattle.script.specs.inner.Reading.{lineRead};
 use checks::refused;
 use field::COLUMNS;
 use protocol::ACCEPTED;
@@ -84,8 +85,8 @@ fn read_numbers(line: &[u8], given: &mut [u32]) -> Read
 fn lent_length(f: u32) -> usize
     ensures { λ r. ⌜ (r ≡ lentLength f) × (r ≤ maxTable) ⌝ }
 {
-    if layout::form::is_fault_bound(f) {
-        layout::row_at(layout::replica_count(f))
+    if form::is_fault_bound(f) {
+        table::row_at(table::replica_count(f))
     } else {
         0
     }

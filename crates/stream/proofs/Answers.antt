@@ -16,8 +16,8 @@ use Rattle.script.specs.Theorems.{AnswersPrintable}
 use Rattle.script.proofs.Theorems.{answers-printable}
 use Rattle.stream.specs.declared.Progress.{Progress}
 use Rattle.stream.specs.Output.{maxLines}
-use Rattle.stream.specs.Stream.{Stream, endLine, byteIn, fed, finished}
-use Rattle.stream.specs.inner.Progress.{streamOf, withHeld, begun}
+use Rattle.stream.specs.Stream.{Stream, streamOf, endLine, byteIn, fed, finished}
+use Rattle.stream.specs.inner.Progress.{withHeld, begun}
 use Rattle.stream.specs.inner.Holding.{lineSoFar, Held}
 use Rattle.stream.proofs.Fed.{line-ended}
 

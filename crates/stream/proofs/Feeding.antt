@@ -9,8 +9,8 @@ use Rattle.script.specs.Session.{maxTable}
 use Rattle.script.specs.Text.{answerBytes}
 use Rattle.stream.specs.declared.Progress.{Progress}
 use Rattle.stream.specs.Output.{maxLines}
-use Rattle.stream.specs.Stream.{Stream, heldPlaces, endLine, fed}
-use Rattle.stream.specs.inner.Progress.{streamOf, withHeld, begun}
+use Rattle.stream.specs.Stream.{Stream, streamOf, heldPlaces, endLine, fed}
+use Rattle.stream.specs.inner.Progress.{withHeld, begun}
 use Rattle.stream.specs.inner.Feeds.{feedFrom}
 use Rattle.stream.specs.inner.Holding.{lineSoFar, Held}
 use Rattle.stream.proofs.Fed.{fed-stopped}

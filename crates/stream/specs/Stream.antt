@@ -3,11 +3,12 @@ use Prim.Native.Nat.{ℕ, suc, _*_}
 use mathlib.Core.Bool.{cond, _&&_}
 use mathlib.Core.List.{List, [], _∷_, _++_}
 use lib.Dec.{ltb, eqb}
-use lib.ListN.{length}
+use lib.ListN.{length, take}
 use Rattle.field.specs.Field.{columns}
 use Rattle.script.specs.Lines.{maxFields}
-use Rattle.script.specs.Session.{Session, answerLine}
+use Rattle.script.specs.Session.{Session, session, answerLine}
 use Rattle.script.specs.Text.{lineFeed, answerText}
+use Rattle.stream.specs.declared.Progress.{Progress}
 use Rattle.stream.specs.Output.{maxLines, newSession}
 
 -- The ledger, the number of lines answered, the bytes held of the line that has begun, and the text that is still to be written.
@@ -16,6 +17,16 @@ pub record Stream : Type 0 where
   pub lines : ℕ
   pub held : List ℕ
   pub text : List ℕ
+
+-- What the program has of it: some numbers, the ledger's words, places for a line and for text.
+abbrev pub streamOf : Progress → List ℕ → List ℕ → List ℕ → List ℕ → List ℕ → Stream
+streamOf p t l b line text =
+    record {
+      session = session (p .«fault_bound») t l b;
+      lines = p .lines;
+      held = take (p .held) line;
+      text = take (p .pending) text;
+    }
 
 -- One more byte than a readable line can have: what comes after these tells nothing more.
 abbrev pub heldPlaces : ℕ

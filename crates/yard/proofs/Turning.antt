@@ -3,8 +3,7 @@ use Prim.Native.Nat.{ℕ}
 use mathlib.Core.Path.{_≡_, refl, ap, _∙_}
 use mathlib.Core.List.{List, [], _∷_}
 use Rattle.stream.specs.declared.Progress.{Progress}
-use Rattle.stream.specs.Stream.{Stream, emptied}
-use Rattle.stream.specs.inner.Progress.{streamOf}
+use Rattle.stream.specs.Stream.{Stream, streamOf, emptied}
 use Rattle.stream.specs.Turns.{taken, after, Ran}
 use Rattle.yard.specs.declared.Written.{Written}
 use Rattle.yard.specs.declared.Written.the-variants.{All}

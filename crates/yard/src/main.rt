@@ -3,8 +3,7 @@ ghost use mathlib.Core.Path.{_≡_};
 ghost use Prim.Native.Nat.{_≤_};
 ghost use lib.ListN.{length, take};
 ghost use Rattle.io.specs.Counts.{clamped};
-ghost use Rattle.stream.specs.Stream.{newStream};
-ghost use Rattle.stream.specs.inner.Progress.{streamOf};
+ghost use Rattle.stream.specs.Stream.{newStream, streamOf};
 ghost use Rattle.stream.specs.Turns.{taken, Ran};
 ghost use Rattle.yard.specs.inner.Writing.{chunkBytes, InPlace, Flushed, Writes};
 use libc::STDIN_FILENO;
@@ -26,12 +25,11 @@ const CERTIFICATES: usize = 2048;
 const BLOCKS: usize = 1024;
 
 // The words that are lent.
-const TABLE_WORDS: usize = constants::ROW_START
-    + constants::MAX_REPLICAS * constants::REPLICA_WORDS;
+const TABLE_WORDS: usize = table::ROW_START + table::MAX_REPLICAS * table::REPLICA_WORDS;
 
-const LOG_WORDS: usize = CERTIFICATES * constants::CERTIFICATE_WORDS;
+const LOG_WORDS: usize = CERTIFICATES * log::CERTIFICATE_WORDS;
 
-const BLOCKS_WORDS: usize = BLOCKS * constants::BLOCK_WORDS;
+const BLOCKS_WORDS: usize = BLOCKS * blocks::BLOCK_WORDS;
 
 // Reads once, and again where that fails. Gives how many bytes came, 0 at the end of the input, or -1.
 fn read_chunk(chunk: &mut [u8; CHUNK_BYTES]) -> isize {

@@ -11,7 +11,7 @@ use Rattle.protocol.specs.Outcome.{Need}
 use Rattle.protocol.specs.FirstNeeds.{listNeeds}
 use Rattle.protocol.specs.Calls.{accumulateNeeds, accumulate as accumulateRule}
 use Rattle.protocol.proofs.Booleans.{tests}
-use Rattle.records.specs.inner.Replicas.{certificateFrom}
+use Rattle.log.specs.inner.Certificates.{certificateFrom}
 use Rattle.checks.specs.inner.Verdicts.{tested}
 use Rattle.checks.proofs.Verdicts.{first-need, then-need}
 use Rattle.checks.proofs.Passing.{ReplicaFound, no-replica, found-replica, ListFound, found-list, failed, passed}

@@ -9,7 +9,7 @@ use Rattle.protocol.specs.Memory.{Memory, memory, replica, update}
 use Rattle.protocol.specs.Quorum.{every, certificatesOf, firstOf}
 use Rattle.protocol.specs.FirstNeeds.{listNeeds}
 use Rattle.protocol.specs.Calls.{decideNeeds, decide as decideRule}
-use Rattle.records.specs.inner.Replicas.{certificateFrom}
+use Rattle.log.specs.inner.Certificates.{certificateFrom}
 use Rattle.checks.specs.inner.Verdicts.{tested}
 use Rattle.checks.proofs.Ready.{row-within}
 use Rattle.checks.proofs.Verdicts.{first-need}

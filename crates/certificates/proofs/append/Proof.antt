@@ -3,7 +3,7 @@ use native.Mathlib.Omega.{arith}
 use borrow.Author.Needs.{needs}
 use lib.ListN.{length-set}
 use Rattle.protocol.specs.Memory.{words}
-use Rattle.certificates.specs.inner.Filing.{certificateOf}
+use Rattle.log.specs.inner.Certificates.{certificateOf}
 use Rattle.certificates.proofs.Filing.{written}
 use Rattle.certificates.proofs.append.Statement.{statement}
 use Rattle.certificates.proofs.append.Tie as tie

@@ -6,7 +6,8 @@ use borrow.Author.Needs.{needs}
 use Rattle.protocol.specs.Memory.{words}
 use Rattle.protocol.specs.Certificates.{firstBelow}
 use Rattle.protocol.proofs.Joined.{granted}
-use Rattle.certificates.specs.inner.Filing.{certificateOf, isEqual}
+use Rattle.log.specs.inner.Certificates.{certificateOf}
+use Rattle.certificates.specs.inner.Filing.{isEqual}
 use Rattle.certificates.proofs.Equal.{of-other-view}
 use Rattle.certificates.proofs.Search.{none-yet, none-of-four, found, none}
 use Rattle.certificates.proofs.find.Statement.{statement}

@@ -1,49 +1,21 @@
--- What filing a certificate asks of the table and the log, and what it gives.
-use Prim.Native.Nat.{ℕ, _+_, _≤_, _<_, _%_}
-use mathlib.Core.Path.{_≡_}
+-- What filing a certificate asks of the log, and what it gives.
+use Prim.Native.Nat.{ℕ, _+_, _<_}
 use mathlib.Core.Bool.{Bool, cond, not}
 use mathlib.Core.List.{List}
 use lib.ListN.{length, getD}
 use lib.Dec.{eqb}
-use Rattle.protocol.specs.Memory.{Memory, memory, certificateCountAt, certificateWords, certificateAt, maxCertificates, viewAt}
-use Rattle.protocol.specs.Memory as Memory
+use Rattle.protocol.specs.Memory.{Memory, memory, certificateWords, certificateAt, viewAt}
 use Rattle.protocol.specs.Form.{allBelow}
 use Rattle.protocol.specs.Certificates.{numberFor, foundOrAppended, canFile, file}
 use Rattle.protocol.specs.Outcome.{noRoom}
-use Rattle.certificates.specs.declared.Certificate.{Certificate}
+use Rattle.log.specs.inner.LogFits.{countIn, LogFits}
 use Rattle.certificates.specs.declared.Filed.{Filed}
 use Rattle.certificates.specs.declared.Filed.the-variants.{At, Refused}
 
--- The number of certificates issued, in the table's words.
-abbrev pub countIn : List ℕ → ℕ
-countIn table = getD table certificateCountAt 0
-
--- The facts of the form that filing rests on: the table has the count; the log has whole slots, at most 4,096, and no fewer than
--- the count.
-pub record LogFits (table log : List ℕ) : Type 0 where
-  pub counted : certificateCountAt < length table
-  pub whole : length log % certificateWords ≡ 0
-  pub small : length log ≤ certificateAt maxCertificates
-  pub issued : certificateAt (countIn table) ≤ length log
-
--- The same, with a slot free.
+-- The log fits, with a slot free.
 pub record LogHasRoom (table log : List ℕ) : Type 0 where
   pub fits : LogFits table log
   pub room : certificateAt (countIn table) < length log
-
--- A certificate of the code, as the rules have it.
-abbrev pub certificateOf : Certificate → Memory.Certificate
-certificateOf c =
-    record {
-      kind = c .kind;
-      signer = c .signer;
-      view = c .view;
-      block = c .block;
-      ofView = c .«of_view»;
-      subject = c .subject;
-      subjectBoot = c .«subject_boot»;
-      signerBoot = c .«signer_boot»;
-    }
 
 -- The words of the log from an index on are those of a certificate.
 unfoldable pub equalFrom : List ℕ → ℕ → List ℕ → Bool

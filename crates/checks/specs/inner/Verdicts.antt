@@ -5,7 +5,8 @@ use mathlib.Core.List.{List, [], _∷_}
 use Rattle.protocol.specs.Memory.{Memory, replica, certificate}
 use Rattle.protocol.specs.Outcome.{Need, _else_, firstRefusal}
 use Rattle.protocol.specs.FirstNeeds.{replicaNeeds, numberNeeds}
-use Rattle.records.specs.inner.Replicas.{replicaFrom, certificateFrom}
+use Rattle.log.specs.inner.Certificates.{certificateFrom}
+use Rattle.records.specs.inner.Replicas.{replicaFrom}
 use Rattle.checks.specs.declared.Tested.{Tested}
 use Rattle.checks.specs.declared.Tested.the-variants as Test
 use Rattle.checks.specs.declared.FoundReplica.{FoundReplica}

@@ -8,9 +8,6 @@ use Rattle.codes.proofs.Claims.{unknown-code}
 use Rattle.codes.proofs.coded_call.Statement.{statement}
 use Rattle.codes.proofs.coded_call.Tie as tie
 
-shared-slice-read-t18 : tie.Need-shared-slice-read-t18
-shared-slice-read-t18 c = omega (arith, c .before .if1 .taken)
-
 returns : tie.Need-returns
 unfolding codeTable
 returns c = rw (c .before .before .match .keys1) (rw (c .before .is-short .ensures) at (c .coded-when .ensures))
@@ -30,11 +27,9 @@ returns-4 c = rw (c .before .match .keys3) (let e = ne-eqb _ _ (c .if1 .left) in
 returns-5 : tie.Need-returns-5
 unfolding codeTable
 returns-5 c =
-    let at-claimed-word = c .before .before .before in
-    let at-match = at-claimed-word .before in
-    let second = c .before .before .claimed-word2 .ensures in
-    rw (at-match .match .keys4)
-    (rw (c .before .is-short2 .ensures, at-claimed-word .claimed-word .ensures, second) at (c .coded-when3 .ensures))
+    let claim = c .before .before in
+    rw (claim .before .match .keys4)
+    (rw (c .before .is-short2 .ensures, claim .claimed .ensures .0, claim .claimed .ensures .1) at (c .coded-when3 .ensures))
 
 returns-6 : tie.Need-returns-6
 unfolding codeTable
@@ -78,10 +73,11 @@ returns-15 c = unknown-code _ _ _ _ _ (c .match .rest)
 pub coded-call-spec : {M : Type 1} → statement M
 coded-call-spec =
     tie.close
-    (tie.spec (λ c κs. search needs) (λ c κs. search needs) (λ c κs. search needs) (λ c κs. search needs) shared-slice-read-t18
+    (tie.spec (λ c κs. search needs) (λ c κs. search needs) (λ c κs. search needs) (λ c κs. search needs) (λ c. omega (arith, c .before .if1 .taken))
     (λ c κs. search needs) (λ c κs. search needs) (λ c κs. search needs) (λ c κs. search needs) (λ c κs. search needs)
     (λ c κs. search needs) (λ c κs. search needs) (λ c κs. search needs) (λ c κs. search needs) (λ c κs. search needs)
     (λ c κs. search needs) (λ c κs. search needs) (λ c κs. search needs) (λ c κs. search needs) (λ c κs. search needs)
     (λ c κs. search needs) (λ c κs. search needs) (λ c κs. search needs) (λ c κs. search needs) (λ c κs. search needs)
-    (λ c κs. search needs) (λ c κs. search needs) returns returns-2 returns-3 returns-4 returns-5 returns-6 returns-7 returns-8 returns-9
-    returns-10 returns-11 returns-12 returns-13 returns-14 returns-15)
+    (λ c κs. search needs) returns
+    returns-2 returns-3 returns-4 returns-5 returns-6 returns-7 returns-8 returns-9 returns-10 returns-11 returns-12 returns-13 returns-14
+    returns-15)

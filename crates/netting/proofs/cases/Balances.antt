@@ -10,7 +10,7 @@ use Rattle.protocol.specs.Counter.{stepsFrom, stepsAllowed}
 use Rattle.protocol.specs.Outcome.{AnswerOf, firstRefusal, answered, follow}
 use Rattle.protocol.specs.Calls.{freshReplicas, opening, block}
 use Rattle.protocol.specs.Runs.{ruleOf, step, run}
-use Rattle.protocol.specs.Movements.{movementAllowed, isMovementList}
+use Rattle.movements.specs.Movements.{movementAllowed, isMovementList}
 use Rattle.netting.specs.Netting.{sumBelow, palletsOf, nettingRule, netting}
 use Rattle.netting.specs.cases.Balances.{Case, AsExpected, balances, limits, refusals, NettingCasesHold}
 

@@ -9,7 +9,7 @@ use Rattle.protocol.specs.declared.Call.the-variants.{Open, Block}
 use Rattle.protocol.specs.Memory.{Memory, memory, tableLength, blockAt, heightAt}
 use Rattle.protocol.specs.Outcome.{AnswerOf, wrongForm, outOfRange, unknownNumber, wrongMovement}
 use Rattle.protocol.specs.Runs.{Invocation, run}
-use Rattle.protocol.specs.Movements.{movementAt}
+use Rattle.movements.specs.Movements.{movementAt}
 use Rattle.netting.specs.Netting.{netting}
 
 pub record Case : Type 0 where

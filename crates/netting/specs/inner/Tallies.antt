@@ -8,8 +8,8 @@ use lib.IntN.{ℤ, pos, natAbs}
 use Rattle.protocol.specs.Memory.{maxFaultBound, replicaCount, maxBlocks}
 use Rattle.protocol.specs.Form.{allBelow}
 use Rattle.protocol.specs.Outcome.{_else_, AnswerOf, RuleOf, follow, wrongMovement}
-use Rattle.protocol.specs.declared.Movement.{Movement}
-use Rattle.protocol.specs.Movements.{movement, movementCount, movementAllowed, isMovementList, maxPallets}
+use Rattle.movements.specs.declared.Movement.{Movement}
+use Rattle.movements.specs.Movements.{movement, movementCount, movementAllowed, isMovementList, maxPallets}
 use Rattle.blocks.specs.inner.Records.{parentIn}
 use Rattle.ancestry.specs.inner.AncestryFits.{AncestryFits}
 use Rattle.netting.specs.Netting.{balanceAfter, balanceBy}

@@ -9,7 +9,7 @@ use Rattle.protocol.specs.Memory.{Memory, memory}
 use Rattle.protocol.specs.Form.{isFaultBound, lengthsFit}
 use Rattle.protocol.specs.Counter.{stepsAllowed}
 use Rattle.protocol.proofs.Joined.{denied, granted}
-use Rattle.layout.proofs.Whole.{bounded}
+use Rattle.form.proofs.Whole.{bounded}
 use Rattle.opening.proofs.Opens.{Fitting, fitting, no-bound, no-steps, no-lengths, opens}
 use Rattle.opening.proofs.open_ledger.Statement.{statement}
 use Rattle.opening.proofs.open_ledger.Tie as tie

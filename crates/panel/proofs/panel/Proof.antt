@@ -5,7 +5,7 @@ use Rattle.protocol.specs.Memory.{memory}
 use Rattle.protocol.specs.Outcome.{Outcome}
 use Rattle.protocol.proofs.Booleans.{tests}
 use Rattle.protocol.proofs.Formed.{sizes, height-kept}
-use Rattle.layout.proofs.Within.{block-within, replica-bounds}
+use Rattle.form.proofs.Within.{block-within, replica-bounds}
 use Rattle.checks.proofs.Passing.{start, accepts, no-replica, replica-known, found-replica}
 use Rattle.panel.specs.Panel.{panelRule, panelAnswer}
 use Rattle.panel.proofs.panel.Statement.{statement}

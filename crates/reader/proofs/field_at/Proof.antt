@@ -3,7 +3,7 @@ use native.Mathlib.Omega.{arith}
 use borrow.Author.Needs.{needs}
 use borrow.Author.Tests.{le-leb, lt-leb}
 use Rattle.field.specs.Field.{maxNumber}
-use Rattle.reader.specs.Reading.{columnAfter}
+use Rattle.reader.specs.inner.Reading.{columnAfter}
 use Rattle.reader.proofs.Fields.{field-within}
 use Rattle.reader.proofs.field_at.Statement.{statement}
 use Rattle.reader.proofs.field_at.Tie as tie

@@ -46,7 +46,8 @@ use denote.Triple.Table.{entered, cited}
 use denote.Triple.Walked.{says, Stays, stay-none, gave-ref, walkOf, goes-none, goes-gave-ref, Walks, ends-at, walked, walk-meets}
 use denote.Triple.Clauses.{Lasts, ensured, lasts}
 use denote.Exit.{yes}
-use Rattle.reader.specs.Reading.{numberFrom, columnAfter}
+use Rattle.field.specs.Field.{numberFrom}
+use Rattle.reader.specs.inner.Reading.{columnAfter}
 use Rattle.reader.specs.declared.Reader.{Reader}
 use Rattle.reader.proofs.Reader as R
 use Rattle.reader.proofs.Reader.Laws as R′

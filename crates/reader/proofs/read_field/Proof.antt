@@ -45,7 +45,8 @@ use denote.Triple.Walked.{says, Stays, stay-none, stay-none-slice, gave-ref, wal
 use denote.Triple.Walked.{Walks, ends-at, walked, walk-meets}
 use denote.Triple.Clauses.{Lasts, ensured, lasts}
 use denote.Exit.{yes}
-use Rattle.reader.specs.Reading.{numberFrom, movedOn, readOf, fieldAt}
+use Rattle.field.specs.Field.{numberFrom}
+use Rattle.reader.specs.inner.Reading.{movedOn, readOf, fieldAt}
 use Rattle.reader.specs.declared.Reader.{Reader}
 use Rattle.reader.specs.declared.Read.{Read}
 use Rattle.reader.proofs.Fields.{moved-read}

@@ -1,7 +1,7 @@
 -- The reader moved on, or not.
 use mathlib.Core.Path.{refl}
 use borrow.Author.Tests.{eq-eqb, ne-eqb}
-use Rattle.reader.specs.Reading.{readOf}
+use Rattle.reader.specs.inner.Reading.{readOf}
 use Rattle.reader.proofs.read_of.Statement.{statement}
 use Rattle.reader.proofs.read_of.Tie as tie
 

@@ -1,4 +1,4 @@
--- A replica of the code as the rules have it, replicas and certificates of the rules as the code has them, and words set together.
+-- A replica of the code as the rules have it, one of the rules as the code has it, and words set together.
 use Prim.Native.Nat.{ℕ, _<_}
 use mathlib.Core.Path.{_≡_}
 use mathlib.Core.Bool.{true}
@@ -8,7 +8,6 @@ use lib.Dec.{ltb}
 use Rattle.protocol.specs.Memory as Memory
 use Rattle.protocol.specs.Memory.{Assignment, _becomes_, replicaWords}
 use Rattle.protocol.specs.Quorum.{every}
-use Rattle.certificates.specs.declared.Certificate.{Certificate}
 use Rattle.records.specs.declared.Replica.{Replica}
 
 abbrev pub replicaOf : Replica → Memory.Replica
@@ -37,19 +36,6 @@ replicaFrom r =
       «stored_block» = r .storedBlock;
       «decided_view» = r .decidedView;
       «decided_block» = r .decidedBlock;
-    }
-
-abbrev pub certificateFrom : Memory.Certificate → Certificate
-certificateFrom c =
-    record {
-      kind = c .kind;
-      signer = c .signer;
-      view = c .view;
-      block = c .block;
-      «of_view» = c .ofView;
-      subject = c .subject;
-      «subject_boot» = c .subjectBoot;
-      «signer_boot» = c .signerBoot;
     }
 
 -- Each offset of the row with its new value.

@@ -8,7 +8,7 @@ use Rattle.protocol.specs.Memory.{Memory, Replica, Certificate, memory, replica
 use Rattle.protocol.specs.Quorum.{every, certificatesOf, greatest}
 use Rattle.protocol.specs.FirstNeeds.{listNeeds}
 use Rattle.protocol.specs.Calls.{recoverNeeds, recover as rule}
-use Rattle.records.specs.inner.Replicas.{certificateFrom}
+use Rattle.log.specs.inner.Certificates.{certificateFrom}
 use Rattle.checks.specs.inner.Verdicts.{tested}
 use Rattle.checks.proofs.Ready.{Ready, ReadyList, row-within, all-listed, some-there, listed-there}
 use Rattle.checks.proofs.Passing.{At, start, accepts, ReplicaFound, no-replica, found-replica, failed, passed, list-known}

@@ -10,7 +10,7 @@ use Rattle.protocol.specs.Quorum.{every}
 use Rattle.protocol.specs.Outcome.{Need}
 use Rattle.protocol.specs.FirstNeeds.{numberNeeds}
 use Rattle.protocol.specs.Calls.{replyNeeds, reply as rule}
-use Rattle.certificates.proofs.Fits.{log-fits}
+use Rattle.log.proofs.Fits.{log-fits}
 use Rattle.checks.proofs.Passing.{ReplicaFound, no-replica, found-replica, CertificateFound, no-certificate, found-certificate}
 use Rattle.checks.proofs.Passing.{failed, passed}
 use Rattle.issuing.proofs.Issues.{issuable, slot, start, issues}

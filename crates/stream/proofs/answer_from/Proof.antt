@@ -2,7 +2,7 @@
 use mathlib.Core.Path.{sym}
 use native.Mathlib.Omega.{arith}
 use lib.Seq.{length-take-le}
-use Rattle.stream.specs.inner.Progress.{streamOf}
+use Rattle.stream.specs.Stream.{streamOf}
 use Rattle.stream.proofs.Answers.{from-chunk, from-held}
 use borrow.Author.Needs.{needs}
 use Rattle.stream.proofs.answer_from.Statement.{statement}

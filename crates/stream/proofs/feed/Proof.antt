@@ -3,8 +3,7 @@ use Prim.Native.Nat.{_-_}
 use mathlib.Core.Path.{refl, sym, _∙_}
 use native.Mathlib.Omega.{arith}
 use lib.ListN.{length}
-use Rattle.stream.specs.Stream.{fed}
-use Rattle.stream.specs.inner.Progress.{streamOf}
+use Rattle.stream.specs.Stream.{fed, streamOf}
 use Rattle.stream.proofs.Feeds.{end-within}
 use Rattle.stream.proofs.Feeding.{Going, stopped, at-end, line-fed, rest-held}
 use Rattle.stream.proofs.feed.Statement.{statement}

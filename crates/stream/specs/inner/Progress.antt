@@ -1,22 +1,13 @@
--- What the program has of a stream: some numbers, the ledger's words, places for a line and for text.
+-- A stream with other bytes held; the places that the program has for one.
 use Prim.Native.Nat.{ℕ, _+_, _*_, _≤_, _<_}
 use mathlib.Core.Path.{_≡_}
 use mathlib.Core.List.{List}
 use lib.ListN.{length, take}
-use Rattle.script.specs.Session.{session, maxTable}
+use Rattle.script.specs.Session.{maxTable}
 use Rattle.script.specs.Text.{answerBytes}
 use Rattle.stream.specs.declared.Progress.{Progress}
 use Rattle.stream.specs.Output.{maxLines}
 use Rattle.stream.specs.Stream.{Stream, heldPlaces}
-
-abbrev pub streamOf : Progress → List ℕ → List ℕ → List ℕ → List ℕ → List ℕ → Stream
-streamOf p t l b line text =
-    record {
-      session = session (p .«fault_bound») t l b;
-      lines = p .lines;
-      held = take (p .held) line;
-      text = take (p .pending) text;
-    }
 
 -- The stream with these bytes held.
 abbrev pub withHeld : Stream → List ℕ → Stream

@@ -1,7 +1,7 @@
 -- Between two turns no text is pending, and the stream is the first one after the reads so far. The turns run out.
 use native.Mathlib.Omega.{arith}
 use borrow.Author.Needs.{needs}
-use Rattle.stream.specs.inner.Progress.{streamOf}
+use Rattle.stream.specs.Stream.{streamOf}
 use Rattle.stream.specs.Turns.{Ran}
 use Rattle.yard.specs.inner.Writing.{Flushed}
 use Rattle.yard.proofs.Turning.{begins, turned, goes-on}

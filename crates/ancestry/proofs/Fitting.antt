@@ -4,8 +4,8 @@ use mathlib.Core.Path.{_≡_}
 use mathlib.Core.List.{List}
 use native.Mathlib.Omega.{arith}
 use Rattle.protocol.specs.Memory.{Memory, blockCount, parent, keptHeight}
-use Rattle.protocol.proofs.Blocks.{root-form}
-use Rattle.protocol.proofs.Formed.{Formed, sizes, falls}
+use Rattle.protocol.proofs.memory.Blocks.{root-form}
+use Rattle.protocol.proofs.memory.Formed.{Formed, sizes, falls}
 use Rattle.blocks.specs.inner.Records.{parentIn}
 use Rattle.ancestry.specs.inner.AncestryFits.{AncestryFits}
 

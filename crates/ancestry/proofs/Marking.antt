@@ -8,7 +8,7 @@ use lib.Dec.{ltb, eqb}
 use lib.ListN.{length, getD, set, length-set}
 use lib.Seq.{getD-set-same, getD-set-other}
 use Rattle.protocol.specs.Ancestry.{isAncestorBy}
-use Rattle.protocol.proofs.Booleans.{tests, by-test}
+use Rattle.protocol.proofs.logic.Booleans.{tests, by-test}
 use Rattle.blocks.specs.inner.Records.{parentIn}
 use Rattle.ancestry.specs.inner.AncestryFits.{Markable, AncestorsMarked, Climbed}
 use Rattle.ancestry.proofs.Fitting.{parent-fits}

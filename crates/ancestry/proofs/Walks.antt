@@ -5,7 +5,7 @@ use mathlib.Core.Bool.{true, false, or-false}
 use native.Mathlib.Omega.{arith}
 use lib.Dec.{eqb}
 use Rattle.protocol.specs.Ancestry.{ancestorWithin, Falls, isAncestorBy}
-use Rattle.protocol.proofs.Booleans.{tests, by-test}
+use Rattle.protocol.proofs.logic.Booleans.{tests, by-test}
 
 module _ (p : ℕ → ℕ) (count : ℕ) (falls : Falls p count) (a : ℕ) where
   -- A block that is not above a has a in its line only if it is a.

@@ -6,10 +6,10 @@ use mathlib.Core.List.{List}
 use native.Mathlib.Omega.{arith}
 use lib.Dec.{eqb}
 use Rattle.protocol.specs.Form.{allBelow}
-use Rattle.protocol.proofs.Booleans.{tests, by-test, at-below}
-use Rattle.protocol.proofs.Blocks.{child-formed, child-form, height-bounded}
+use Rattle.protocol.proofs.logic.Booleans.{tests, by-test, at-below}
+use Rattle.protocol.proofs.memory.Blocks.{child-formed, child-form, height-bounded}
 use Rattle.blocks.specs.inner.Records.{parentIn, heightIn, blockOk, Testable}
-use Rattle.protocol.proofs.Joined.{same-test}
+use Rattle.protocol.proofs.logic.Joined.{same-test}
 
 module _ (blocks : List ℕ) (b more : ℕ) (t : Testable blocks b more) where
   -- The blocks after the first.

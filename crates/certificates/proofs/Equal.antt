@@ -8,7 +8,7 @@ use lib.ListN.{getD}
 use lib.Dec.{eqb}
 use borrow.Author.Tests.{not-true}
 use Rattle.protocol.specs.Memory.{words, viewAt, certificateAt}
-use Rattle.protocol.proofs.Booleans.{tests, by-test, at-below}
+use Rattle.protocol.proofs.logic.Booleans.{tests, by-test, at-below}
 use Rattle.log.specs.declared.Certificate.{Certificate}
 use Rattle.log.specs.inner.Certificates.{certificateOf}
 use Rattle.certificates.specs.inner.Filing.{equalFrom, isEqual, isOfOtherView}

@@ -10,8 +10,8 @@ use Rattle.protocol.specs.Memory.{Memory, memory, certificateCountAt, certifica
 use Rattle.protocol.specs.Certificates.{firstBelow, hasWords, numberFor, isFiled, found, appended, foundOrAppended, logHasRoom, canFile}
 use Rattle.protocol.specs.Certificates.{file}
 use Rattle.protocol.specs.Outcome.{noRoom}
-use Rattle.protocol.proofs.Booleans.{tests, by-test}
-use Rattle.protocol.proofs.Words.{stored, stored-all}
+use Rattle.protocol.proofs.logic.Booleans.{tests, by-test}
+use Rattle.protocol.proofs.memory.Words.{stored, stored-all}
 use Rattle.certificates.specs.declared.Filed.the-variants.{At, Refused}
 use Rattle.log.specs.inner.LogFits.{countIn}
 use Rattle.certificates.specs.inner.Filing.{equalFrom, isEqual, filedAt, leaves, filing}

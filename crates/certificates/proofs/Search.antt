@@ -6,9 +6,9 @@ use native.Mathlib.Omega.{arith}
 use native.Mathlib.Numerals.{add-one}
 use lib.Dec.{ltb, eqb}
 use Rattle.protocol.specs.Certificates.{firstBelow}
-use Rattle.protocol.proofs.Booleans.{tests, by-test}
+use Rattle.protocol.proofs.logic.Booleans.{tests, by-test}
 use Rattle.protocol.specs.inner.Groups.{fourOk}
-use Rattle.protocol.proofs.Below.{four-steps}
+use Rattle.protocol.proofs.logic.Below.{four-steps}
 
 module _ (test : ℕ → Bool) where
   -- No number below i passes, and i does not either.

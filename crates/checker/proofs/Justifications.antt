@@ -13,10 +13,10 @@ use Rattle.protocol.specs.Quorum.{isIssued, certificatesOf, isCommitQuorum}
 use Rattle.protocol.specs.Outcome.{Need, _else_, Rule, follow, told, unknownNumber, wrongStatus}
 use Rattle.protocol.specs.FirstNeeds.{isBlock, replicaNeeds}
 use Rattle.protocol.specs.Calls.{hasStatus, numbersOf, isSized, justificationNeeds, proposalNeeds, prepare}
-use Rattle.protocol.proofs.Booleans.{tests}
-use Rattle.protocol.proofs.Lists.{every-at}
-use Rattle.protocol.proofs.Needs.{Holds}
-use Rattle.protocol.proofs.Formed.{Formed}
+use Rattle.protocol.proofs.logic.Booleans.{tests}
+use Rattle.protocol.proofs.memory.Lists.{every-at}
+use Rattle.protocol.proofs.calls.Needs.{Holds}
+use Rattle.protocol.proofs.memory.Formed.{Formed}
 use Rattle.form.proofs.Within.{certificate-bounds}
 use Rattle.quorum.specs.inner.Lists.{certificatesIn}
 use Rattle.quorum.proofs.Accepted.{listed, some-listed, commit-at}

@@ -9,8 +9,8 @@ use Rattle.protocol.specs.Memory.{Memory, replica, certificate, certificateAt, 
 use Rattle.protocol.specs.Quorum.{isIssued, certificatesOf, firstOf}
 use Rattle.protocol.specs.Outcome.{Need, _else_, RuleOf, Rule, firstRefusal, acceptance, refusalOf, follow, told}
 use Rattle.protocol.specs.FirstNeeds.{replicaNeeds, numberNeeds, listNeeds}
-use Rattle.protocol.proofs.Needs as Needs
-use Rattle.protocol.proofs.Needs.{Holds, positive, all-needs, refused-first, all-pass}
+use Rattle.protocol.proofs.calls.Needs as Needs
+use Rattle.protocol.proofs.calls.Needs.{Holds, positive, all-needs, refused-first, all-pass}
 use Rattle.quorum.specs.inner.Lists.{Listed}
 use Rattle.quorum.proofs.Accepted.{first-of}
 use Rattle.log.specs.declared.Certificate.{Certificate}
@@ -72,8 +72,8 @@ replica-known m i is told =
     let w = was-found _ _ (replicaNeeds m i) (λ k e. cc) (sym told ∙ is) in
     record { ready = ready m i (w .0); read = let e = w .1 in cc }
 
-pub record ReplicaFound {Value State : Type 0} {none : Value} (m : Memory) (i : ℕ) (rule : RuleOf none State) (rest : List Need) (r : Replica)
-    : Type 0 where
+pub record ReplicaFound {Value State : Type 0} {none : Value} (m : Memory) (i : ℕ) (rule : RuleOf none State) (rest : List Need)
+    (r : Replica) : Type 0 where
   pub ready : Ready m i
   pub read : r ≡ replicaFrom (replica m i)
   pub at : At rule rest

@@ -11,10 +11,10 @@ use Rattle.protocol.specs.Memory.{Memory, rowAt, replicaWords, certificateCount
 use Rattle.protocol.specs.Quorum.{isQuorumSize, isIssued, allIssued}
 use Rattle.protocol.specs.Outcome.{firstRefusal}
 use Rattle.protocol.specs.FirstNeeds.{isReplica, replicaNeeds}
-use Rattle.protocol.proofs.Booleans.{tests, by-test}
-use Rattle.protocol.proofs.Lists.{every-at}
-use Rattle.protocol.proofs.Needs.{all-needs}
-use Rattle.protocol.proofs.Formed.{Formed, formed, Sizes, sizes}
+use Rattle.protocol.proofs.logic.Booleans.{tests, by-test}
+use Rattle.protocol.proofs.memory.Lists.{every-at}
+use Rattle.protocol.proofs.calls.Needs.{all-needs}
+use Rattle.protocol.proofs.memory.Formed.{Formed, formed, Sizes, sizes}
 use Rattle.quorum.specs.inner.Lists.{Listed}
 use Rattle.quorum.proofs.Accepted.{listed, some-listed}
 

@@ -5,8 +5,8 @@ use mathlib.Core.Bool.{Bool, true, false}
 use mathlib.Core.List.{List, [], _∷_, _++_}
 use native.Mathlib.Omega.{arith}
 use Rattle.protocol.specs.Outcome.{Need, _else_, firstRefusal}
-use Rattle.protocol.proofs.Booleans.{tests, and-true}
-use Rattle.protocol.proofs.Needs.{positive}
+use Rattle.protocol.proofs.logic.Booleans.{tests, and-true}
+use Rattle.protocol.proofs.calls.Needs.{positive}
 use lib.Dec.{leb}
 use Rattle.checks.specs.declared.Tested.{Tested}
 use Rattle.checks.specs.declared.Tested.the-variants.{Passed, Refused}

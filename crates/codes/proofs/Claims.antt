@@ -6,7 +6,7 @@ use mathlib.Core.List.{List, [], _∷_}
 use lib.ListN.{length, getD, List·getD-eq-default}
 use Rattle.protocol.specs.Memory.{Memory, certificateCountAt, certificateCount, certificateAt, certificateWord}
 use Rattle.protocol.specs.Quorum.{isIssued}
-use Rattle.protocol.proofs.Booleans.{tests}
+use Rattle.protocol.proofs.logic.Booleans.{tests}
 use Rattle.codes.specs.Codes.{claimedWord, noCall, codeTable, codedCall}
 
 module _ (m : Memory) (k : ℕ) where

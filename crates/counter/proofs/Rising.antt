@@ -6,9 +6,9 @@ use native.Mathlib.Omega.{arith}
 use lib.Dec.{leb, eqb}
 use Rattle.protocol.specs.Memory.{stepCount, lastStep}
 use Rattle.protocol.specs.Form.{maxStep, stepsFormed}
-use Rattle.protocol.proofs.Booleans.{tests, by-test, and-true, true-and, each, all-hold, at-below, all-below}
+use Rattle.protocol.proofs.logic.Booleans.{tests, by-test, and-true, true-and, each, all-hold, at-below, all-below}
 use Rattle.counter.specs.inner.Rising.{leastStep, stepsRise}
-use Rattle.protocol.proofs.Joined.{same-test}
+use Rattle.protocol.proofs.logic.Joined.{same-test}
 
 module _ (step : ℕ → ℕ) where
   -- What the loop knows after a count of steps: each is at least 1, at most the last, and not below the one before.

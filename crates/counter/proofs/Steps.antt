@@ -11,10 +11,10 @@ use lib.Dec.{eqb}
 use Rattle.protocol.specs.Memory.{Memory, stepCount, lastStep, keptStep}
 use Rattle.protocol.specs.Form.{allHold, allBelow, stepsFormed}
 use Rattle.protocol.specs.Counter.{defaultSteps, stepsFrom, stepsAllowed, counterStep}
-use Rattle.protocol.proofs.Booleans.{tests, each}
-use Rattle.protocol.proofs.Formed.{Formed, StepBounds, step-bounds, steps-same}
+use Rattle.protocol.proofs.logic.Booleans.{tests, each}
+use Rattle.protocol.proofs.memory.Formed.{Formed, StepBounds, step-bounds, steps-same}
 use Rattle.counter.specs.inner.Rising.{stepIn}
-use Rattle.protocol.proofs.Joined.{joined-all}
+use Rattle.protocol.proofs.logic.Joined.{joined-all}
 
 pub counter-step-bounds : (m : Memory) (boot : ℕ) → Formed m → StepBounds (counterStep m boot)
 unfolding counterStep

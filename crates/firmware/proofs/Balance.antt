@@ -9,7 +9,7 @@ use mir.Val.{ofZ, toZ}
 use mir.Facts.{toZ-ofZ}
 use Rattle.protocol.specs.Memory.{Memory}
 use Rattle.protocol.specs.Outcome.{OutcomeOf}
-use Rattle.protocol.proofs.Needs.{outcome-cases}
+use Rattle.protocol.proofs.calls.Needs.{outcome-cases}
 use Rattle.netting.specs.Netting.{Lent, lent, nettingRule, netting}
 use Rattle.netting.specs.Theorems.{BalancesBounded}
 use Rattle.netting.proofs.Moving.{small-fits}

@@ -3,7 +3,7 @@ use Prim.Native.Nat.{ℕ}
 use mathlib.Core.Path.{_≡_, refl, ap, _∙_}
 use Rattle.protocol.specs.Memory.{Memory}
 use Rattle.protocol.specs.Outcome.{Answer}
-use Rattle.protocol.proofs.Needs.{outcome-cases}
+use Rattle.protocol.proofs.calls.Needs.{outcome-cases}
 use Rattle.panel.specs.Panel.{panelRule, panelAnswer}
 
 abbrev valued : Answer → Answer

@@ -4,7 +4,7 @@ use mathlib.Core.Bool.{Bool}
 use mathlib.Core.List.{[], _∷_}
 use borrow.Author.Needs.{needs}
 use Rattle.protocol.specs.Form.{allHold}
-use Rattle.protocol.proofs.Joined.{joined, joined-all, reordered}
+use Rattle.protocol.proofs.logic.Joined.{joined, joined-all, reordered}
 
 pub replica-order : (status boot minView viewMin viewLimit flag storedView storedBlock decidedView decidedBlock : Bool)
     → joined status (boot ∷ minView ∷ viewMin ∷ viewLimit ∷ flag ∷ storedView ∷ storedBlock ∷ decidedView ∷ decidedBlock ∷ [])

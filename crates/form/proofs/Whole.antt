@@ -6,8 +6,8 @@ use native.Mathlib.Omega.{arith}
 use lib.ListN.{length}
 use Rattle.protocol.specs.Memory.{Memory, maxFaultBound, faultBound, rowStart}
 use Rattle.protocol.specs.Form.{allHold, isFaultBound, lengthsFit, countsFit, wellFormed}
-use Rattle.protocol.proofs.Booleans.{tests, by-test, and-true, true-and, each}
-use Rattle.protocol.proofs.Formed.{formed, Sizes, sizes}
+use Rattle.protocol.proofs.logic.Booleans.{tests, by-test, and-true, true-and, each}
+use Rattle.protocol.proofs.memory.Formed.{formed, Sizes, sizes}
 use Rattle.form.specs.inner.Parts.{wordsOk}
 
 pub bounded : (f : ℕ) → isFaultBound f ≡ true → f ≤ maxFaultBound

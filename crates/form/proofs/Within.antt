@@ -5,9 +5,9 @@ use lib.ListN.{length}
 use Rattle.protocol.specs.Memory.{Memory, replicaCount, ceiling, faultBound, certificateCount, blockCount, retired, raised, replica}
 use Rattle.protocol.specs.Memory.{certificate, blockWords, blockAt, parent, keptHeight}
 use Rattle.protocol.specs.Form.{lastKind, replicaFormed, certificateFormed}
-use Rattle.protocol.proofs.Booleans.{tests, each}
-use Rattle.protocol.proofs.Blocks.{height-bounded}
-use Rattle.protocol.proofs.Formed.{Formed, Sizes}
+use Rattle.protocol.proofs.logic.Booleans.{tests, each}
+use Rattle.protocol.proofs.memory.Blocks.{height-bounded}
+use Rattle.protocol.proofs.memory.Formed.{Formed, Sizes}
 
 pub block-within : (m : Memory) → Sizes m → (b : ℕ) → b < blockCount m → blockAt b + blockWords ≤ length (m .blocks)
 block-within m s b h = omega arith

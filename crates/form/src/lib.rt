@@ -10,7 +10,7 @@ ghost use Rattle.protocol.specs.Memory.{
   rowAt,
 };
 ghost use Rattle.protocol.specs.Form.{allBelow, isFaultBound, lengthsFit, countsFit, wellFormed};
-ghost use Rattle.protocol.proofs.Formed.{Sizes};
+ghost use Rattle.protocol.proofs.memory.Formed.{Sizes};
 ghost use Rattle.form.specs.inner.Parts.{replicaOk, wordsOk};
 use blocks::BLOCK_WORDS;
 use blocks::MAX_BLOCKS;

@@ -10,8 +10,8 @@ use Rattle.protocol.specs.Memory.{Memory, memory}
 use Rattle.protocol.specs.Form.{wellFormed}
 use Rattle.protocol.specs.Outcome.{Outcome, outcome, refusal, wrongForm, unreadable}
 use Rattle.protocol.specs.Runs.{step}
-use Rattle.protocol.proofs.Needs.{refuses}
-use Rattle.protocol.proofs.Rules.{no-form}
+use Rattle.protocol.proofs.calls.Needs.{refuses}
+use Rattle.protocol.proofs.calls.Rules.{no-form}
 use Rattle.codes.specs.declared.Coded.{Coded}
 use Rattle.codes.specs.declared.Coded.the-variants.{Of, Refused}
 use Rattle.codes.specs.Codes.{noCall, codedCall}

@@ -2,8 +2,8 @@
 use native.Mathlib.Omega.{arith}
 use Rattle.protocol.specs.Memory.{Memory}
 use Rattle.protocol.specs.Form.{lengthsFit}
-use Rattle.protocol.proofs.Booleans.{tests, each}
-use Rattle.protocol.proofs.Formed.{Formed, sizes}
+use Rattle.protocol.proofs.logic.Booleans.{tests, each}
+use Rattle.protocol.proofs.memory.Formed.{Formed, sizes}
 use Rattle.log.specs.inner.LogFits.{LogFits}
 
 pub log-fits : (m : Memory) → Formed m → LogFits (m .table) (m .log)

@@ -9,9 +9,9 @@ use lib.Dec.{eqb}
 use borrow.Author.Tests.{not-true, not-false}
 use Rattle.protocol.specs.Memory.{certificateAt, kindAt}
 use Rattle.protocol.specs.Form.{allBelow, certificateFormed}
-use Rattle.protocol.proofs.Booleans.{tests, each, all-hold, at-below, all-below}
-use Rattle.protocol.proofs.Below.{next-group, refuted}
-use Rattle.protocol.proofs.Joined.{none-of, any-none}
+use Rattle.protocol.proofs.logic.Booleans.{tests, each, all-hold, at-below, all-below}
+use Rattle.protocol.proofs.logic.Below.{next-group, refuted}
+use Rattle.protocol.proofs.logic.Joined.{none-of, any-none}
 use Rattle.log.specs.inner.Records.{certificateOk, hasKind, excesses, exceeds, someBelow, groupSize, groupHasKinds, groupExceeds}
 
 some-not : (k : ℕ) (test : ℕ → Bool) → someBelow k test ≡ not (allBelow k (λ i. not (test i)))

@@ -3,7 +3,7 @@ use Prim.Native.Nat.{ℕ, _≤_, _<_}
 use mathlib.Core.Path.{_≡_}
 use mathlib.Core.Bool.{true}
 use mathlib.Core.List.{List}
-use Rattle.protocol.proofs.Booleans.{tests, each}
+use Rattle.protocol.proofs.logic.Booleans.{tests, each}
 use Rattle.movements.specs.declared.Movement.{Movement}
 use Rattle.movements.specs.Movements.{movementCount, movementAllowed, isMovementList, maxPallets, maxMovements}
 

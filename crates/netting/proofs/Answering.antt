@@ -15,8 +15,8 @@ use Rattle.protocol.specs.Outcome.{firstRefusal, RuleOf, wrongMovement}
 use Rattle.movements.specs.Movements.{movement, movementCount}
 use Rattle.movements.proofs.Allowed.{is-allowed, list-short}
 use Rattle.movements.specs.declared.Movement.{Movement}
-use Rattle.protocol.proofs.Booleans.{tests, by-test, at-below}
-use Rattle.protocol.proofs.Needs.{refuses, accepts, fails, holds}
+use Rattle.protocol.proofs.logic.Booleans.{tests, by-test, at-below}
+use Rattle.protocol.proofs.calls.Needs.{refuses, accepts, fails, holds}
 use Rattle.blocks.specs.inner.Records.{parentIn}
 use Rattle.ancestry.specs.inner.AncestryFits.{AncestorsMarked}
 use Rattle.netting.specs.declared.Netted.{Netted}
@@ -53,7 +53,8 @@ module _ (blocks movements : List ℕ) (b i replicas added : ℕ) (h : Nettable 
     pub breaks : allowed ≡ false → {r : Netted} → r ≡ record { number = wrongMovement; balance = pos 0; second = 0 }
         → balanceTold r ≡ balanceAnswer blocks movements b i replicas added
     unfolding balanceRule
-    breaks e answer = rw answer (ap (λ o. o .answer) (refuses tt rule wrongMovement (sym (fails [] (sym (t .tested) ∙ e))) (λ z. omega arith)))
+    breaks e answer =
+        rw answer (ap (λ o. o .answer) (refuses tt rule wrongMovement (sym (fails [] (sym (t .tested) ∙ e))) (λ z. omega arith)))
 
     -- A balance reads back from its bits.
     reads-back : allowed ≡ true → toZ w32 (ofZ w32 (getD xs i (pos 0))) ≡ balanceBy (parentIn blocks) movements b i
@@ -69,4 +70,5 @@ module _ (blocks movements : List ℕ) (b i replicas added : ℕ) (h : Nettable 
         → r ≡ record { number = 0; balance = toZ w32 (ofZ w32 (getD xs i (pos 0))); second = 0 }
         → balanceTold r ≡ balanceAnswer blocks movements b i replicas added
     unfolding balanceRule firstRefusal
-    nets-all e answer = rw (answer, reads-back e) (ap (λ o. o .answer) (accepts tt rule (sym (holds wrongMovement [] (sym (t .tested) ∙ e)))))
+    nets-all e answer =
+        rw (answer, reads-back e) (ap (λ o. o .answer) (accepts tt rule (sym (holds wrongMovement [] (sym (t .tested) ∙ e)))))

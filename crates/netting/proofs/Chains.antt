@@ -5,8 +5,8 @@ use mathlib.Core.Bool.{true, false, cond, false≢true}
 use native.Mathlib.Omega.{arith}
 use lib.Dec.{eqb}
 use Rattle.protocol.specs.Ancestry.{ancestorWithin, Falls, isAncestorBy, stepsToRoot, heightBy}
-use Rattle.protocol.proofs.Booleans.{tests, by-test}
-use Rattle.protocol.proofs.Ancestors.{IsAncestor, self, up, is-ancestor, height-up, ancestor-height}
+use Rattle.protocol.proofs.logic.Booleans.{tests, by-test}
+use Rattle.protocol.proofs.memory.Ancestors.{IsAncestor, self, up, is-ancestor, height-up, ancestor-height}
 use Rattle.ancestry.proofs.Walks.{walk-ends, walk-goes-on, walk-same}
 use Rattle.netting.specs.Netting.{sumBelow}
 use Rattle.netting.specs.Theorems.{chainLength}

@@ -10,7 +10,7 @@ use lib.IntN.{ℤ, pos, negsuc, natAbs, _+ℤ_, _-ℤ_}
 use mir.Syntax.{w32}
 use mir.Val.{SFits, ofZ, toZ, boolByte}
 use mir.Facts.{toZ-ofZ, toZ-pos}
-use Rattle.protocol.proofs.Booleans.{tests, by-cond}
+use Rattle.protocol.proofs.logic.Booleans.{tests, by-cond}
 use Rattle.movements.specs.Movements.{maxPallets}
 use Rattle.netting.specs.Theorems.{maxBalance}
 use Rattle.netting.specs.inner.Tallies.{Movable}

@@ -13,8 +13,8 @@ use Rattle.protocol.specs.Outcome.{firstRefusal}
 use Rattle.protocol.specs.FirstNeeds.{isReplica, isBlock}
 use Rattle.protocol.specs.Theorems.{Accepted}
 use Rattle.movements.specs.Movements.{movement, movementCount, movementAllowed, isMovementList, maxPallets, maxMovements}
-use Rattle.protocol.proofs.Booleans.{by-cond, at-below, all-below}
-use Rattle.protocol.proofs.Needs.{all-needs, returned, no-refusal, accepted-first}
+use Rattle.protocol.proofs.logic.Booleans.{by-cond, at-below, all-below}
+use Rattle.protocol.proofs.calls.Needs.{all-needs, holds-accepted, no-refusal, accepted-first}
 use Rattle.netting.specs.Netting.{palletsOf, balanceAfter, balanceBy, lent, nettingRule, netting}
 use Rattle.netting.specs.Theorems.{maxBalance}
 use Rattle.netting.proofs.Signed.{less-small}
@@ -78,7 +78,7 @@ module _ (m : Memory) (movements : List ℕ) (b i : ℕ) where
 -- What is accepted of one firm is accepted of every firm.
 pub accepted-netting : (m : Memory) (movements : List ℕ) (b i : ℕ) → Nets m movements b → isReplica m i ≡ true
     → Accepted (netting m movements b i)
-unfolding netting nettingRule firstRefusal
+unfolding netting nettingRule
 accepted-netting m movements b i h own =
-    returned (lent m movements) (nettingRule m movements b i)
-    ∙ rw (h .formed, h .list, own, h .block, all-below (movementCount movements) _ (h .each)) refl
+    holds-accepted (lent m movements) (nettingRule m movements b i)
+    (h .list, (h .formed, (own, (h .block, (all-below (movementCount movements) _ (h .each), tt)))))

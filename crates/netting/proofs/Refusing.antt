@@ -9,9 +9,9 @@ use Rattle.protocol.specs.Memory.{Memory, memory, replicaCount, faultBound, blo
 use Rattle.protocol.specs.Form.{lengthsFit}
 use Rattle.protocol.specs.Outcome.{Need, _else_, firstRefusal, RuleOf, follow, wrongForm, unknownNumber}
 use Rattle.protocol.specs.FirstNeeds.{isBlock, replicaNeeds}
-use Rattle.protocol.proofs.Booleans.{tests, each}
-use Rattle.protocol.proofs.Needs.{outcome-cases, refuses, accepts, none-refuses, fails}
-use Rattle.protocol.proofs.Formed.{form}
+use Rattle.protocol.proofs.logic.Booleans.{tests, each}
+use Rattle.protocol.proofs.calls.Needs.{outcome-cases, refuses, accepts, none-refuses, fails}
+use Rattle.protocol.proofs.memory.Formed.{form}
 use Rattle.movements.specs.Movements.{isMovementList}
 use Rattle.ancestry.proofs.Fitting.{ancestry-fits}
 use Rattle.checks.specs.declared.FoundReplica.{FoundReplica}

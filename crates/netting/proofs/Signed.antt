@@ -3,7 +3,7 @@ use Prim.Native.Nat.{ℕ, zero, suc, _+_, _≤_}
 use mathlib.Core.Path.{_≡_, sym, ap, _∙_}
 use lib.Dec.{ltb}
 use lib.IntN.{ℤ, pos, negℤ, natAbs, _+ℤ_, _-ℤ_, +ℤ-assoc, +ℤ-comm, negℤ-+ℤ}
-use Rattle.protocol.proofs.Booleans.{tests, by-cond}
+use Rattle.protocol.proofs.logic.Booleans.{tests, by-cond}
 
 pub less-plus : (r g p : ℕ) → (pos r -ℤ pos g) +ℤ pos p ≡ pos (r + p) -ℤ pos g
 less-plus r g p =

@@ -6,7 +6,7 @@ use mathlib.Core.List.{List}
 use native.Mathlib.Omega.{arith}
 use lib.Dec.{ltb, eqb}
 use lib.IntN.{ℤ, pos, _+ℤ_, _-ℤ_}
-use Rattle.protocol.proofs.Booleans.{tests, by-test}
+use Rattle.protocol.proofs.logic.Booleans.{tests, by-test}
 use Rattle.movements.specs.declared.Movement.{Movement}
 use Rattle.movements.specs.Movements.{movement, maxPallets}
 use Rattle.netting.specs.Netting.{sumBelow, palletsOf}

@@ -9,8 +9,8 @@ use lib.ListN.{length, getD, set, length-set}
 use lib.Seq.{getD-set-same, getD-set-other}
 use lib.IntN.{ℤ, pos, _+ℤ_, _-ℤ_}
 use Rattle.protocol.specs.Form.{allBelow}
-use Rattle.protocol.proofs.Booleans.{tests, by-test, by-cond, true-and, at-below}
-use Rattle.protocol.proofs.Below.{refuted-one}
+use Rattle.protocol.proofs.logic.Booleans.{tests, by-test, by-cond, true-and, at-below}
+use Rattle.protocol.proofs.logic.Below.{refuted-one}
 use Rattle.movements.specs.declared.Movement.{Movement}
 use Rattle.movements.specs.Movements.{movement, movementCount, movementAllowed, maxPallets, maxMovements}
 use Rattle.movements.proofs.Allowed.{is-allowed, list-short}

@@ -12,12 +12,12 @@ use Rattle.protocol.specs.Outcome.{firstRefusal, answered, follow}
 use Rattle.protocol.specs.Theorems.{Accepted, Alike}
 use Rattle.protocol.specs.History.{decided, givenParent}
 use Rattle.protocol.specs.Agreement.{Execution, eventsOf, endOf, Agreement}
-use Rattle.protocol.proofs.Booleans.{tests}
-use Rattle.protocol.proofs.Needs.{outcome-cases, outcome-state, refused, lowest}
-use Rattle.protocol.proofs.Formed.{formed, form, falls}
-use Rattle.protocol.proofs.Alike.{twin, parent-same, form-same}
-use Rattle.protocol.proofs.Reached.{Reached, given-falls, chosen-known}
-use Rattle.protocol.proofs.Agreement.{reached-by, agreement}
+use Rattle.protocol.proofs.logic.Booleans.{tests}
+use Rattle.protocol.proofs.calls.Needs.{outcome-cases, outcome-state, refused, lowest}
+use Rattle.protocol.proofs.memory.Formed.{formed, form, falls}
+use Rattle.protocol.proofs.memory.Alike.{twin, parent-same, form-same}
+use Rattle.protocol.proofs.agreement.Reached.{Reached, given-falls, chosen-known}
+use Rattle.protocol.proofs.agreement.Agreement.{reached-by, agreement}
 use Rattle.movements.specs.Movements.{movement, movementCount}
 use Rattle.movements.proofs.Allowed.{is-allowed, list-short}
 use Rattle.netting.specs.Netting.{sumBelow, received, given, countsBy, balanceBy, lent, nettingRule, netting}

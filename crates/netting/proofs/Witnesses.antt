@@ -27,7 +27,7 @@ longer = rw worked-told (omega arith)
 
 counted : countsBy (givenParent (eventsOf worked)) 1 moved ≡ true
 unfolding ancestorWithin givenParent
-counted = rw worked-told refl
+counted = refl
 
 pub longer-counts-more-used : LongerCountsMore → countsBy (givenParent (eventsOf worked)) 2 moved ≡ true
 unfolding LongerCountsMore

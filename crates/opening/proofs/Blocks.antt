@@ -11,10 +11,10 @@ use Rattle.protocol.specs.Form.{wellFormed}
 use Rattle.protocol.specs.Outcome.{firstRefusal, acceptance, follow, refusal, wrongForm, unknownNumber, noRoom}
 use Rattle.protocol.specs.FirstNeeds.{isBlock}
 use Rattle.protocol.specs.Calls.{block}
-use Rattle.protocol.proofs.Booleans.{tests}
-use Rattle.protocol.proofs.Formed.{formed, sizes}
+use Rattle.protocol.proofs.logic.Booleans.{tests}
+use Rattle.protocol.proofs.memory.Formed.{formed, sizes}
 use Rattle.form.proofs.Within.{height-below}
-use Rattle.protocol.proofs.Needs.{refuses, accepts, fails, holds}
+use Rattle.protocol.proofs.calls.Needs.{refuses, accepts, fails, holds}
 
 module _ (m : Memory) (p : ℕ) where
   pub no-form : wellFormed m ≡ false → refusal wrongForm m ≡ follow m (block m p)

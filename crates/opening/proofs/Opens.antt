@@ -9,8 +9,8 @@ use Rattle.protocol.specs.Form.{isFaultBound, lengthsFit}
 use Rattle.protocol.specs.Counter.{stepsFrom, stepsAllowed}
 use Rattle.protocol.specs.Outcome.{firstRefusal, acceptance, follow, refusal, outOfRange, wrongForm, wrongSteps}
 use Rattle.protocol.specs.Calls.{freshReplica, freshReplicas, freshHeader, keepSteps, opening}
-use Rattle.protocol.proofs.Booleans.{tests, each}
-use Rattle.protocol.proofs.Needs.{refuses, accepts, fails, holds}
+use Rattle.protocol.proofs.logic.Booleans.{tests, each}
+use Rattle.protocol.proofs.calls.Needs.{refuses, accepts, fails, holds}
 use Rattle.opening.specs.inner.Fresh.{freshRows}
 
 -- The rows by the table alone are those of the memory.

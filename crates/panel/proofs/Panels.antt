@@ -7,8 +7,8 @@ use Rattle.protocol.specs.Ancestry.{height}
 use Rattle.protocol.specs.Form.{wellFormed}
 use Rattle.protocol.specs.Outcome.{Answer, Outcome, firstRefusal, outOfRange}
 use Rattle.protocol.specs.FirstNeeds.{isReplica}
-use Rattle.protocol.proofs.Booleans.{tests}
-use Rattle.protocol.proofs.Needs.{accepts, refuses, fails, holds}
+use Rattle.protocol.proofs.logic.Booleans.{tests}
+use Rattle.protocol.proofs.calls.Needs.{accepts, refuses, fails, holds}
 use Rattle.panel.specs.Panel.{panelRule, panelAnswer}
 
 abbrev pub shown : ℕ → Answer

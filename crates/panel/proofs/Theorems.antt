@@ -9,10 +9,10 @@ use Rattle.protocol.specs.Form.{replicaFormed}
 use Rattle.protocol.specs.Runs.{run}
 use Rattle.protocol.specs.History.{Event, panel}
 use Rattle.protocol.specs.Agreement.{eventsOf, endOf}
-use Rattle.protocol.proofs.Booleans.{tests, by-test, each}
-use Rattle.protocol.proofs.Formed.{formed, form, height-kept}
-use Rattle.protocol.proofs.Reached.{Reached, panel-height}
-use Rattle.protocol.proofs.Agreement.{reached-by, reached-on, panel-stays-up}
+use Rattle.protocol.proofs.logic.Booleans.{tests, by-test, each}
+use Rattle.protocol.proofs.memory.Formed.{formed, form, height-kept}
+use Rattle.protocol.proofs.agreement.Reached.{Reached, panel-height}
+use Rattle.protocol.proofs.agreement.Agreement.{reached-by, reached-on, panel-stays-up}
 use Rattle.panel.specs.Panel.{panelAnswer}
 use Rattle.panel.specs.Theorems.{PanelShowsHistory, PanelNeverFalls, PanelIsKeptHeight}
 use Rattle.panel.proofs.Panels.{shown, panel-refused, panel-shown}

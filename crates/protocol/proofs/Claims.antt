@@ -1,21 +1,21 @@
 -- The proof of each claim.
 use Rattle.protocol.specs.Claims.{Claims}
-use Rattle.protocol.proofs.Rules.{refused-changes-nothing, lowest-wins, opening-order}
-use Rattle.protocol.proofs.LeavesForm.{accepted-leaves-form}
-use Rattle.protocol.proofs.Frame.{only-named-change, lengths-stay}
-use Rattle.protocol.proofs.Unread.{past-counts-unread}
-use Rattle.protocol.proofs.Values.{values-fit}
+use Rattle.protocol.proofs.calls.Rules.{refused-changes-nothing, lowest-wins, opening-order}
+use Rattle.protocol.proofs.calls.LeavesForm.{accepted-leaves-form}
+use Rattle.protocol.proofs.calls.Frame.{only-named-change, lengths-stay}
+use Rattle.protocol.proofs.calls.Unread.{past-counts-unread}
+use Rattle.protocol.proofs.calls.Values.{values-fit}
 use Rattle.protocol.proofs.cases.Table.{cases-hold}
-use Rattle.protocol.proofs.Agreement.{agreement, would-agree, words-match-history, only-appended}
-use Rattle.protocol.proofs.Heights.{heights-kept, heights-match-history, heights-stay}
-use Rattle.protocol.proofs.Steps.{opening-reads-nothing, without-steps-is-default, first-limit-is-first-step}
-use Rattle.protocol.proofs.Steps.{counters-move-by-steps}
-use Rattle.protocol.proofs.Leaders.{only-leaders-propose, view-zero-has-no-leader}
-use Rattle.protocol.proofs.Repeats.{found-is-first-equal, second-value-tells-repeat, repeat-changes-nothing}
-use Rattle.protocol.proofs.Repeats.{proposals-never-repeat, commits-never-repeat}
-use Rattle.protocol.proofs.MadeAgain.{repeat-at-once}
-use Rattle.protocol.proofs.Cuts.{issued-with-its-boot, seven-words-decide, only-accs-and-replies-again, cuts-tell-apart}
-use Rattle.protocol.proofs.Untested.{boots-untested}
+use Rattle.protocol.proofs.agreement.Agreement.{agreement, would-agree, words-match-history, only-appended}
+use Rattle.protocol.proofs.requests.Heights.{heights-kept, heights-match-history, heights-stay}
+use Rattle.protocol.proofs.requests.Steps.{opening-reads-nothing, without-steps-is-default, first-limit-is-first-step}
+use Rattle.protocol.proofs.requests.Steps.{counters-move-by-steps}
+use Rattle.protocol.proofs.calls.Leaders.{only-leaders-propose, view-zero-has-no-leader}
+use Rattle.protocol.proofs.requests.Repeats.{found-is-first-equal, second-value-tells-repeat, repeat-changes-nothing}
+use Rattle.protocol.proofs.requests.Repeats.{proposals-never-repeat, commits-never-repeat}
+use Rattle.protocol.proofs.requests.MadeAgain.{repeat-at-once}
+use Rattle.protocol.proofs.requests.Cuts.{issued-with-its-boot, seven-words-decide, only-accs-and-replies-again, cuts-tell-apart}
+use Rattle.protocol.proofs.requests.Untested.{boots-untested}
 
 pub claimed : Claims
 claimed =

@@ -12,7 +12,7 @@ use Rattle.protocol.specs.History.{Event, reopened, added, decided, othe
 use Rattle.protocol.specs.Agreement.{OneChain, OpensNone, Execution, eventsOf, endOf, Agreement, Told, WordsMatchHistory}
 use Rattle.protocol.specs.cases.Rows.{plain, _on_}
 use Rattle.protocol.specs.cases.Starts.{blank}
-use Rattle.protocol.proofs.Booleans.{and-true}
+use Rattle.protocol.proofs.logic.Booleans.{and-true}
 use Rattle.protocol.proofs.cases.Rows.{wrong}
 
 -- ---- one execution with two decisions

@@ -1,4 +1,5 @@
--- What is claimed of the ledger, its calls and lists of calls: each field is a statement of this crate; proofs/Claims.antt holds the proof of each.
+-- What is claimed of the ledger, its calls and lists of calls: each field is a statement of this crate; proofs/Claims.antt holds the proof of
+-- each.
 use Rattle.protocol.specs.Theorems.{RefusedChangesNothing, AcceptedLeavesForm, OnlyNamedChange, LengthsStay, PastCountsUnread}
 use Rattle.protocol.specs.Theorems.{LowestWins, OpeningOrder, ValuesFit, OnlyLeadersPropose, ViewZeroHasNoLeader}
 use Rattle.protocol.specs.cases.Table.{CasesHold}

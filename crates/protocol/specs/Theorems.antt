@@ -18,7 +18,8 @@ use Rattle.protocol.specs.Memory.{certificateAt, certificate, blockWords
 use Rattle.protocol.specs.Form.{isFaultBound, lengthsFit, wellFormed}
 use Rattle.protocol.specs.Counter.{stepsAllowed}
 use Rattle.protocol.specs.Quorum.{isIssued}
-use Rattle.protocol.specs.Outcome.{Answer, OutcomeOf, Outcome, _else_, RuleOf, wrongForm, outOfRange, wrongCertificate, noRoom, wrongSteps}
+use Rattle.protocol.specs.Outcome.{Answer, OutcomeOf, Outcome, _else_, RuleOf, wrongForm, outOfRange, wrongCertificate, noRoom}
+use Rattle.protocol.specs.Outcome.{wrongSteps}
 use Rattle.protocol.specs.FirstNeeds.{isReplica, isBlock}
 use Rattle.protocol.specs.Calls.{hasStatus}
 use Rattle.protocol.specs.Runs.{ruleOf, step}

@@ -10,9 +10,9 @@ use Rattle.protocol.specs.Form.{lengthsFit, certificateFormed}
 use Rattle.protocol.specs.Certificates.{COMMIT}
 use Rattle.protocol.specs.Quorum.{every, isQuorumSize, isIssued, allIssued, certificatesOf, firstOf, isQuorum}
 use Rattle.protocol.specs.Quorum.{isCommitQuorum}
-use Rattle.protocol.proofs.Booleans.{tests, each}
-use Rattle.protocol.proofs.Lists.{every-at}
-use Rattle.protocol.proofs.Formed.{Formed, sizes}
+use Rattle.protocol.proofs.logic.Booleans.{tests, each}
+use Rattle.protocol.proofs.memory.Lists.{every-at}
+use Rattle.protocol.proofs.memory.Formed.{Formed, sizes}
 use Rattle.quorum.specs.inner.Lists.{Listed}
 
 -- ---- before the call

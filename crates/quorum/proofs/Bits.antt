@@ -7,7 +7,7 @@ use native.Mathlib.Nat.{pow-suc, mul-mod-left, mod-lt, div-eq-of-lt, div-self, z
 use lib.Bits.{bitOr, or-shr, or-mod}
 use lib.Pow.{pow-add, pow-pos, pow-lt, shl-shr}
 use lib.Dec.{eqb, ltb}
-use Rattle.protocol.proofs.Booleans.{tests, by-test}
+use Rattle.protocol.proofs.logic.Booleans.{tests, by-test}
 use Rattle.quorum.specs.inner.Signers.{holds}
 
 pub holds-none : (x : ℕ) → holds 0 x ≡ false

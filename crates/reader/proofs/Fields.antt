@@ -5,7 +5,7 @@ use mathlib.Core.List.{List}
 use lib.Dec.{ltb, leb, eqb}
 use lib.ListN.{length}
 use mathlib.Core.Bool.{true, false}
-use Rattle.protocol.proofs.Booleans.{tests, by-test}
+use Rattle.protocol.proofs.logic.Booleans.{tests, by-test}
 use Rattle.field.specs.Field.{columns, maxNumber}
 use Rattle.field.proofs.Reading.{too-short}
 use Rattle.field.specs.Field.{numberFrom}

@@ -4,7 +4,7 @@ use mathlib.Core.Path.{_≡_}
 use native.Mathlib.Omega.{arith}
 use Rattle.protocol.specs.Memory.{Memory, replica}
 use Rattle.protocol.specs.Counter.{counterStep}
-use Rattle.protocol.proofs.Booleans.{tests}
+use Rattle.protocol.proofs.logic.Booleans.{tests}
 use Rattle.form.proofs.Within.{replica-bounds}
 use Rattle.counter.proofs.Steps.{counter-step-bounds}
 use Rattle.checks.proofs.Ready.{Ready}

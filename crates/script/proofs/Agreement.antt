@@ -17,11 +17,11 @@ use Rattle.protocol.specs.Runs.{Invocation, ruleOf, step, run}
 use Rattle.protocol.specs.Theorems.{Accepted, RefusedChangesNothing, LengthsStay}
 use Rattle.protocol.specs.History.{Event, reopened, other, acceptedEvent, eventOf, history}
 use Rattle.protocol.specs.Agreement.{Agreement}
-use Rattle.protocol.proofs.Booleans.{tests, by-test, by-cond, each}
-use Rattle.protocol.proofs.Needs.{no-refusal}
-use Rattle.protocol.proofs.Rules.{needs-hold, refused-changes-nothing}
-use Rattle.protocol.proofs.Frame.{lengths-stay}
-use Rattle.protocol.proofs.Agreement.{agreement}
+use Rattle.protocol.proofs.logic.Booleans.{tests, by-test, by-cond, each}
+use Rattle.protocol.proofs.calls.Needs.{no-refusal}
+use Rattle.protocol.proofs.calls.Rules.{needs-hold, refused-changes-nothing}
+use Rattle.protocol.proofs.calls.Frame.{lengths-stay}
+use Rattle.protocol.proofs.agreement.Agreement.{agreement}
 use Rattle.codes.specs.declared.Coded.{Coded}
 use Rattle.codes.specs.declared.Coded.the-variants.{Of, Refused}
 use Rattle.codes.specs.Codes.{isShort, noCall, when, codeTable, codedCall}

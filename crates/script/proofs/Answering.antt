@@ -6,7 +6,7 @@ use mathlib.Core.List.{List}
 use lib.ListN.{length, take}
 use Rattle.protocol.specs.declared.Answer.{Answer}
 use Rattle.protocol.specs.Outcome.{told}
-use Rattle.protocol.proofs.Booleans.{by-test}
+use Rattle.protocol.proofs.logic.Booleans.{by-test}
 use Rattle.field.specs.Field.{columns}
 use Rattle.reader.specs.declared.Read.{Read}
 use Rattle.reader.specs.declared.Read.the-variants.{To, Refused}

@@ -11,7 +11,7 @@ use Rattle.protocol.specs.declared.Answer.{Answer}
 use Rattle.protocol.specs.Memory.{memory, tableLength}
 use Rattle.protocol.specs.Form.{isFaultBound}
 use Rattle.protocol.specs.Outcome.{Outcome, outcome}
-use Rattle.protocol.proofs.Booleans.{tests, each}
+use Rattle.protocol.proofs.logic.Booleans.{tests, each}
 use Rattle.ledger.specs.Called.{called}
 use Rattle.script.specs.Session.{Session, Answered, leaves, maxTable, lentLength, listField, codeIn, replicaIn, numberIn}
 use Rattle.script.specs.Session.{listIn, faultBoundFor, lending, answerNumbers}

@@ -6,7 +6,7 @@ use mathlib.Core.List.{List, [], _∷_, _++_}
 use lib.ListN.{length, take, set}
 use lib.Seq.{take-suc-set}
 use native.Mathlib.Numerals.{unary-clauses}
-use Rattle.protocol.proofs.Booleans.{tests, by-test, each, all-hold, at-below}
+use Rattle.protocol.proofs.logic.Booleans.{tests, by-test, each, all-hold, at-below}
 use Rattle.protocol.specs.Form.{allBelow}
 use Rattle.protocol.specs.Outcome.{unreadable}
 use Rattle.field.specs.Field.{columns, numberFrom}

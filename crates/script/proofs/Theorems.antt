@@ -10,9 +10,9 @@ use Rattle.protocol.specs.Memory.{Memory}
 use Rattle.protocol.specs.Form.{allHold, wellFormed}
 use Rattle.protocol.specs.Outcome.{Answer, Outcome, wrongForm, noRoom, wrongSteps}
 use Rattle.protocol.specs.Theorems.{RefusedChangesNothing, isOpening, mayReturn, Fits, ValuesFit}
-use Rattle.protocol.proofs.Booleans.{tests, by-test, and-true}
-use Rattle.protocol.proofs.Rules.{refused-changes-nothing}
-use Rattle.protocol.proofs.Values.{values-fit}
+use Rattle.protocol.proofs.logic.Booleans.{tests, by-test, and-true}
+use Rattle.protocol.proofs.calls.Rules.{refused-changes-nothing}
+use Rattle.protocol.proofs.calls.Values.{values-fit}
 use Rattle.ledger.proofs.Calling.{called-formless}
 use Rattle.script.specs.Lines.{fieldCount, numbers, hasNumbers}
 use Rattle.script.specs.Session.{Session, lentLength, lent, codeIn, replicaIn, faultBoundFor, lending, Answered}

@@ -9,7 +9,7 @@ use borrow.Author.Tests.{ne-eqb}
 use Rattle.protocol.specs.declared.Call.{Call}
 use Rattle.protocol.specs.Outcome.{Outcome, refusal, unreadable}
 use Rattle.protocol.specs.Runs.{step}
-use Rattle.protocol.proofs.Booleans.{tests, by-cond}
+use Rattle.protocol.proofs.logic.Booleans.{tests, by-cond}
 use Rattle.codes.specs.declared.Coded.{Coded}
 use Rattle.codes.specs.declared.Coded.the-variants.{Of}
 use Rattle.codes.specs.Codes.{codedCall}

@@ -9,7 +9,7 @@ use lib.ListN.{length, take, drop}
 use lib.Seq.{length-take-le}
 use Rattle.protocol.specs.declared.Answer.{Answer}
 use Rattle.protocol.specs.Outcome.{told}
-use Rattle.protocol.proofs.Booleans.{tests, by-test}
+use Rattle.protocol.proofs.logic.Booleans.{tests, by-test}
 use Rattle.script.specs.Session.{Session, session, Answered, leaves, answerLine}
 use Rattle.script.specs.Text.{lineFeed, answerText, answerBytes, Printable}
 use Rattle.script.specs.Theorems.{AnswersPrintable}

@@ -6,7 +6,7 @@ use mathlib.Core.List.{List, [], _∷_, _++_}
 use lib.Dec.{ltb, eqb}
 use lib.ListN.{length, take, length-take, length-append}
 use lib.Seq.{take-all, take-append-le}
-use Rattle.protocol.proofs.Booleans.{tests, by-test}
+use Rattle.protocol.proofs.logic.Booleans.{tests, by-test}
 use Rattle.script.specs.Text.{lineFeed}
 use Rattle.stream.specs.Output.{maxLines}
 use Rattle.stream.specs.Stream.{Stream, heldPlaces, holding, endLine, hold, byteIn, fed}

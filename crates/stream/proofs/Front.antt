@@ -5,7 +5,7 @@ use mathlib.Core.Bool.{_&&_}
 use mathlib.Core.List.{List, [], _∷_, _++_, append-assoc, append-nil}
 use lib.Dec.{ltb, eqb}
 use lib.ListN.{length}
-use Rattle.protocol.proofs.Booleans.{by-test}
+use Rattle.protocol.proofs.logic.Booleans.{by-test}
 use Rattle.script.specs.Text.{lineFeed}
 use Rattle.stream.specs.Output.{maxLines}
 use Rattle.stream.specs.Stream.{Stream, endLine, hold, byteIn, fed, finished, emptied, written}

@@ -7,7 +7,7 @@ use native.Mathlib.Numerals.{add-one}
 use lib.Dec.{leb}
 use lib.ListN.{length, take, drop, getD, set, length-take, length-drop}
 use lib.Seq.{take-all, take-append-add, take-take, getD-drop, length-take-le, paste, paste-suc, take-paste}
-use Rattle.protocol.proofs.Booleans.{tests, by-test}
+use Rattle.protocol.proofs.logic.Booleans.{tests, by-test}
 use Rattle.stream.specs.Stream.{heldPlaces}
 use Rattle.stream.specs.inner.Holding.{Holdable, lineSoFar, Held}
 

@@ -7,7 +7,7 @@ use lib.Dec.{leb}
 use lib.ListN.{length, take, length-take}
 use lib.Seq.{take-all}
 use Rattle.field.specs.Field.{columns}
-use Rattle.protocol.proofs.Booleans.{tests, by-test, each}
+use Rattle.protocol.proofs.logic.Booleans.{tests, by-test, each}
 use Rattle.script.specs.Lines.{maxFields, hasNumbers}
 use Rattle.script.specs.Session.{Session, answerLine}
 use Rattle.stream.specs.Stream.{heldPlaces}

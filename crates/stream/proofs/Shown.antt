@@ -8,7 +8,7 @@ use lib.Dec.{eqb}
 use lib.ListN.{length, replicate}
 use lib.Seq.{take-at, drop-append-add}
 use Rattle.protocol.specs.Outcome.{Answer}
-use Rattle.protocol.proofs.Booleans.{tests}
+use Rattle.protocol.proofs.logic.Booleans.{tests}
 use Rattle.field.specs.Digits.{digitCount, digits}
 use Rattle.field.specs.Field.{columns, blank, maxNumber, fieldOf}
 use Rattle.field.specs.Theorems.{WrittenReadsBack}

@@ -10,7 +10,7 @@ use Rattle.protocol.specs.Quorum.{every, certificatesOf, firstOf, greatest}
 use Rattle.protocol.specs.Outcome.{Need}
 use Rattle.protocol.specs.FirstNeeds.{listNeeds}
 use Rattle.protocol.specs.Calls.{accumulateNeeds, accumulate as accumulateRule}
-use Rattle.protocol.proofs.Booleans.{tests}
+use Rattle.protocol.proofs.logic.Booleans.{tests}
 use Rattle.log.specs.inner.Certificates.{certificateFrom}
 use Rattle.checks.specs.inner.Verdicts.{tested}
 use Rattle.checks.proofs.Verdicts.{first-need, then-need}

@@ -5,8 +5,8 @@ use mathlib.Core.Bool.{true}
 use native.Mathlib.Omega.{arith}
 use borrow.Author.Needs.{needs}
 use Rattle.protocol.specs.Form.{allBelow}
-use Rattle.protocol.proofs.Below.{next, next-four, at-end, refuted-one, refuted-four}
-use Rattle.protocol.proofs.Joined.{denied, granted}
+use Rattle.protocol.proofs.logic.Below.{next, next-four, at-end, refuted-one, refuted-four}
+use Rattle.protocol.proofs.logic.Joined.{denied, granted}
 use Rattle.blocks.specs.inner.Records.{blockOk}
 use Rattle.blocks.proofs.blocks_formed.Statement.{statement}
 use Rattle.blocks.proofs.blocks_formed.Tie as tie

@@ -2,8 +2,8 @@
 use mathlib.Core.Path.{refl}
 use native.Mathlib.Omega.{arith}
 use borrow.Author.Needs.{needs}
-use Rattle.protocol.proofs.Below.{two-twos, next-two}
-use Rattle.protocol.proofs.Joined.{denied, granted}
+use Rattle.protocol.proofs.logic.Below.{two-twos, next-two}
+use Rattle.protocol.proofs.logic.Joined.{denied, granted}
 use Rattle.blocks.proofs.Tested.{after}
 use Rattle.blocks.proofs.four_formed.Statement.{statement}
 use Rattle.blocks.proofs.four_formed.Tie as tie

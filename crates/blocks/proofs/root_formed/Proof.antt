@@ -2,7 +2,7 @@ use mathlib.Core.Path.{_∙_}
 use mathlib.Core.Bool.{_&&_}
 use lib.Dec.{eqb}
 use borrow.Author.Needs.{needs}
-use Rattle.protocol.proofs.Blocks.{root-test}
+use Rattle.protocol.proofs.memory.Blocks.{root-test}
 use Rattle.blocks.proofs.root_formed.Statement.{statement}
 use Rattle.blocks.proofs.root_formed.Tie as tie
 

@@ -3,7 +3,7 @@ use native.Mathlib.Omega.{arith}
 use borrow.Author.Needs.{needs}
 use lib.ListN.{length-set}
 use Rattle.protocol.specs.Memory.{blockRecord}
-use Rattle.protocol.proofs.Words.{stored-all}
+use Rattle.protocol.proofs.memory.Words.{stored-all}
 use Rattle.blocks.proofs.set_block.Statement.{statement}
 use Rattle.blocks.proofs.set_block.Tie as tie
 

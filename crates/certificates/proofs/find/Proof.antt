@@ -5,7 +5,7 @@ use native.Mathlib.Omega.{arith}
 use borrow.Author.Needs.{needs}
 use Rattle.protocol.specs.Memory.{words}
 use Rattle.protocol.specs.Certificates.{firstBelow}
-use Rattle.protocol.proofs.Joined.{granted}
+use Rattle.protocol.proofs.logic.Joined.{granted}
 use Rattle.log.specs.inner.Certificates.{certificateOf}
 use Rattle.certificates.specs.inner.Filing.{isEqual}
 use Rattle.certificates.proofs.Equal.{of-other-view}

@@ -1,6 +1,6 @@
 -- Tests joined by `&` are a list of tests.
 use mathlib.Core.List.{[], _∷_}
-use Rattle.protocol.proofs.Joined.{joined-all}
+use Rattle.protocol.proofs.logic.Joined.{joined-all}
 use borrow.Author.Needs.{needs}
 use Rattle.certificates.proofs.four_of_other_views.Statement.{statement}
 use Rattle.certificates.proofs.four_of_other_views.Tie as tie

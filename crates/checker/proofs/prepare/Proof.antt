@@ -7,7 +7,7 @@ use Rattle.protocol.specs.declared.Justification.{Justification}
 use Rattle.protocol.specs.Memory.{Memory, memory}
 use Rattle.protocol.specs.Quorum.{every}
 use Rattle.protocol.specs.Calls.{prepare as prepareRule}
-use Rattle.protocol.proofs.Booleans.{tests}
+use Rattle.protocol.proofs.logic.Booleans.{tests}
 use Rattle.checks.specs.inner.Verdicts.{tested}
 use Rattle.checks.proofs.Passing.{no-replica, found-replica, failed, passed}
 use Rattle.issuing.proofs.Issues.{issuable, issues}

@@ -9,7 +9,7 @@ use Rattle.protocol.specs.Quorum.{every}
 use Rattle.protocol.specs.Outcome.{Need}
 use Rattle.protocol.specs.FirstNeeds.{numberNeeds}
 use Rattle.protocol.specs.Calls.{storeNeeds, store as storeRule}
-use Rattle.protocol.proofs.Booleans.{tests}
+use Rattle.protocol.proofs.logic.Booleans.{tests}
 use Rattle.log.proofs.Fits.{log-fits}
 use Rattle.checks.proofs.Passing.{ReplicaFound, no-replica, found-replica, CertificateFound, no-certificate, found-certificate}
 use Rattle.checks.proofs.Passing.{failed, passed}

@@ -1,6 +1,6 @@
 -- Read, where its number is issued.
 use borrow.Author.Needs.{needs}
-use Rattle.protocol.proofs.Booleans.{tests}
+use Rattle.protocol.proofs.logic.Booleans.{tests}
 use Rattle.checks.specs.inner.Verdicts.{certificateFound}
 use Rattle.checks.proofs.Verdicts.{fails, last}
 use Rattle.checks.proofs.find_certificate.Statement.{statement}

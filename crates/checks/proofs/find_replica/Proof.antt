@@ -2,8 +2,8 @@
 use mathlib.Core.Path.{sym, _∙_}
 use native.Mathlib.Omega.{arith}
 use borrow.Author.Needs.{needs}
-use Rattle.protocol.proofs.Booleans.{tests}
-use Rattle.protocol.proofs.Formed.{formed, sizes}
+use Rattle.protocol.proofs.logic.Booleans.{tests}
+use Rattle.protocol.proofs.memory.Formed.{formed, sizes}
 use Rattle.checks.specs.inner.Verdicts.{replicaFound}
 use Rattle.checks.proofs.Verdicts.{fails, holds, last}
 use Rattle.checks.proofs.find_replica.Statement.{statement}

@@ -1,5 +1,5 @@
 use mathlib.Core.List.{[], _∷_}
-use Rattle.protocol.proofs.Joined.{joined-all}
+use Rattle.protocol.proofs.logic.Joined.{joined-all}
 use Rattle.form.proofs.is_fault_bound.Statement.{statement}
 use Rattle.form.proofs.is_fault_bound.Tie as tie
 

@@ -1,6 +1,6 @@
 -- f, the lengths and the counts come first: without them no word may be read.
 use mathlib.Core.Path.{_∙_}
-use Rattle.protocol.proofs.Joined.{denied, granted}
+use Rattle.protocol.proofs.logic.Joined.{denied, granted}
 use Rattle.form.proofs.Whole.{bounded, too-short, no-bound, no-sizes, enough, by-words}
 use borrow.Author.Needs.{needs}
 use Rattle.form.proofs.is_well_formed.Statement.{statement}

@@ -5,7 +5,7 @@ use borrow.Author.Needs.{needs}
 use native.Mathlib.Omega.{arith}
 use Rattle.protocol.specs.Form.{allBelow}
 use Rattle.form.specs.inner.Parts.{replicaOk}
-use Rattle.protocol.proofs.Below.{one-more, at-end}
+use Rattle.protocol.proofs.logic.Below.{one-more, at-end}
 use Rattle.form.proofs.replicas_formed.Statement.{statement}
 use Rattle.form.proofs.replicas_formed.Tie as tie
 

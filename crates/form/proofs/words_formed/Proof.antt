@@ -1,5 +1,5 @@
 use mathlib.Core.List.{[], _∷_}
-use Rattle.protocol.proofs.Joined.{joined-all}
+use Rattle.protocol.proofs.logic.Joined.{joined-all}
 use borrow.Author.Needs.{needs}
 use Rattle.form.proofs.words_formed.Statement.{statement}
 use Rattle.form.proofs.words_formed.Tie as tie

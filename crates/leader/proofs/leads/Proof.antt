@@ -6,7 +6,7 @@ use lib.Dec.{eqb}
 use borrow.Author.Needs.{needs}
 use Rattle.protocol.specs.Memory.{replicaCount}
 use Rattle.protocol.specs.Leader.{leads}
-use Rattle.protocol.proofs.Leaders.{unled}
+use Rattle.protocol.proofs.calls.Leaders.{unled}
 use Rattle.leader.proofs.leads.Statement.{statement}
 use Rattle.leader.proofs.leads.Tie as tie
 

@@ -6,8 +6,8 @@ use borrow.Author.Needs.{needs}
 use native.Mathlib.Omega.{arith}
 use Rattle.protocol.specs.Memory.{certificateAt}
 use Rattle.protocol.specs.Form.{allBelow}
-use Rattle.protocol.proofs.Below.{next, at-end}
-use Rattle.protocol.proofs.Joined.{denied, granted}
+use Rattle.protocol.proofs.logic.Below.{next, at-end}
+use Rattle.protocol.proofs.logic.Joined.{denied, granted}
 use Rattle.log.specs.inner.Records.{certificateOk, groupExceeds}
 use Rattle.log.proofs.Limits.{formed, kind-refutes, limit-refutes, group-formed, group-kinds-refute, group-limits-refute}
 use Rattle.log.proofs.certificates_formed.Statement.{statement}

@@ -1,5 +1,5 @@
 use mathlib.Core.List.{[], _∷_}
-use Rattle.protocol.proofs.Joined.{joined-all}
+use Rattle.protocol.proofs.logic.Joined.{joined-all}
 use Rattle.movements.specs.Movements.{movementAllowed}
 use Rattle.movements.proofs.is_allowed.Statement.{statement}
 use Rattle.movements.proofs.is_allowed.Tie as tie

@@ -1,6 +1,6 @@
 use mathlib.Core.List.{[], _∷_}
 use borrow.Author.Needs.{needs}
-use Rattle.protocol.proofs.Joined.{joined-all}
+use Rattle.protocol.proofs.logic.Joined.{joined-all}
 use Rattle.movements.specs.Movements.{isMovementList}
 use Rattle.movements.proofs.is_movement_list.Statement.{statement}
 use Rattle.movements.proofs.is_movement_list.Tie as tie

@@ -3,7 +3,7 @@ use native.Mathlib.Omega.{arith}
 use borrow.Author.Needs.{needs}
 use mir.Syntax.{w32}
 use mir.Val.{Fits}
-use Rattle.protocol.proofs.Booleans.{by-cond}
+use Rattle.protocol.proofs.logic.Booleans.{by-cond}
 use Rattle.netting.specs.inner.Tallies.{marked}
 use Rattle.netting.proofs.Moving.{all-or-none}
 use Rattle.netting.proofs.counted_pallets.Statement.{statement}

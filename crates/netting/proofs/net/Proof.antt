@@ -1,9 +1,9 @@
 -- Each refusal is that of the first need that fails; where all up to the movements hold, the balance is asked for.
 use native.Mathlib.Omega.{arith}
 use borrow.Author.Needs.{needs}
-use Rattle.protocol.proofs.Booleans.{tests}
+use Rattle.protocol.proofs.logic.Booleans.{tests}
 use Rattle.checks.proofs.Passing.{replica-known}
-use Rattle.protocol.proofs.Joined.{denied, granted}
+use Rattle.protocol.proofs.logic.Joined.{denied, granted}
 use Rattle.netting.proofs.Refusing.{no-list, no-replica, no-block, nettable, answers-balance}
 use Rattle.netting.proofs.net.Statement.{statement}
 use Rattle.netting.proofs.net.Tie as tie

@@ -3,7 +3,7 @@ use Prim.Native.Nat.{suc, _+_, _-_, _≤_}
 use mathlib.Core.Path.{_≡_}
 use native.Mathlib.Omega.{arith}
 use borrow.Author.Needs.{needs}
-use Rattle.protocol.proofs.Joined.{denied, granted}
+use Rattle.protocol.proofs.logic.Joined.{denied, granted}
 use Rattle.movements.specs.Movements.{movementCount}
 use Rattle.netting.proofs.Tallying.{Passed, starts, step, goes-on, block-there, stops, ends, giver-movable, taker-movable}
 use Rattle.netting.proofs.tally.Statement.{statement}

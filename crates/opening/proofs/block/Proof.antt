@@ -9,8 +9,8 @@ use lib.Dec.{ltb}
 use Rattle.protocol.specs.Memory.{Memory, memory, blockCount, blockAt}
 use Rattle.protocol.specs.Form.{wellFormed}
 use Rattle.protocol.specs.FirstNeeds.{isBlock}
-use Rattle.protocol.proofs.Booleans.{tests}
-use Rattle.protocol.proofs.Formed.{formed, sizes}
+use Rattle.protocol.proofs.logic.Booleans.{tests}
+use Rattle.protocol.proofs.memory.Formed.{formed, sizes}
 use Rattle.opening.proofs.Blocks.{no-form, unknown, full, adds, Ready, ready}
 use Rattle.opening.proofs.block.Statement.{statement}
 use Rattle.opening.proofs.block.Tie as tie

@@ -8,7 +8,7 @@ use borrow.Author.Needs.{needs}
 use Rattle.protocol.specs.Memory.{Memory, memory}
 use Rattle.protocol.specs.Form.{isFaultBound, lengthsFit}
 use Rattle.protocol.specs.Counter.{stepsAllowed}
-use Rattle.protocol.proofs.Joined.{denied, granted}
+use Rattle.protocol.proofs.logic.Joined.{denied, granted}
 use Rattle.form.proofs.Whole.{bounded}
 use Rattle.opening.proofs.Opens.{Fitting, fitting, no-bound, no-steps, no-lengths, opens}
 use Rattle.opening.proofs.open_ledger.Statement.{statement}

@@ -3,8 +3,8 @@ use mathlib.Core.Path.{refl, ap}
 use borrow.Author.Needs.{needs}
 use Rattle.protocol.specs.Memory.{memory}
 use Rattle.protocol.specs.Outcome.{Outcome}
-use Rattle.protocol.proofs.Booleans.{tests}
-use Rattle.protocol.proofs.Formed.{sizes, height-kept}
+use Rattle.protocol.proofs.logic.Booleans.{tests}
+use Rattle.protocol.proofs.memory.Formed.{sizes, height-kept}
 use Rattle.form.proofs.Within.{block-within, replica-bounds}
 use Rattle.checks.proofs.Passing.{start, accepts, no-replica, replica-known, found-replica}
 use Rattle.panel.specs.Panel.{panelRule, panelAnswer}

@@ -19,7 +19,7 @@ use Rattle.protocol.specs.Runs.{ruleOf, step, run}
 use Rattle.protocol.specs.cases.Rows.{Row, _gives_, _gives_leaving_, Case, overwritten, invoked, invocationOf, RowHolds, RowsHold}
 use Rattle.protocol.specs.cases.Rows.{EveryCaseHolds}
 use Rattle.protocol.specs.cases.Starts.{holding}
-use Rattle.protocol.proofs.Booleans.{tests, and-true}
+use Rattle.protocol.proofs.logic.Booleans.{tests, and-true}
 
 -- ---- equal answers, equal memories
 

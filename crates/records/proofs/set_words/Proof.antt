@@ -5,8 +5,8 @@ use native.Mathlib.Omega.{arith}
 use lib.ListN.{length, drop, length-set}
 use borrow.Author.Needs.{needs}
 use Rattle.protocol.specs.Memory.{rowAt, assign}
-use Rattle.protocol.proofs.Booleans.{tests}
-use Rattle.protocol.proofs.Lists.{every-at}
+use Rattle.protocol.proofs.logic.Booleans.{tests}
+use Rattle.protocol.proofs.memory.Lists.{every-at}
 use Rattle.records.specs.inner.Replicas.{assignments}
 use Rattle.records.proofs.Setting.{set-step, set-end}
 use Rattle.records.proofs.set_words.Statement.{statement}

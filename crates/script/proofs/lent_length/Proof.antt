@@ -2,7 +2,7 @@
 use mathlib.Core.Path.{sym, ap, _∙_}
 use borrow.Author.Needs.{needs}
 use Rattle.protocol.specs.Memory.{rowAt}
-use Rattle.protocol.proofs.Booleans.{tests, each}
+use Rattle.protocol.proofs.logic.Booleans.{tests, each}
 use Rattle.script.proofs.Lending.{lends, lends-none}
 use Rattle.script.proofs.lent_length.Statement.{statement}
 use Rattle.script.proofs.lent_length.Tie as tie

@@ -6,7 +6,7 @@ use native.Mathlib.Omega.{arith}
 use borrow.Author.Needs.{needs}
 use lib.ListN.{length, take, length-set}
 use Rattle.protocol.specs.Form.{allBelow}
-use Rattle.protocol.proofs.Below.{next}
+use Rattle.protocol.proofs.logic.Below.{next}
 use Rattle.field.specs.Field.{columns}
 use Rattle.script.specs.Lines.{maxFields, fieldCount, numbers, isNumber}
 use Rattle.script.proofs.Reading.{not-read, refused-at, number-at, one-more, all-read}

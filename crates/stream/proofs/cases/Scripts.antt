@@ -6,7 +6,7 @@ use mathlib.Core.Logic.{⊎-elim}
 use native.Mathlib.Omega.{arith}
 use mathlib.Core.List.{List, [], _∷_, List·Memᴰ, List·Memᴰ·cases-cons, List·Memᴰ·not-nil}
 use Rattle.protocol.specs.History.{Event, reopened, added, decided, other}
-use Rattle.protocol.proofs.Booleans.{and-true}
+use Rattle.protocol.proofs.logic.Booleans.{and-true}
 use Rattle.protocol.specs.Memory.{update, appendCertificate, appendBlock}
 use Rattle.protocol.specs.Form.{allHold, allBelow, blockFormed, replicaFormed, certificateFormed, lengthsFit, countsFit}
 use Rattle.protocol.specs.Form.{stepsFormed, wellFormed}

@@ -4,7 +4,7 @@ use mathlib.Core.Path.{_≡_, _∙_}
 use native.Mathlib.Omega.{arith}
 use borrow.Author.Needs.{needs}
 use lib.ListN.{length, drop}
-use Rattle.protocol.proofs.Booleans.{tests}
+use Rattle.protocol.proofs.logic.Booleans.{tests}
 use Rattle.stream.specs.inner.Feeds.{feedFrom, feedStep}
 use Rattle.stream.proofs.Feeds.{scan-on, scan-done, feed-here, no-feed-here}
 use Rattle.stream.proofs.line_end.Statement.{statement}

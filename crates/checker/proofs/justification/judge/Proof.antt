@@ -3,7 +3,7 @@ use mathlib.Core.Path.{sym, _∙_}
 use mathlib.Core.Bool.{and-true}
 use borrow.Author.Needs.{needs}
 use Rattle.protocol.specs.Form.{allHold}
-use Rattle.protocol.proofs.Booleans.{tests}
+use Rattle.protocol.proofs.logic.Booleans.{tests}
 use Rattle.checks.proofs.Verdicts.{fails, last}
 use Rattle.checker.specs.inner.Justifications.{judgementOf}
 use Rattle.checker.proofs.Justifications.{quorum-view-bound}

@@ -21,7 +21,7 @@ use Rattle.protocol.specs.cases.Cuts.{newViewsOfAnyBoot, signedAtItsBoot
 use Rattle.protocol.specs.cases.Cuts.{brokenLogs}
 use Rattle.protocol.specs.cases.Words.{wordCases, openLeaves, blockLeaves, prepareOnAccLeaves, prepareOnCommitsLeaves, storeLeaves}
 use Rattle.protocol.specs.cases.Words.{viewLeaves, accumulateLeaves, decideLeaves, decideOfShownViewLeaves, rebootLeaves}
-use Rattle.protocol.specs.cases.Words.{reserveLeaves, requestLeaves, replyLeaves, recoverLeaves}
+use Rattle.protocol.specs.cases.Words.{retiringRebootLeaves, reserveLeaves, requestLeaves, replyLeaves, recoverLeaves}
 use Rattle.protocol.specs.cases.Rows.{EveryCaseHolds}
 use Rattle.protocol.specs.cases.Table.{CasesHold}
 use Rattle.protocol.proofs.cases.Rows.{wrong, right, all-right, _and_}
@@ -140,6 +140,7 @@ word-cases =
     and right decideLeaves refl
     and right decideOfShownViewLeaves refl
     and right rebootLeaves refl
+    and right retiringRebootLeaves refl
     and right reserveLeaves refl
     and right requestLeaves refl
     and right replyLeaves refl

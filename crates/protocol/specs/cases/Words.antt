@@ -149,6 +149,14 @@ rebootLeaves =
     onLedger
     (plain (Reboot 1) gives accepted 6 30 leaving (tableWord 20 reads (1 ∷ 6 ∷ 30 ∷ 47 ∷ 0 ∷ 0 ∷ 0 ∷ []) ∷ []))
 
+-- "If boot or bound would pass 1,000,000, [..] only the status becomes 2." The bound is set by hand: with the step of boot 6, 17, it would.
+abbrev pub retiringRebootLeaves : Case
+retiringRebootLeaves =
+    record {
+      start = overwritten ledger (tableWord 23 reads (999984 ∷ []) ∷ []);
+      rows = plain (Reboot 1) gives accepted 5 8 leaving (tableWord 20 reads (2 ∷ []) ∷ []) ∷ [];
+    }
+
 -- "bound grows by its boot's step."
 abbrev pub reserveLeaves : Case
 reserveLeaves = onLedger (plain (Reserve 1) gives accepted 43 0 leaving (tableWord 23 reads (43 ∷ []) ∷ []))
@@ -184,6 +192,7 @@ wordCases =
     ∷ decideLeaves
     ∷ decideOfShownViewLeaves
     ∷ rebootLeaves
+    ∷ retiringRebootLeaves
     ∷ reserveLeaves
     ∷ requestLeaves
     ∷ replyLeaves

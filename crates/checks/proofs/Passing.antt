@@ -1,13 +1,13 @@
 -- How a call goes from one need to the next, from what the code's tests answer: refused, with the number handed up, or on to the rest.
 use Prim.Native.Nat.{ℕ, _+_, _≤_, _<_}
 use mathlib.Core.Path.{_≡_, refl, sym, _∙_}
-use mathlib.Core.Bool.{Bool, true, false}
-use mathlib.Core.List.{List, [], _∷_, _++_}
+use mathlib.Core.Bool.{true}
+use mathlib.Core.List.{List, [], _++_}
 use Rattle.protocol.specs.declared.Answer.{Answer}
 use lib.ListN.{length, getD}
 use Rattle.protocol.specs.Memory.{Memory, replica, certificate, certificateAt, certificateWords}
 use Rattle.protocol.specs.Quorum.{isIssued, certificatesOf, firstOf}
-use Rattle.protocol.specs.Outcome.{Need, _else_, RuleOf, Rule, firstRefusal, acceptance, refusalOf, follow, told}
+use Rattle.protocol.specs.Outcome.{Need, RuleOf, Rule, firstRefusal, acceptance, refusalOf, follow, told}
 use Rattle.protocol.specs.FirstNeeds.{replicaNeeds, numberNeeds, listNeeds}
 use Rattle.protocol.proofs.calls.Needs as Needs
 use Rattle.protocol.proofs.calls.Needs.{Holds, positive, all-needs, refused-first, all-pass}

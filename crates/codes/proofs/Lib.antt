@@ -1,3 +1,3 @@
 pub mod Aside
-pub mod Claims
+pub mod Commits
 pub mod Readable

@@ -1,8 +1,7 @@
 -- Statements with premises, used at a worked execution: the premises hold there by computation.
 use Prim.Native.Nat.{_≤_}
-use mathlib.Core.Path.{_≡_, refl}
 use Rattle.protocol.specs.Runs.{run}
-use Rattle.protocol.specs.Agreement.{OpensNone, endOf}
+use Rattle.protocol.specs.Agreement.{endOf}
 use Rattle.protocol.proofs.Witnesses.{moreCalls, begun, none-opens}
 use Rattle.panel.specs.Panel.{panelAnswer}
 use Rattle.panel.specs.Theorems.{PanelNeverFalls}

@@ -1,15 +1,18 @@
 -- Statements with premises, used at a worked execution: the premises hold there by computation. Where one premise more makes a statement
--- empty, or less than it says, its use fails here.
+-- empty, its use fails here.
+use Prim.Native.Nat.{_<_}
 use mathlib.Core.Path.{_≡_, refl, ap, _∙_}
 use mathlib.Core.Bool.{Bool, true, false, not, _&&_, false≢true}
 use mathlib.Core.List.{List, [], _∷_, _++_, List·Memᴰ, List·Memᴰ·head, List·Memᴰ·tail, List·Memᴰ·cases-cons, List·Memᴰ·not-nil}
 use mathlib.Core.Logic.{⊎-elim}
+use native.Mathlib.Omega.{arith}
 use Rattle.protocol.specs.declared.Call.the-variants.{Open, Block, Prepare, Store, View, Accumulate, Decide}
 use Rattle.protocol.specs.declared.Justification.the-variants.{Acc, Commits}
-use Rattle.protocol.specs.Memory.{Memory}
+use Rattle.protocol.specs.Memory.{Memory, blockCount, replica, parent}
 use Rattle.protocol.specs.Runs.{Invocation, step, run}
-use Rattle.protocol.specs.History.{Event, reopened, added, decided, other, eventOf, history}
-use Rattle.protocol.specs.Agreement.{OneChain, OpensNone, Execution, eventsOf, endOf, Agreement, Told, WordsMatchHistory}
+use Rattle.protocol.specs.History.{Event, reopened, added, decided, other, eventOf, history, givenParent, highest}
+use Rattle.protocol.specs.History.{decisionBlock, decisionView}
+use Rattle.protocol.specs.Agreement.{OneChain, PanelsRise, OpensNone, Execution, eventsOf, endOf, Agreement, WordsMatchHistory}
 use Rattle.protocol.specs.cases.Rows.{plain, _on_}
 use Rattle.protocol.specs.cases.Starts.{blank}
 use Rattle.protocol.proofs.logic.Booleans.{and-true}
@@ -71,17 +74,17 @@ unfolding told
 all-told = refl
 
 -- No accepted Open is among events.
-abbrev isReopened : Event → Bool
+abbrev pub isReopened : Event → Bool
 isReopened reopened = true
 isReopened (added b p) = false
 isReopened (decided i b v) = false
 isReopened other = false
 
-abbrev noneReopens : List Event → Bool
+abbrev pub noneReopens : List Event → Bool
 noneReopens [] = true
 noneReopens (e ∷ past) = not (isReopened e) && noneReopens past
 
-none-reopens : (events : List Event) → noneReopens events ≡ true → List·Memᴰ reopened events → ⊥
+pub none-reopens : (events : List Event) → noneReopens events ≡ true → List·Memᴰ reopened events → ⊥
 none-reopens [] none w = List·Memᴰ·not-nil w
 none-reopens (e ∷ past) none w =
     let both = and-true (not (isReopened e)) (noneReopens past) none in
@@ -119,10 +122,22 @@ second-decided = rw worked-told (List·Memᴰ·head refl)
 
 -- ---- the statements, used
 
-pub agreement-used : Agreement → OneChain (eventsOf worked) 1 2
+pub agreement-used : Agreement → OneChain (eventsOf worked) 1 2 × PanelsRise (eventsOf worked)
 unfolding Agreement
-agreement-used statement = statement worked .oneChain 0 1 1 0 2 2 first-decided second-decided
+agreement-used statement =
+    let agreed = statement worked in
+    (agreed .oneChain 0 1 1 0 2 2 first-decided second-decided, agreed .panelsRise)
 
-pub words-match-history-used : WordsMatchHistory → Told (worked .f) (eventsOf worked) (endOf worked)
-unfolding WordsMatchHistory
-words-match-history-used statement = statement worked
+two-blocks : 2 < blockCount (endOf worked)
+unfolding told worked
+two-blocks = omega arith
+
+-- Block 2's parent, and what replica 0 decided, are words that the calls told.
+pub words-match-history-used : WordsMatchHistory
+    → (parent (endOf worked) 2 ≡ givenParent (eventsOf worked) 2)
+    × (replica (endOf worked) 0 .decidedView ≡ decisionView (highest (eventsOf worked) 0))
+    × (replica (endOf worked) 0 .decidedBlock ≡ decisionBlock (highest (eventsOf worked) 0))
+unfolding WordsMatchHistory worked
+words-match-history-used statement =
+    let words = statement worked in
+    (words .parents 2 two-blocks, words .views 0 (omega arith), words .blocks 0 (omega arith))

@@ -3,7 +3,7 @@ use Prim.Native.Nat.{ℕ, _≤_, _<_}
 use mathlib.Core.Path.{_≡_}
 use mathlib.Core.Bool.{Bool, true, false, cond, _||_}
 use mathlib.Core.Logic.{_≢_}
-use mathlib.Core.List.{List, [], _∷_, _++_, List·Memᴰ}
+use mathlib.Core.List.{List, [], _∷_, _++_}
 use lib.ListN.{length, getD}
 use lib.Dec.{ltb, eqb}
 use Rattle.protocol.specs.declared.Call.{Call}
@@ -18,7 +18,6 @@ use Rattle.protocol.specs.Outcome.{Outcome, Need, _else_, Rule, follow, 
 use Rattle.protocol.specs.Calls.{issuing}
 use Rattle.protocol.specs.Runs.{Invocation, ruleOf, step, run}
 use Rattle.protocol.specs.Theorems.{Accepted}
-use Rattle.protocol.specs.History.{reopened, history}
 use Rattle.protocol.specs.Agreement.{OpensNone, Execution, endOf}
 use Rattle.protocol.specs.Repeats.{isIssuing}
 

@@ -12,7 +12,7 @@ use Rattle.protocol.specs.declared.Justification.{Justification}
 use Rattle.protocol.specs.Memory.{Memory, Certificate, certificateCount, certificate, words}
 use Rattle.protocol.specs.Certificates.{numberFor, isFiled, found, appended}
 use Rattle.protocol.specs.Outcome.{Outcome, wrongView}
-use Rattle.protocol.specs.Runs.{Invocation, step}
+use Rattle.protocol.specs.Runs.{step}
 use Rattle.protocol.specs.Theorems.{Accepted}
 use Rattle.protocol.specs.Agreement.{Execution, endOf}
 

@@ -5,10 +5,10 @@ use mathlib.Core.Bool.{true}
 use mathlib.Core.List.{List, [], _∷_}
 use native.Mathlib.Omega.{arith}
 use lib.ListN.{length, getD, length-map, List·getD-map}
-use Rattle.protocol.specs.Memory.{Memory, Certificate, certificateCount, certificate}
+use Rattle.protocol.specs.Memory.{Memory, Certificate, certificate}
 use Rattle.protocol.specs.Form.{lengthsFit, certificateFormed}
 use Rattle.protocol.specs.Certificates.{COMMIT}
-use Rattle.protocol.specs.Quorum.{every, isQuorumSize, isIssued, allIssued, certificatesOf, firstOf, isQuorum}
+use Rattle.protocol.specs.Quorum.{isQuorumSize, isIssued, allIssued, certificatesOf, firstOf, isQuorum}
 use Rattle.protocol.specs.Quorum.{isCommitQuorum}
 use Rattle.protocol.proofs.logic.Booleans.{tests, each}
 use Rattle.protocol.proofs.memory.Lists.{every-at}

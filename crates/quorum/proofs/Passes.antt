@@ -1,5 +1,5 @@
 -- The passes over a list: what is left of the list, after what the pass has seen, gives the answer of the whole.
-use Prim.Native.Nat.{ℕ, zero, suc, _+_, _^_, _≤_, _<_}
+use Prim.Native.Nat.{ℕ, _+_, _^_, _≤_, _<_}
 use mathlib.Core.Path.{_≡_, refl, sym, ap, _∙_}
 use mathlib.Core.Bool.{Bool, true, false, cond, not, _&&_, _||_, and-assoc, and-true, and-false}
 use mathlib.Core.List.{List, [], _∷_}
@@ -12,7 +12,7 @@ use lib.Dec.{ltb, eqb}
 use Rattle.protocol.specs.Memory.{Certificate}
 use Rattle.protocol.specs.Form.{allHold}
 use Rattle.protocol.specs.Quorum.{every, contains, distinct, signers, greatestFrom, greatest, isQuorum}
-use Rattle.protocol.proofs.logic.Booleans.{tests, by-test}
+use Rattle.protocol.proofs.logic.Booleans.{tests}
 use Rattle.quorum.specs.inner.Signers.{holds}
 use Rattle.quorum.specs.inner.Lists.{certificateIn, certificatesIn, Greatest}
 use Rattle.quorum.proofs.Bits.{holds-none, holds-with}

@@ -12,4 +12,5 @@ pub mod Theorems
 pub mod Shown
 pub mod Agreement
 pub mod cases
+pub mod Witnesses
 pub mod Claims

@@ -1,7 +1,7 @@
-// The table (document 01, "Memory"): its numbers, and where a replica's words stand, how they are read and written. The numbers have the names
-// of protocol/specs/, in upper case, and so have those of the log, the blocks, the counter and the movements, each beside what it describes. A
-// function for each group, that nothing calls, holds them to the definitions: where a number differs, the check names it there, before it
-// looks at any crate above.
+// The table (document 01, "Memory"): its numbers, and where a replica's words stand, how they are read and written. The numbers have the
+// names of protocol/specs/, in upper case, and so have those of the log, the blocks, the counter and filing, each beside what it describes;
+// the movements' those of movements/specs/. A function for each group, that nothing calls, holds them to the definitions: where a number
+// differs, the check names it there, before it looks at any crate above.
 ghost use mathlib.Core.Path.{_≡_};
 ghost use mathlib.Core.List.{[], _∷_};
 ghost use Prim.Native.Nat.{_+_, _≤_, _<_};

@@ -1,7 +1,7 @@
 -- The view and the block of the list's first certificate; 0 where there is no list, or the certificate is not issued.
 use borrow.Author.Needs.{needs}
 use Rattle.protocol.proofs.logic.Booleans.{tests}
-use Rattle.codes.proofs.Claims.{no-list, not-issued, claimed, no-count}
+use Rattle.codes.proofs.Commits.{no-list, not-issued, claimed, no-count}
 use Rattle.codes.proofs.claimed.Statement.{statement}
 use Rattle.codes.proofs.claimed.Tie as tie
 

@@ -4,7 +4,7 @@ use native.Mathlib.Omega.{arith}
 use borrow.Author.Needs.{needs}
 use borrow.Author.Tests.{eq-eqb, ne-eqb}
 use Rattle.codes.specs.Codes.{when, codeTable}
-use Rattle.codes.proofs.Claims.{unknown-code}
+use Rattle.codes.proofs.Commits.{unknown-code}
 use Rattle.codes.proofs.coded_call.Statement.{statement}
 use Rattle.codes.proofs.coded_call.Tie as tie
 

@@ -1,7 +1,7 @@
 -- Rows of the table of cases with the words that each call leaves, by slice and index, in the documents' order: "Table: f, certificates
 -- issued, blocks added;" the eight steps, "then nine words a box: status (0 live, 1 waiting, 2 spent), boot, low, bound, flag, stored view,
 -- stored block, shown view, shown block"; "kind, signer, view, block, of-view, subject, boot", and the boot of the signer; "parent and
--- height". Each call is made on memory where every word that it sets is another before.
+-- height". Each call is made on memory where every word that it sets is another before, but for an opening with steps after another opening.
 use Prim.Native.Nat.{ℕ}
 use mathlib.Core.List.{List, [], _∷_}
 use lib.ListN.{replicate}

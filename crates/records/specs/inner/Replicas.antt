@@ -1,5 +1,5 @@
 -- A replica of the code as the rules have it, one of the rules as the code has it, and words set together.
-use Prim.Native.Nat.{ℕ, _<_}
+use Prim.Native.Nat.{ℕ}
 use mathlib.Core.Path.{_≡_}
 use mathlib.Core.Bool.{true}
 use mathlib.Core.List.{List, [], _∷_}

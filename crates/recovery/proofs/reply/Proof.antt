@@ -1,6 +1,6 @@
 -- Refused, or a REPLY is issued, to the REQ's signer, boot and view; the lowest view rises to that view where it is below it.
 use Prim.Native.Nat.{ℕ}
-use mathlib.Core.Path.{_≡_, refl}
+use mathlib.Core.Path.{refl}
 use mathlib.Core.List.{List, _++_}
 use borrow.Author.Needs.{needs}
 use borrow.Author.Tests.{lt-ltb, le-ltb}

@@ -1,12 +1,9 @@
 -- The worked scripts, by computation.
 use Prim.Native.Nat.{ℕ}
-use mathlib.Core.Path.{_≡_, refl}
-use mathlib.Core.Bool.{Bool, true, false}
-use mathlib.Core.Logic.{⊎-elim}
-use native.Mathlib.Omega.{arith}
-use mathlib.Core.List.{List, [], _∷_, List·Memᴰ, List·Memᴰ·cases-cons, List·Memᴰ·not-nil}
-use Rattle.protocol.specs.History.{Event, reopened, added, decided, other}
-use Rattle.protocol.proofs.logic.Booleans.{and-true}
+use mathlib.Core.Path.{refl}
+use mathlib.Core.List.{List, List·Memᴰ, List·Memᴰ·head}
+use Rattle.protocol.specs.History.{decided}
+use Rattle.protocol.proofs.Witnesses.{none-reopens}
 use Rattle.protocol.specs.Memory.{update, appendCertificate, appendBlock}
 use Rattle.protocol.specs.Form.{allHold, allBelow, blockFormed, replicaFormed, certificateFormed, lengthsFit, countsFit}
 use Rattle.protocol.specs.Form.{stepsFormed, wellFormed}
@@ -27,7 +24,7 @@ use Rattle.script.specs.Session.{lentLength, lending, answerNumbers, answerLine
 use Rattle.script.specs.Text.{answerText}
 use Rattle.script.specs.Agreement.{eventTable, lineEvent}
 use Rattle.stream.specs.Output.{linesFrom, answersTo, output}
-use Rattle.stream.specs.Agreement.{toldHistory}
+use Rattle.stream.specs.Agreement.{toldHistory, toldWithin}
 use Rattle.stream.specs.cases.Scripts.{lineOf, textOf, workedInput, workedOutput, WorkedScript, WorkedScriptTells}
 use Rattle.stream.specs.cases.Scripts.{WorkedScriptOpens, stepsInput, stepsOutput, StepsScript}
 
@@ -54,26 +51,16 @@ unfolding leastFrom digitCount digits fieldOf continued unpadded aligned readFie
     workedOutput WorkedScript eventTable lineEvent toldHistory WorkedScriptTells
 worked-script-tells = rw worked-script refl
 
-abbrev goesOn : Event → Bool
-goesOn reopened = false
-goesOn (added number parent) = true
-goesOn (decided i b v) = true
-goesOn other = true
-
-not-reopened : (events : List Event) → every goesOn events ≡ true → List·Memᴰ reopened events → ⊥
-unfolding every
-not-reopened [] e w = List·Memᴰ·not-nil w
-not-reopened (x ∷ events) e w =
-    let both = and-true (goesOn x) (every goesOn events) e in
-    ⊎-elim (λ q. let f = rw (← q) at (both .0) in let z : _≡_ {A = ℕ} 0 1 = cc in omega arith)
-    (not-reopened events (both .1)) (List·Memᴰ·cases-cons w)
-
 pub worked-script-opens : WorkedScriptOpens
 unfolding leastFrom digitCount digits fieldOf continued unpadded aligned readField numbers linesFrom lineOf textOf workedInput
-    workedOutput WorkedScript every WorkedScriptTells WorkedScriptOpens
+    workedOutput WorkedScript WorkedScriptTells WorkedScriptOpens
 worked-script-opens =
     record {
       opens = refl;
       accepted = rw worked-script refl;
-      once = λ w. not-reopened _ refl (rw worked-script-tells at w);
+      once = λ w. none-reopens _ refl (rw worked-script-tells at w);
     }
+
+pub block-decided : List·Memᴰ (decided 0 1 1) (toldWithin (textOf workedInput) 0 10)
+unfolding WorkedScriptTells
+block-decided = rw worked-script-tells (List·Memᴰ·head refl)

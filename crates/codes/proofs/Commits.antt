@@ -1,10 +1,10 @@
 -- The ways that reading a word of the list's first certificate goes; and codes that are none.
-use Prim.Native.Nat.{ℕ, zero, suc, _+_, _≤_}
-use mathlib.Core.Path.{_≡_, refl, sym, _∙_}
+use Prim.Native.Nat.{ℕ, zero, suc, _≤_}
+use mathlib.Core.Path.{_≡_, refl, sym}
 use mathlib.Core.Bool.{true, false}
 use mathlib.Core.List.{List, [], _∷_}
 use lib.ListN.{length, getD, List·getD-eq-default}
-use Rattle.protocol.specs.Memory.{Memory, certificateCountAt, certificateCount, certificateAt, certificateWord}
+use Rattle.protocol.specs.Memory.{Memory, certificateCountAt, certificateCount, certificateWord}
 use Rattle.protocol.specs.Quorum.{isIssued}
 use Rattle.protocol.proofs.logic.Booleans.{tests}
 use Rattle.codes.specs.Codes.{claimedWord, noCall, codeTable, codedCall}

@@ -51,18 +51,15 @@ maxPallets = 10000
 abbrev pub maxMovements : ℕ
 maxMovements = 2048
 
--- Of a movement, where there are so many replicas and so many blocks are added.
+-- Of giver, taker and pallets, where there are so many replicas.
+abbrev pub transferTests : ℕ → ℕ → ℕ → ℕ → List Bool
+transferTests replicas giver taker pallets =
+    ltb giver replicas ∷ ltb taker replicas ∷ not (eqb giver taker) ∷ leb 1 pallets ∷ leb pallets maxPallets ∷ []
+
+-- Of a movement, where so many blocks are added too.
 unfoldable pub movementAllowed : ℕ → ℕ → Movement → Bool
 movementAllowed replicas added x =
-    allHold
-    (not (eqb (x .block) 0)
-    ∷ ltb (x .block) added
-    ∷ ltb (x .giver) replicas
-    ∷ ltb (x .taker) replicas
-    ∷ not (eqb (x .giver) (x .taker))
-    ∷ leb 1 (x .pallets)
-    ∷ leb (x .pallets) maxPallets
-    ∷ [])
+    allHold (not (eqb (x .block) 0) ∷ ltb (x .block) added ∷ transferTests replicas (x .giver) (x .taker) (x .pallets))
 
 -- Of the words lent: whole movements, and not too many.
 unfoldable pub isMovementList : List ℕ → Bool

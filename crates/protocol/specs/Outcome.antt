@@ -46,13 +46,21 @@ noRoom = 9
 abbrev pub unreadable : ℕ
 unreadable = 10
 
--- Document 02, #101: a movement outside its rules. No call returns it; a netting does.
+-- Document 02, #101: a movement outside its rules. No call of the twelve returns it; a netting does, and those on entries that wait.
 abbrev pub wrongMovement : ℕ
 wrongMovement = 11
 
 -- Document 02, #104: "12 for steps that break these rules or aren't eight": an opening's alone.
 abbrev pub wrongSteps : ℕ
 wrongSteps = 12
+
+-- Document 02, #108: "13 for an identity already waiting, or not waiting when it should leave or be matched; 14 for 512 waiting." No call of
+-- the twelve returns them; those on entries that wait do.
+abbrev pub wrongIdentity : ℕ
+wrongIdentity = 13
+
+abbrev pub waitingFull : ℕ
+waitingFull = 14
 
 -- A test that a call makes, and what it returns where the test fails.
 pub data Need : Type 0 where

@@ -11,7 +11,7 @@ pub struct Answer {
     pub second: u32,
 }
 
-// The numbers of the table under "Calls" in document 01, and 11 and 12 of document 02. The refusals have the names of specs/Outcome.antt,
+// The numbers of the table under "Calls" in document 01, and 11 to 14 of document 02. The refusals have the names of specs/Outcome.antt,
 // in upper case.
 pub const ACCEPTED: u32 = 0;
 
@@ -36,18 +36,23 @@ pub const NO_ROOM: u32 = 9;
 // "script line unreadable": for a line or a code that gives no call.
 pub const UNREADABLE: u32 = 10;
 
-// "a movement outside these rules" (document 02, #101): for a netting.
+// "a movement outside these rules" (document 02, #101): for a netting, and for entries that wait.
 pub const WRONG_MOVEMENT: u32 = 11;
 
 // "steps that break these rules or aren't eight" (document 02, #104): for an opening.
 pub const WRONG_STEPS: u32 = 12;
 
+// "an identity already waiting, or not waiting when it should leave or be matched", "512 waiting" (document 02, #108).
+pub const WRONG_IDENTITY: u32 = 13;
+
+pub const WAITING_FULL: u32 = 14;
+
 // They are the definitions': nothing calls this.
-pub fn refusals() -> [u32; 12]
+pub fn refusals() -> [u32; 14]
     ensures { λ r. ⌜ r
         ≡ Refusals.wrongForm ∷ Refusals.outOfRange ∷ Refusals.unknownNumber ∷ Refusals.wrongStatus ∷ Refusals.wrongCertificate
         ∷ Refusals.wrongBlock ∷ Refusals.wrongView ∷ Refusals.counterLimit ∷ Refusals.noRoom ∷ Refusals.unreadable
-        ∷ Refusals.wrongMovement ∷ Refusals.wrongSteps ∷ [] ⌝ }
+        ∷ Refusals.wrongMovement ∷ Refusals.wrongSteps ∷ Refusals.wrongIdentity ∷ Refusals.waitingFull ∷ [] ⌝ }
 {
     [
         WRONG_FORM,
@@ -62,6 +67,8 @@ pub fn refusals() -> [u32; 12]
         UNREADABLE,
         WRONG_MOVEMENT,
         WRONG_STEPS,
+        WRONG_IDENTITY,
+        WAITING_FULL,
     ]
 }
 

@@ -1,5 +1,14 @@
 // Lines of parents: which blocks are in a block's line.
-ghost use Rattle.ancestry.specs.inner.AncestryFits.{Markable, AncestorsMarked, Climbed};
+ghost use mathlib.Core.Path.{_≡_};
+ghost use Rattle.protocol.specs.Ancestry.{isAncestorBy};
+ghost use Rattle.blocks.specs.inner.Records.{parentIn};
+ghost use Rattle.ancestry.specs.inner.AncestryFits.{
+  AncestryFits,
+  Markable,
+  AncestorsMarked,
+  Climbed,
+  Neared,
+};
 use blocks::MAX_BLOCKS;
 use blocks::ROOT;
 
@@ -38,4 +47,40 @@ pub fn mark_ancestors(blocks: &[u32], b: u32, marks: &mut [bool; MAX_BLOCKS as u
         return;
     }
     mark_ancestors(blocks, top, marks);
+}
+
+// The parent of block b where b is above block a, or else b: whether a is in the line does not change.
+fn step_toward(blocks: &[u32], a: u32, b: u32) -> u32
+    requires { ⌜ AncestryFits (now blocks) b ⌝ }
+    ensures { λ r. ⌜ Neared (now (blocks .entry)) a b r ⌝ }
+{
+    if b <= a {
+        return b;
+    }
+    blocks::parent(blocks, b)
+}
+
+fn four_toward(blocks: &[u32], a: u32, b: u32) -> u32
+    requires { ⌜ AncestryFits (now blocks) b ⌝ }
+    ensures { λ r. ⌜ Neared (now (blocks .entry)) a b r ⌝ }
+{
+    let first = step_toward(blocks, a, b);
+    let second = step_toward(blocks, a, first);
+    let third = step_toward(blocks, a, second);
+    step_toward(blocks, a, third)
+}
+
+// Whether block a is in the line of block b. Sixteen blocks a call, as above; it ends where the numbers have come down to a.
+pub fn is_ancestor(blocks: &[u32], a: u32, b: u32) -> bool
+    requires { ⌜ AncestryFits (now blocks) b ⌝ }
+    ensures { λ r. ⌜ r ≡ isAncestorBy (parentIn (now (blocks .entry))) a b ⌝ }
+{
+    let first = four_toward(blocks, a, b);
+    let second = four_toward(blocks, a, first);
+    let third = four_toward(blocks, a, second);
+    let top = four_toward(blocks, a, third);
+    if top <= a {
+        return a == top;
+    }
+    is_ancestor(blocks, a, top)
 }

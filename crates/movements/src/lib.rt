@@ -1,8 +1,10 @@
 // Movements of pallets (document 02, #101): their numbers, how one is read from the words lent, and which are allowed.
 ghost use mathlib.Core.Path.{_≡_};
+ghost use mathlib.Core.Bool.{true};
 ghost use mathlib.Core.List.{[], _∷_};
 ghost use Prim.Native.Nat.{_+_, _≤_};
 ghost use lib.ListN.{length};
+ghost use Rattle.protocol.specs.Form.{allBelow};
 ghost use Rattle.movements.specs.Movements.{
   movementWords,
   movementBlockAt,
@@ -13,6 +15,7 @@ ghost use Rattle.movements.specs.Movements.{
   maxMovements,
   movementAt,
   movement,
+  movementCount,
   movementAllowed,
   isMovementList,
 };
@@ -90,4 +93,21 @@ pub fn is_allowed(x: Movement, replicas: u32, added: u32) -> bool
         & (x.giver != x.taker)
         & (1 <= x.pallets)
         & (x.pallets <= MAX_PALLETS)
+}
+
+// Whether every movement of a list does, up to the first that does not.
+pub fn all_allowed(movements: &[u32], replicas: u32, added: u32) -> bool
+    requires { ⌜ isMovementList (now movements) ≡ true ⌝ }
+    ensures { λ r. ⌜ r
+        ≡ allBelow (movementCount (now (movements .entry))) (λ k. movementAllowed replicas added (movement (now (movements .entry)) k)) ⌝ }
+{
+    let count = movements.len() / MOVEMENT_WORDS;
+    let mut place: usize = 0;
+    while place < count {
+        if !is_allowed(movement_in(movements, place), replicas, added) {
+            return false;
+        }
+        place += 1;
+    }
+    true
 }

@@ -29,3 +29,9 @@ pub record Climbed (blocks : List ℕ) (b top : ℕ) (before after : List Bool) 
   pub markable : Markable blocks top after
   pub lower : (top ≡ 0 → ⊥) → top < b
   pub rest : (marks : List Bool) → AncestorsMarked blocks top after marks → AncestorsMarked blocks b before marks
+
+-- Some steps up the line of block b toward block a, to block top: a is in the line of the one exactly if it is in that of the other.
+pub record Neared (blocks : List ℕ) (a b top : ℕ) : Type 0 where
+  pub walk : AncestryFits blocks top
+  pub same : isAncestorBy (parentIn blocks) a top ≡ isAncestorBy (parentIn blocks) a b
+  pub lower : a < top → top < b

@@ -1,0 +1,3 @@
+-- What the code's proofs share.
+pub mod Moving
+pub mod Tallies

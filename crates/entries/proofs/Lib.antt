@@ -1,2 +1,5 @@
 -- What follows from the definitions.
 pub mod Words
+pub mod Lists
+pub mod Slices
+pub mod Rules

@@ -3,3 +3,4 @@ pub mod Words
 pub mod Lists
 pub mod Slices
 pub mod Rules
+pub mod Frames

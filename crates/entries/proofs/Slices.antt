@@ -93,7 +93,7 @@ slice-count w = sym (from-length w 0 (waitingCount w))
 abbrev pub cleared : List ℕ
 cleared = replicate waitingWords 0
 
-cleared-length : length cleared ≡ waitingWords
+pub cleared-length : length cleared ≡ waitingWords
 cleared-length = length-replicate {A = ℕ} waitingWords 0
 
 pub cleared-word : (j : ℕ) → j < waitingWords → getD cleared j 0 ≡ 0

@@ -143,6 +143,16 @@ holding-elsewhere w es j z far =
     getD-set-other (sets w (entryAt 0) (allWordsOf es)) 0 j (length es) 0 z
     ∙ sets-elsewhere (allWordsOf es) w (entryAt 0) j (λ l. let beyond = far l in omega arith)
 
+-- Entries after those that wait: only their words are written, and the count.
+pub holding-joined : (w : List ℕ) (es : List Entry)
+    → holding w (entries w ++ es) ≡ set (sets w (entryAt (waitingCount w)) (allWordsOf es)) 0 (length (entries w ++ es))
+unfolding holding
+holding-joined w es =
+    let n = words-length (entries w) in
+    let count = from-length w 0 (waitingCount w) in
+    let at : entryAt 0 + length (allWordsOf (entries w)) ≡ entryAt (waitingCount w) = omega arith in
+    rw (words-append (entries w) es, sets-append (allWordsOf (entries w)) (allWordsOf es) w (entryAt 0), at, front-kept w 0 (waitingCount w))
+
 -- ---- what leaves the entries
 
 pub entries-same : (w w′ : List ℕ) → waitingCount w ≡ waitingCount w′

@@ -4,3 +4,4 @@ pub mod Lists
 pub mod Slices
 pub mod Rules
 pub mod Frames
+pub mod Passes

@@ -1,0 +1,7 @@
+-- What follows from the definitions.
+pub mod Words
+pub mod Lists
+pub mod Slices
+pub mod Rules
+pub mod Frames
+pub mod Passes

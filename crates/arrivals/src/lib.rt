@@ -1,11 +1,14 @@
 // The further slice's words (document 02, #108): its form; finding an entry, appending one and taking one out; the two words of a taker.
 ghost use mathlib.Core.Path.{_≡_};
+ghost use mathlib.Core.List.{[], _∷_, _++_};
 ghost use Prim.Native.Nat.{_+_, _-_, _≤_, _<_};
 ghost use lib.ListN.{length, drop, replicate};
 ghost use lib.Seq.{sets, paste};
 ghost use Rattle.protocol.specs.Form.{allBelow};
 ghost use Rattle.entries.specs.Entries.{
+  maxWaiting,
   waitingWords,
+  waitingCount,
   entryWidth,
   entryAt,
   keptPalletsAt,
@@ -15,9 +18,10 @@ ghost use Rattle.entries.specs.Entries.{
   entryAllowed,
   waitingFormed,
   wordsOf,
+  holding,
   refreshed,
 };
-ghost use Rattle.arrivals.specs.inner.Found.{Found, Refreshable, tallied, tallyOf};
+ghost use Rattle.arrivals.specs.inner.Found.{Found, closedUp, Removable, Refreshable, tallied, tallyOf};
 use entries::ENTRIES_AT;
 use entries::ENTRY_GIVER_AT;
 use entries::ENTRY_PALLETS_AT;
@@ -145,6 +149,26 @@ fn move_up(waiting: &mut [u32], start: usize, end: usize)
         waiting[at] = waiting[at + ENTRY_WIDTH];
         at += 1;
     }
+}
+
+// One entry more, after the last.
+pub fn append(waiting: &mut [u32], e: Entry)
+    requires { ⌜ (length (now waiting) ≡ waitingWords) × (waitingCount (now waiting) < maxWaiting) ⌝ }
+    ensures { λ _. ⌜ now (waiting .exit) ≡ holding (now (waiting .entry)) (entries (now (waiting .entry)) ++ (e ∷ [])) ⌝ }
+{
+    let count = waiting[WAITING_COUNT_AT];
+    set_entry(waiting, count as usize, e);
+    waiting[WAITING_COUNT_AT] = count + 1;
+}
+
+// The entry of a slot leaves, and those after it move up.
+pub fn take_out(waiting: &mut [u32], slot: usize)
+    requires { ⌜ Removable (now waiting) slot ⌝ }
+    ensures { λ _. ⌜ now (waiting .exit) ≡ holding (now (waiting .entry)) (closedUp (now (waiting .entry)) slot) ⌝ }
+{
+    let count = waiting[WAITING_COUNT_AT] - 1;
+    move_up(waiting, entry_at(slot), entry_at(count as usize));
+    waiting[WAITING_COUNT_AT] = count;
 }
 
 // What some entries, up to the last, tell of a taker: the pallets waiting, and the identity of the earliest arrival.

@@ -5,3 +5,5 @@ pub mod Slices
 pub mod Rules
 pub mod Frames
 pub mod Passes
+pub mod Places
+pub mod Histories

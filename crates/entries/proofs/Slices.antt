@@ -181,6 +181,19 @@ slice-without w es identity h own =
     (λ t l other.
     (h .pallets t l ∙ sym (pallets-without t identity es other), h .earliest t l ∙ sym (earliest-without t identity es other))))
 
+-- The words of the places stand past them all.
+pub joined-place : (w : List ℕ) (es : List Entry) (e : Entry) → Slice w es → e .taker < maxReplicas → length es < maxWaiting
+    → (place : ℕ) → getD (arrived w e) (placeAt place) 0 ≡ getD w (placeAt place) 0
+joined-place w es e h own room =
+    rw (h .listed) (rewritten-place w (es ++ (e ∷ [])) (e .taker) (h .size) (joined-length es e room) own)
+
+pub without-place : (w : List ℕ) (es : List Entry) (identity : ℕ) → Slice w es → entryOf identity es .taker < maxReplicas
+    → (place : ℕ) → getD (departed w identity) (placeAt place) 0 ≡ getD w (placeAt place) 0
+without-place w es identity h own =
+    let fewer = without-length identity es in
+    let few = h .few in
+    rw (h .listed) (rewritten-place w (without identity es) (entryOf identity es .taker) (h .size) (omega arith) own)
+
 pub slice-placed : (w : List ℕ) (es : List Entry) (place v : ℕ) → Slice w es → Slice (set w (placeAt place) v) es
 slice-placed w es place v h =
     let few = h .few in

@@ -1,0 +1,263 @@
+-- What the further slice holds after calls on it is what a full pass over their history gives, whatever the ledger's three slices are.
+use Prim.Native.Nat.{ℕ, _≤_, _<_}
+use mathlib.Core.Path.{_≡_, refl, sym, ap, _∙_}
+use mathlib.Core.Bool.{Bool, true, false, not, _||_}
+use mathlib.Core.List.{List, [], _∷_, _++_, append-nil, append-assoc}
+use native.Mathlib.Omega.{arith}
+use lib.ListN.{length, getD, set}
+use lib.Seq.{getD-set-same, getD-set-other}
+use lib.Dec.{eqb, eqb·suc-zero}
+use Rattle.protocol.specs.Memory.{Memory, replicaCount, faultBound}
+use Rattle.protocol.specs.Outcome.{Answer, firstRefusal}
+use Rattle.protocol.specs.Theorems.{Accepted}
+use Rattle.protocol.specs.Calls.{opening}
+use Rattle.protocol.proofs.logic.Booleans.{tests, by-test}
+use Rattle.protocol.proofs.calls.Needs.{all-needs, outcome-cases, no-refusal, accepts, accepted-after}
+use Rattle.movements.specs.Movements.{maxPallets, maxMovements}
+use Rattle.movements.proofs.Allowed.{list-short}
+use Rattle.entries.specs.declared.Entry.{Entry}
+use Rattle.entries.specs.Entries.{maxWaiting, maxReplicas, placeAt, waitingCount, isUsed, entries, isWaiting, entryOf, without}
+use Rattle.entries.specs.Waiting.{Lent, lent, WaitingOutcome, WaitingCall, Open, Enter, Withdraw, Match, Ask, openRule, enterRule, withdrawRule, matchRule}
+use Rattle.entries.specs.Waiting.{askRule, waitingRule, waitingStep, departed}
+use Rattle.entries.specs.Arrivals.{Event, opened, entered, withdrawn, matched, acceptedEvents, eventsOf, stillWaiting, passed, LentCall}
+use Rattle.entries.specs.Arrivals.{callOn, sliceAfter, history, Kept, openedSlice, keptSlice, keptEvents}
+use Rattle.entries.specs.Theorems.{AskIsPass, NeverMoreWait, PlaceTakesOutOne, PalletsWaitingBounded}
+use Rattle.entries.proofs.Lists.{All, Apart, all-joined, all-without, apart-joined, apart-without, pallets-small}
+use Rattle.entries.proofs.Slices.{is-allowed, Slice, slice-count, cleared, cleared-word, slice-cleared, slice-joined, slice-without}
+use Rattle.entries.proofs.Slices.{slice-placed, joined-place, without-place, taker-known}
+use Rattle.entries.proofs.Rules.{Ready, ready}
+use Rattle.entries.proofs.Passes.{pallets-by, earliest-by, still-opened, still-entered, still-withdrawn, still-matched}
+use Rattle.entries.proofs.Places.{usedBy, used-append, Once, once-append, once-opens}
+
+-- ---- what holds after each call
+
+pub record Listed (w : List ℕ) (es : List Entry) : Type 0 where
+  pub slice : Slice w es
+  pub apart : Apart es
+  pub small : All (λ e. e .pallets ≤ maxPallets) es
+
+pub record Told (events : List Event) (w : List ℕ) : Type 0 where
+  pub listed : Listed w (stillWaiting events)
+  pub places : (place : ℕ) → place < maxMovements → isUsed w place ≡ usedBy place false events
+
+-- ---- one call
+
+not-true : (b : Bool) → not b ≡ true → b ≡ false
+not-true true e = sym e
+not-true false e = refl
+
+-- An opening, whatever was before.
+pub told-opened : (past : List Event) (n : ℕ) → Told (past ++ (opened n ∷ [])) cleared
+told-opened past n =
+    record {
+      listed = rw (still-opened past n) (record { slice = slice-cleared; apart = tt; small = tt });
+      places = λ place l. rw (cleared-word (placeAt place) (omega arith), used-append place false past (opened n ∷ []));
+    }
+
+module _ (past : List Event) (m : Memory) (w : List ℕ) (h : Told past w) where
+  listed-count : waitingCount w ≡ length (stillWaiting past)
+  listed-count = slice-count w ∙ ap length (h .listed .slice .listed)
+
+  told-entered : (e : Entry) → firstRefusal (enterRule (lent m w) e .needs) ≡ 0
+      → Told (past ++ (entered e ∷ [])) (enterRule (lent m w) e .after .waiting)
+  unfolding enterRule
+  told-entered e pass =
+      let k = all-needs (enterRule (lent m w) e .needs) refl pass in
+      let r = ready (lent m w) (k .0) (k .1 .0) in
+      let most = r .replicas in
+      let own = is-allowed _ e (k .1 .1 .0) in
+      let new = not-true (isWaiting (e .identity) (entries w)) (k .1 .1 .1 .0) in
+      let count = listed-count in
+      let l = h .listed in
+      record {
+        listed =
+            rw (still-entered past e)
+            (record {
+              slice = slice-joined w (stillWaiting past) e (l .slice) (omega arith) (omega tests);
+              apart = apart-joined (stillWaiting past) e (l .apart) (rw (l .slice .listed) at new);
+              small = all-joined _ (stillWaiting past) e (l .small) (own .few);
+            });
+        places = λ place inside.
+            rw (joined-place w (stillWaiting past) e (l .slice) (omega arith) (omega tests) place, used-append place false past (entered e ∷ []))
+            (h .places place inside);
+      }
+
+  -- An entry leaves.
+  module _ (identity : ℕ) (r : Ready (lent m w)) (waits : isWaiting identity (entries w) ≡ true) where
+    leaving-taker : entryOf identity (stillWaiting past) .taker < maxReplicas
+    leaving-taker = rw (h .listed .slice .listed) at (taker-known _ w (r .waiting) (r .replicas) identity waits)
+
+    listed-departed : Listed (departed w identity) (without identity (stillWaiting past))
+    listed-departed =
+        record {
+          slice = slice-without w (stillWaiting past) identity (h .listed .slice) leaving-taker;
+          apart = apart-without identity (stillWaiting past) (h .listed .apart);
+          small = all-without _ identity (stillWaiting past) (h .listed .small);
+        }
+
+    departed-place : (place : ℕ) → getD (departed w identity) (placeAt place) 0 ≡ getD w (placeAt place) 0
+    departed-place = without-place w (stillWaiting past) identity (h .listed .slice) leaving-taker
+
+  told-withdrawn : (identity : ℕ) → firstRefusal (withdrawRule (lent m w) identity .needs) ≡ 0
+      → Told (past ++ (withdrawn identity ∷ [])) (withdrawRule (lent m w) identity .after .waiting)
+  unfolding withdrawRule
+  told-withdrawn identity pass =
+      let k = all-needs (withdrawRule (lent m w) identity .needs) refl pass in
+      let r = ready (lent m w) (k .0) (k .1 .0) in
+      record {
+        listed = rw (still-withdrawn past identity (h .listed .apart)) (listed-departed identity r (k .1 .1 .0));
+        places = λ place inside.
+            rw (departed-place identity r (k .1 .1 .0) place, used-append place false past (withdrawn identity ∷ [])) (h .places place inside);
+      }
+
+  -- The place of a match is one of a movement, and took out no entry before.
+  matched-place : (movements : List ℕ) (i identity place : ℕ) → firstRefusal (matchRule (lent m w) movements i identity place .needs) ≡ 0
+      → (place < maxMovements) × (isUsed w place ≡ false)
+  unfolding matchRule
+  matched-place movements i identity place pass =
+      let k = all-needs (matchRule (lent m w) movements i identity place .needs) refl pass in
+      let short = list-short movements (k .0) in
+      let known = k .1 .1 .1 .1 .0 in
+      (omega tests, not-true (isUsed w place) (k .1 .1 .1 .1 .1 .1 .1 .1 .1 .0))
+
+  told-matched : (movements : List ℕ) (i identity place : ℕ) → firstRefusal (matchRule (lent m w) movements i identity place .needs) ≡ 0
+      → Told (past ++ (matched identity place ∷ [])) (matchRule (lent m w) movements i identity place .after .waiting)
+  unfolding matchRule
+  told-matched movements i identity place pass =
+      let k = all-needs (matchRule (lent m w) movements i identity place .needs) refl pass in
+      let r = ready (lent m w) (k .1 .0) (k .1 .1 .0) in
+      let waits = k .1 .1 .1 .1 .1 .1 .0 in
+      let inside = matched-place movements i identity place pass .0 in
+      let l = listed-departed identity r waits in
+      let size = l .slice .size in
+      record {
+        listed =
+            rw (still-matched past identity place (h .listed .apart))
+            (record { slice = slice-placed (departed w identity) _ place 1 (l .slice); apart = l .apart; small = l .small });
+        places = λ other within.
+            rw (used-append other false past (matched identity place ∷ []))
+            (by-test (eqb place other)
+            (λ hit.
+            let q : place ≡ other = omega tests in
+            rw (hit, ← q, getD-set-same (departed w identity) (placeAt place) 1 0 (omega arith))
+            (by-test (usedBy place false past) (λ e. rw e) (λ e. rw e)))
+            (λ miss.
+            rw (
+              miss,
+              getD-set-other (departed w identity) (placeAt place) (placeAt other) 1 0 (omega tests),
+              departed-place identity r waits other,
+              h .places other within,
+            )
+            (by-test (usedBy other false past) (λ e. rw e) (λ e. rw e))));
+      }
+
+  -- An accepted call, with the values that it gives.
+  told-accepted : (call : WaitingCall) → firstRefusal (waitingRule (lent m w) call .needs) ≡ 0 → (a : Answer)
+      → Told (past ++ acceptedEvents call a) (waitingRule (lent m w) call .after .waiting)
+  unfolding waitingRule openRule askRule
+  told-accepted (Open f steps) pass a = told-opened past (a .first)
+  told-accepted (Enter e) pass a = told-entered e pass
+  told-accepted (Withdraw identity) pass a = told-withdrawn identity pass
+  told-accepted (Match movements i identity place) pass a = told-matched movements i identity place pass
+  told-accepted (Ask taker) pass a = rw (append-nil past) h
+
+  pub told-step : (call : WaitingCall)
+      → Told (past ++ eventsOf call (waitingStep (lent m w) call .answer)) (waitingStep (lent m w) call .state .waiting)
+  unfolding waitingStep eventsOf
+  told-step call =
+      outcome-cases (lent m w) (waitingRule (lent m w) call) (λ o. Told (past ++ eventsOf call (o .answer)) (o .state .waiting))
+      (λ n e. rw (eqb·suc-zero n, append-nil past) h)
+      (λ pass. told-accepted call pass _)
+
+  once-accepted : (call : WaitingCall) → firstRefusal (waitingRule (lent m w) call .needs) ≡ 0 → (a : Answer) (place : ℕ)
+      → Once place (usedBy place false past) (acceptedEvents call a)
+  unfolding waitingRule
+  once-accepted (Open f steps) pass a place = (tt, tt)
+  once-accepted (Enter e) pass a place = (tt, tt)
+  once-accepted (Withdraw identity) pass a place = (tt, tt)
+  once-accepted (Match movements i identity taking) pass a place =
+      let fresh = matched-place movements i identity taking pass in
+      (λ q. rw (← q) (sym (h .places taking (fresh .0)) ∙ fresh .1), tt)
+  once-accepted (Ask taker) pass a place = tt
+
+  once-step : (call : WaitingCall) (place : ℕ)
+      → Once place (usedBy place false past) (eventsOf call (waitingStep (lent m w) call .answer))
+  unfolding waitingStep eventsOf
+  once-step call place =
+      outcome-cases (lent m w) (waitingRule (lent m w) call) (λ o. Once place (usedBy place false past) (eventsOf call (o .answer)))
+      (λ n e. rw (eqb·suc-zero n) tt)
+      (λ pass. once-accepted call pass _ place)
+
+  -- An Ask.
+  pub asked : (taker : ℕ) → Accepted (waitingStep (lent m w) (Ask taker)) → waitingStep (lent m w) (Ask taker) .answer ≡ passed past taker
+  unfolding waitingStep waitingRule askRule
+  asked taker accepted =
+      let rule = askRule (lent m w) taker in
+      let pass = no-refusal (lent m w) rule accepted in
+      let k = all-needs (rule .needs) refl pass in
+      let r = ready (lent m w) (k .0) (k .1 .0) in
+      let most = r .replicas in
+      let own : taker < maxReplicas = omega tests in
+      let l = h .listed .slice in
+      ap (λ (o : WaitingOutcome). o .answer) (sym (accepts (lent m w) rule (sym pass)))
+      ∙ rw (l .pallets taker own, l .earliest taker own, pallets-by past taker, earliest-by past taker)
+
+-- ---- lists of calls
+
+told-after : (qs : List LentCall) (past : List Event) (w : List ℕ) → Told past w → Told (past ++ history w qs) (sliceAfter w qs)
+unfolding history sliceAfter
+told-after [] past w h = rw (append-nil past) h
+told-after (q ∷ qs) past w h =
+    let events = eventsOf (q .call) (callOn w q .answer) in
+    rw (← append-assoc past events (history (callOn w q .state .waiting) qs))
+    (told-after qs (past ++ events) (callOn w q .state .waiting) (told-step past (q .memory) w h (q .call)))
+
+once-after : (qs : List LentCall) (past : List Event) (w : List ℕ) (place : ℕ) → Told past w
+    → Once place (usedBy place false past) (history w qs)
+unfolding history
+once-after [] past w place h = tt
+once-after (q ∷ qs) past w place h =
+    let events = eventsOf (q .call) (callOn w q .answer) in
+    once-append place (usedBy place false past) events (history (callOn w q .state .waiting) qs)
+    (once-step past (q .memory) w h (q .call) place)
+    (rw used-append at (once-after qs (past ++ events) (callOn w q .state .waiting) place (told-step past (q .memory) w h (q .call))))
+
+-- ---- from an accepted opening on
+
+pub opening-told : (s : Lent) (f : ℕ) (steps : List ℕ) → Accepted (waitingStep s (Open f steps))
+    → Told (eventsOf (Open f steps) (waitingStep s (Open f steps) .answer)) (waitingStep s (Open f steps) .state .waiting)
+unfolding waitingStep waitingRule openRule eventsOf
+opening-told s f steps accepted = rw (accepted-after s (openRule s f steps) accepted, accepted) (told-opened [] _)
+
+kept-told : (x : Kept) → Told (keptEvents x) (keptSlice x)
+kept-told x = told-after (x .calls) _ (openedSlice x) (opening-told (x .start) (x .f) (x .steps) (x .accepted))
+
+pub ask-is-pass : AskIsPass
+unfolding AskIsPass
+ask-is-pass x m taker accepted = asked (keptEvents x) m (keptSlice x) (kept-told x) taker accepted
+
+pub never-more-wait : NeverMoreWait
+unfolding NeverMoreWait
+never-more-wait x = kept-told x .listed .slice .few
+
+pub pallets-waiting-bounded : PalletsWaitingBounded
+unfolding PalletsWaitingBounded
+pallets-waiting-bounded x taker =
+    let l = kept-told x .listed in
+    let few = l .slice .few in
+    let by = pallets-by (keptEvents x) taker in
+    let small = pallets-small taker maxPallets (stillWaiting (keptEvents x)) (l .small) in
+    omega arith
+
+kept-once : (x : Kept) (place : ℕ) → Once place false (keptEvents x)
+unfolding eventsOf
+kept-once x place =
+    let call = Open (x .f) (x .steps) in
+    let events = eventsOf call (waitingStep (x .start) call .answer) in
+    once-append place false events (history (openedSlice x) (x .calls)) (rw (x .accepted) (tt, tt))
+    (once-after (x .calls) events (openedSlice x) place (opening-told (x .start) (x .f) (x .steps) (x .accepted)))
+
+pub place-takes-out-one : PlaceTakesOutOne
+unfolding PlaceTakesOutOne
+place-takes-out-one x before between after first second place is =
+    once-opens place first second before between after (rw is at (kept-once x place))

@@ -7,3 +7,4 @@ pub mod Frames
 pub mod Passes
 pub mod Places
 pub mod Histories
+pub mod Ledgers

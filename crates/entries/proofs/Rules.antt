@@ -136,7 +136,7 @@ ready s whole shaped =
 pub left-formed : (s : Lent) → Ready s → (w : List ℕ) → Formed (replicaCount (faultBound (s .memory))) w → FormLeft (lent (s .memory) w)
 left-formed s r w h = record { memory = r .memory; waiting = form _ w h }
 
-form-left : (s : Lent) (call : WaitingCall) → firstRefusal (waitingRule s call .needs) ≡ 0 → FormLeft (waitingRule s call .after)
+pub form-left : (s : Lent) (call : WaitingCall) → firstRefusal (waitingRule s call .needs) ≡ 0 → FormLeft (waitingRule s call .after)
 unfolding waitingRule openRule enterRule withdrawRule matchRule askRule opening
 form-left s (Open f steps) e =
     let h = all-needs (openRule s f steps .needs) refl e in

@@ -8,3 +8,4 @@ pub mod Passes
 pub mod Places
 pub mod Histories
 pub mod Ledgers
+pub mod Claims

@@ -1,7 +1,7 @@
 -- A ledger whose slices its own calls alone change: it is ready for every call on entries, and answers what its history tells.
-use Prim.Native.Nat.{ℕ, _≤_, _<_}
+use Prim.Native.Nat.{ℕ, _<_}
 use mathlib.Core.Path.{_≡_, refl, sym, ap, _∙_}
-use mathlib.Core.Bool.{Bool, true, false, _&&_}
+use mathlib.Core.Bool.{true, false, _&&_}
 use mathlib.Core.Logic.{⊎-elim}
 use mathlib.Core.List.{List, [], _∷_, _++_, append-nil, append-assoc, List·Memᴰ, List·Memᴰ·cases-cons, List·Memᴰ·not-nil}
 use native.Mathlib.Omega.{arith}
@@ -10,7 +10,7 @@ use Rattle.protocol.specs.declared.Call.{Call}
 use Rattle.protocol.specs.declared.Call.the-variants as Plain
 use Rattle.protocol.specs.Memory.{Memory, replicaCount, faultBoundAt, faultBound}
 use Rattle.protocol.specs.Form.{wellFormed}
-use Rattle.protocol.specs.Outcome.{Answer, firstRefusal}
+use Rattle.protocol.specs.Outcome.{firstRefusal}
 use Rattle.protocol.specs.Calls.{opening}
 use Rattle.protocol.specs.Runs.{step}
 use Rattle.protocol.specs.Theorems.{Accepted, Address, tableWord, logWord, blockWord, wordAt, named, isOpening, RefusedChangesNothing}

@@ -8,4 +8,5 @@ pub mod Passes
 pub mod Places
 pub mod Histories
 pub mod Ledgers
+pub mod Witnesses
 pub mod Claims

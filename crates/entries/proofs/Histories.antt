@@ -1,22 +1,21 @@
 -- What the further slice holds after calls on it is what a full pass over their history gives, whatever the ledger's three slices are.
 use Prim.Native.Nat.{ℕ, _≤_, _<_}
 use mathlib.Core.Path.{_≡_, refl, sym, ap, _∙_}
-use mathlib.Core.Bool.{Bool, true, false, not, _||_}
+use mathlib.Core.Bool.{Bool, true, false, not}
 use mathlib.Core.List.{List, [], _∷_, _++_, append-nil, append-assoc}
 use native.Mathlib.Omega.{arith}
-use lib.ListN.{length, getD, set}
+use lib.ListN.{length, getD}
 use lib.Seq.{getD-set-same, getD-set-other}
 use lib.Dec.{eqb, eqb·suc-zero}
-use Rattle.protocol.specs.Memory.{Memory, replicaCount, faultBound}
+use Rattle.protocol.specs.Memory.{Memory}
 use Rattle.protocol.specs.Outcome.{Answer, firstRefusal}
 use Rattle.protocol.specs.Theorems.{Accepted}
-use Rattle.protocol.specs.Calls.{opening}
 use Rattle.protocol.proofs.logic.Booleans.{tests, by-test}
 use Rattle.protocol.proofs.calls.Needs.{all-needs, outcome-cases, no-refusal, accepts, accepted-after}
 use Rattle.movements.specs.Movements.{maxPallets, maxMovements}
 use Rattle.movements.proofs.Allowed.{list-short}
 use Rattle.entries.specs.declared.Entry.{Entry}
-use Rattle.entries.specs.Entries.{maxWaiting, maxReplicas, placeAt, waitingCount, isUsed, entries, isWaiting, entryOf, without}
+use Rattle.entries.specs.Entries.{maxReplicas, placeAt, waitingCount, isUsed, entries, isWaiting, entryOf, without}
 use Rattle.entries.specs.Waiting.{Lent, lent, WaitingOutcome, WaitingCall, Open, Enter, Withdraw, Match, Ask, openRule, enterRule, withdrawRule, matchRule}
 use Rattle.entries.specs.Waiting.{askRule, waitingRule, waitingStep, departed}
 use Rattle.entries.specs.Arrivals.{Event, opened, entered, withdrawn, matched, acceptedEvents, eventsOf, stillWaiting, passed, LentCall}

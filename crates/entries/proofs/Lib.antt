@@ -7,3 +7,6 @@ pub mod Frames
 pub mod Passes
 pub mod Places
 pub mod Histories
+pub mod Ledgers
+pub mod Witnesses
+pub mod Claims

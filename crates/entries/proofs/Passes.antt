@@ -1,14 +1,14 @@
 -- Passes over a history, and over one with a further event at its end.
-use Prim.Native.Nat.{ℕ, _+_}
+use Prim.Native.Nat.{ℕ}
 use mathlib.Core.Path.{_≡_, refl, _∙_}
-use mathlib.Core.Bool.{Bool, true, false, cond, not, _&&_, _||_}
+use mathlib.Core.Bool.{true, false, cond, _||_}
 use mathlib.Core.List.{List, [], _∷_, _++_, append-nil}
 use native.Mathlib.Omega.{arith}
 use lib.Dec.{eqb}
 use Rattle.protocol.proofs.logic.Booleans.{tests, by-test, or-false}
 use Rattle.entries.specs.declared.Entry.{Entry}
 use Rattle.entries.specs.Entries.{isWaiting, without, palletsFor, earliestFor}
-use Rattle.entries.specs.Arrivals.{Event, opened, entered, withdrawn, matched, takesOut, leaves, stillWaiting, waitsFor, palletsBy}
+use Rattle.entries.specs.Arrivals.{Event, opened, entered, withdrawn, matched, takesOut, leaves, stillWaiting, palletsBy}
 use Rattle.entries.specs.Arrivals.{earliestBy}
 use Rattle.entries.proofs.Lists.{Apart}
 
@@ -54,9 +54,9 @@ arrival (matched gone place) = []
 leaves-next : (identity : ℕ) (events : List Event) (x : Event)
     → leaves identity (events ++ (x ∷ [])) ≡ (leaves identity events || takesOut x identity)
 unfolding leaves
-leaves-next identity [] x = by-test (takesOut x identity) (λ out. rw out) (λ not. rw not)
+leaves-next identity [] x = by-test (takesOut x identity) (λ out. rw out) (λ kept. rw kept)
 leaves-next identity (y ∷ later) x =
-    rw (leaves-next identity later x) (by-test (takesOut y identity) (λ out. rw out) (λ not. rw not))
+    rw (leaves-next identity later x) (by-test (takesOut y identity) (λ out. rw out) (λ kept. rw kept))
 
 still-next : (events : List Event) (x : Event) → stillWaiting (events ++ (x ∷ [])) ≡ staying x (stillWaiting events) ++ arrival x
 unfolding stillWaiting leaves
@@ -68,7 +68,7 @@ still-next (opened n ∷ later) x = still-next later x
 still-next (entered e ∷ later) x =
     rw (leaves-next (e .identity) later x, still-next later x)
     (by-test (leaves (e .identity) later) (λ gone. rw gone)
-    (λ stays. rw stays (by-test (takesOut x (e .identity)) (λ out. rw out) (λ not. rw not))))
+    (λ stays. rw stays (by-test (takesOut x (e .identity)) (λ out. rw out) (λ kept. rw kept))))
 still-next (withdrawn gone ∷ later) x = still-next later x
 still-next (matched gone place ∷ later) x = still-next later x
 

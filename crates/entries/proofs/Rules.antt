@@ -2,17 +2,15 @@
 use Prim.Native.Nat.{ℕ, zero, suc, _≤_}
 use mathlib.Core.Path.{_≡_, refl, sym, ap, _∙_}
 use mathlib.Core.Bool.{true, false}
-use mathlib.Core.List.{List, [], _∷_, _++_, List·Memᴰ}
+use mathlib.Core.List.{List, [], _∷_}
 use native.Mathlib.Omega.{arith}
 use lib.ListN.{length}
 use lib.Dec.{leb, eqb}
 use Rattle.protocol.specs.Memory.{Memory, replicaCount, faultBound}
 use Rattle.protocol.specs.Form.{wellFormed}
-use Rattle.protocol.specs.Outcome.{Need, _else_, Answer, OutcomeOf, RuleOf, firstRefusal, answered, follow, wrongForm, wrongCertificate}
+use Rattle.protocol.specs.Outcome.{Need, _else_, Answer, OutcomeOf, firstRefusal, answered, follow, wrongForm, wrongCertificate}
 use Rattle.protocol.specs.Calls.{opening}
 use Rattle.protocol.specs.Runs.{ruleOf, step}
-use Rattle.protocol.specs.declared.Call.the-variants as Plain
-use Rattle.protocol.specs.Theorems.{Accepted}
 use Rattle.protocol.proofs.logic.Booleans.{tests}
 use Rattle.protocol.proofs.memory.Formed.{sizes}
 use Rattle.protocol.proofs.memory.Formed as Memory
@@ -20,7 +18,7 @@ use Rattle.protocol.proofs.calls.LeavesForm.{opening-leaves}
 use Rattle.protocol.proofs.calls.Needs.{all-needs, outcome-state, returned, no-refusal, refuses, accepts, accepted-after, refused, lowest}
 use Rattle.protocol.proofs.calls.Needs.{lowest-of-first, lowest-refusal, refusal-allowed, first-pass, refused-first, all-pass, fails, holds}
 use Rattle.entries.specs.Entries.{maxReplicas, waitingWords, waitingFormed}
-use Rattle.entries.specs.Waiting.{Lent, lent, WaitingRule, WaitingOutcome, WaitingCall, Open, Enter, Withdraw, Match, Ask, matchNeeds}
+use Rattle.entries.specs.Waiting.{Lent, lent, WaitingRule, WaitingCall, Open, Enter, Withdraw, Match, Ask, matchNeeds}
 use Rattle.entries.specs.Waiting.{fitNeeds, openRule, enterRule, withdrawRule, matchRule, askRule, waitingRule, waitingStep}
 use Rattle.entries.specs.Waiting.{departed}
 use Rattle.entries.specs.Theorems.{RefusedWaitingChangesNothing, WaitingLeavesLedger, WaitingLowestWins, OpenWaitingOrder}
@@ -136,7 +134,7 @@ ready s whole shaped =
 pub left-formed : (s : Lent) → Ready s → (w : List ℕ) → Formed (replicaCount (faultBound (s .memory))) w → FormLeft (lent (s .memory) w)
 left-formed s r w h = record { memory = r .memory; waiting = form _ w h }
 
-form-left : (s : Lent) (call : WaitingCall) → firstRefusal (waitingRule s call .needs) ≡ 0 → FormLeft (waitingRule s call .after)
+pub form-left : (s : Lent) (call : WaitingCall) → firstRefusal (waitingRule s call .needs) ≡ 0 → FormLeft (waitingRule s call .after)
 unfolding waitingRule openRule enterRule withdrawRule matchRule askRule opening
 form-left s (Open f steps) e =
     let h = all-needs (openRule s f steps .needs) refl e in

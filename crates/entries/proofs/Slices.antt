@@ -8,13 +8,13 @@ use lib.ListN.{length, getD, set, replicate, length-append, length-set, length-r
 use lib.Seq.{getD-set-same, getD-set-other}
 use lib.Dec.{eqb}
 use Rattle.protocol.proofs.logic.Booleans.{tests, by-test, each, all-hold, at-below, all-below}
-use Rattle.movements.specs.Movements.{maxPallets, maxMovements}
+use Rattle.movements.specs.Movements.{maxPallets}
 use Rattle.entries.specs.declared.Entry.{Entry}
 use Rattle.entries.specs.Entries.{maxWaiting, maxReplicas, keptPalletsAt, keptEarliestAt, placeAt, waitingWords, waitingCount}
 use Rattle.entries.specs.Entries.{keptPallets, keptEarliest, entriesFrom, entries, entryAllowed, waitingFormed, isWaiting, entryOf, without}
 use Rattle.entries.specs.Entries.{palletsFor, earliestFor, holding, refreshed}
 use Rattle.entries.specs.Waiting.{departed}
-use Rattle.entries.proofs.Words.{from-length, holding-length, holding-count, holding-elsewhere, entries-held, refreshed-length}
+use Rattle.entries.proofs.Words.{from-length, holding-length, holding-elsewhere, entries-held, refreshed-length}
 use Rattle.entries.proofs.Words.{refreshed-elsewhere, entries-refreshed, entries-placed}
 use Rattle.entries.proofs.Lists.{All, all-joined, all-without, all-of, all-from, from-all, without-length, pallets-joined, earliest-joined, pallets-without}
 use Rattle.entries.proofs.Lists.{earliest-without}

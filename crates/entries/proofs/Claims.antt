@@ -1,0 +1,24 @@
+-- The proof of each claim.
+use Rattle.entries.specs.Claims.{Claims}
+use Rattle.entries.proofs.Rules.{refused-waiting-changes-nothing, accepted-waiting-leaves-form, waiting-leaves-ledger}
+use Rattle.entries.proofs.Rules.{waiting-lowest-wins, open-waiting-order, open-reads-no-entry}
+use Rattle.entries.proofs.Frames.{only-named-waiting-change}
+use Rattle.entries.proofs.Histories.{ask-is-pass, never-more-wait, place-takes-out-one, pallets-waiting-bounded}
+use Rattle.entries.proofs.Ledgers.{ledger-answers-pass}
+
+pub claimed : Claims
+claimed =
+    record {
+      refusedWaitingChangesNothing = refused-waiting-changes-nothing;
+      acceptedWaitingLeavesForm = accepted-waiting-leaves-form;
+      waitingLeavesLedger = waiting-leaves-ledger;
+      onlyNamedWaitingChange = only-named-waiting-change;
+      waitingLowestWins = waiting-lowest-wins;
+      openWaitingOrder = open-waiting-order;
+      openReadsNoEntry = open-reads-no-entry;
+      askIsPass = ask-is-pass;
+      ledgerAnswersPass = ledger-answers-pass;
+      neverMoreWait = never-more-wait;
+      placeTakesOutOne = place-takes-out-one;
+      palletsWaitingBounded = pallets-waiting-bounded;
+    }

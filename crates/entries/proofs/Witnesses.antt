@@ -1,0 +1,140 @@
+-- Statements with premises, used at worked instances: the premises hold there by computation.
+use Prim.Native.Nat.{ℕ}
+use mathlib.Core.Path.{_≡_, refl, _∙_}
+use mathlib.Core.Bool.{true, false}
+use mathlib.Core.List.{List, [], _∷_, _++_, map, List·Memᴰ·head, List·Memᴰ·tail}
+use native.Mathlib.Omega.{arith}
+use lib.ListN.{replicate}
+use Rattle.protocol.specs.declared.Call.{Call}
+use Rattle.protocol.specs.declared.Call.the-variants as Plain
+use Rattle.protocol.specs.Memory.{Memory, memory, _becomes_, tableLength, decidedViewAt, decidedBlockAt, blockAt, update, appendBlock}
+use Rattle.protocol.specs.Ancestry.{ancestorWithin}
+use Rattle.protocol.specs.Form.{allHold, allBelow, blockFormed, replicaFormed, certificateFormed, lengthsFit, countsFit, stepsFormed}
+use Rattle.protocol.specs.Form.{wellFormed}
+use Rattle.protocol.specs.Counter.{stepsFrom, stepsAllowed}
+use Rattle.protocol.specs.Outcome.{_else_, wrongCertificate, firstRefusal, answered, follow}
+use Rattle.protocol.specs.Calls.{freshReplicas, opening, block}
+use Rattle.protocol.specs.Runs.{Invocation, ruleOf, step, run}
+use Rattle.protocol.specs.Theorems.{Accepted}
+use Rattle.movements.specs.Movements.{movementAllowed, isMovementList}
+use Rattle.entries.specs.declared.Entry.{Entry}
+use Rattle.entries.specs.Entries.{waitingWords, entriesFrom, entryAllowed, waitingFormed, isWaiting, entryOf, without, palletsFor}
+use Rattle.entries.specs.Entries.{earliestFor, holding, refreshed}
+use Rattle.entries.specs.Waiting.{Lent, lent, WaitingOutcome, WaitingCall, Open, Enter, Withdraw, Match, Ask, openRule, enterRule}
+use Rattle.entries.specs.Waiting.{withdrawRule, matchRule, askRule, matchNeeds, fitNeeds, waitingRule, waitingStep}
+use Rattle.entries.specs.Arrivals.{Event, opened, entered, matched, eventsOf, leaves, stillWaiting, palletsBy, earliestBy}
+use Rattle.entries.specs.Arrivals.{replicasBy, opensAmong, sliceAfter, history, Kept, keptSlice, keptEvents}
+use Rattle.entries.specs.Arrivals.{LedgerCall, plain, waiting, ledgerStep, ledgerAfter, ledgerHistory, OpensNonePlainly, Ledger, ledgerEnd, ledgerTold}
+use Rattle.entries.specs.Theorems.{WaitingLowestWins, AskIsPass, LedgerAnswersPass, PlaceTakesOutOne}
+
+-- Everything that the calls are made of opens with this.
+unfoldable computed : Lent → WaitingCall → WaitingOutcome
+unfolding update appendBlock ancestorWithin allHold allBelow blockFormed replicaFormed certificateFormed lengthsFit countsFit stepsFormed
+    wellFormed stepsFrom stepsAllowed firstRefusal answered follow freshReplicas opening block ruleOf step run movementAllowed
+    isMovementList entriesFrom entryAllowed waitingFormed isWaiting entryOf without palletsFor earliestFor holding refreshed openRule
+    enterRule withdrawRule matchRule askRule waitingRule waitingStep eventsOf leaves stillWaiting palletsBy earliestBy replicasBy
+    opensAmong sliceAfter history ledgerStep ledgerAfter ledgerHistory
+computed s call = waitingStep s call
+
+abbrev unlisted : Call → Invocation
+unlisted call = record { call = call; list = [] }
+
+-- Zeros, with slots for two blocks and f = 1, so three replicas.
+abbrev unopened : Memory
+unopened = memory (replicate (tableLength 1) 0) [] (replicate (blockAt 2) 0)
+
+-- Opened, with block 1, which replica 0 shows.
+abbrev shown : Memory
+shown =
+    update (run unopened (unlisted (Plain.Open 1) ∷ unlisted (Plain.Block 0) ∷ [])) 0
+    (decidedViewAt becomes 1 ∷ decidedBlockAt becomes 1 ∷ [])
+
+abbrev start : Lent
+start = lent unopened (replicate waitingWords 0)
+
+pub opens : Accepted (waitingStep start (Open 1 []))
+unfolding computed
+opens = refl
+
+-- Entries 7 and 8: 5 pallets from replica 0 to replica 1, and 3 from replica 2 to it. And the movement in block 1 that is entry 7's.
+abbrev seven : Entry
+seven = record { identity = 7; giver = 0; taker = 1; pallets = 5 }
+
+abbrev eight : Entry
+eight = record { identity = 8; giver = 2; taker = 1; pallets = 3 }
+
+abbrev moved : List ℕ
+moved = 1 ∷ 0 ∷ 1 ∷ 5 ∷ []
+
+-- Calls on that memory, after the opening of the other.
+abbrev keptBy : List WaitingCall → Kept
+keptBy calls =
+    record { start = start; f = 1; steps = []; calls = map (λ call. record { memory = shown; call = call }) calls; accepted = opens }
+
+-- Entry 7 leaves and comes again: it stands last.
+abbrev back : Kept
+back = keptBy (Enter seven ∷ Enter eight ∷ Withdraw 7 ∷ Enter seven ∷ [])
+
+ask-accepted : Accepted (waitingStep (lent shown (keptSlice back)) (Ask 1))
+unfolding computed
+ask-accepted = refl
+
+pub ask-is-pass-used : AskIsPass
+    → waitingStep (lent shown (keptSlice back)) (Ask 1) .answer ≡ record { number = 0; first = 8; second = 8 }
+unfolding AskIsPass computed
+ask-is-pass-used statement = statement back shown 1 ask-accepted ∙ refl
+
+-- Place 0 takes out entry 7; again after an opening, which lies between.
+abbrev twice : Kept
+twice = keptBy (Enter seven ∷ Match moved 0 7 0 ∷ Open 1 [] ∷ Enter seven ∷ Match moved 0 7 0 ∷ [])
+
+abbrev before : List Event
+before = opened 3 ∷ entered seven ∷ []
+
+twice-told : keptEvents twice ≡ before ++ (matched 7 0 ∷ (before ++ (matched 7 0 ∷ [])))
+unfolding computed
+twice-told = refl
+
+pub place-takes-out-one-used : PlaceTakesOutOne → opensAmong before ≡ true
+unfolding PlaceTakesOutOne
+place-takes-out-one-used statement = statement twice before before [] 7 7 0 twice-told
+
+-- Without it the second match is refused with 5, since all else holds.
+abbrev used : Lent
+used = lent shown (keptSlice (keptBy (Enter seven ∷ Match moved 0 7 0 ∷ Enter seven ∷ [])))
+
+all-else : firstRefusal (matchNeeds used moved 0 7 0) ≡ 0
+unfolding computed
+all-else = refl
+
+place-used : fitNeeds used moved 0 7 0 ≡ true else wrongCertificate ∷ true else wrongCertificate ∷ false else wrongCertificate ∷ []
+unfolding computed
+place-used = refl
+
+pub waiting-lowest-wins-used : WaitingLowestWins → waitingStep used (Match moved 0 7 0) .answer .number ≡ 5
+unfolding WaitingLowestWins
+waiting-lowest-wins-used statement =
+    statement used .fits moved 0 7 0 all-else 5 (rw place-used (List·Memᴰ·tail (List·Memᴰ·tail (List·Memᴰ·head refl))))
+
+-- A ledger: a block, entry 7, and an opening that is refused.
+abbrev calls : List LedgerCall
+calls = plain (unlisted (Plain.Block 0)) ∷ waiting (Enter seven) ∷ plain (unlisted (Plain.Open 0)) ∷ []
+
+pub none-plainly : OpensNonePlainly (waitingStep start (Open 1 []) .state) calls
+unfolding computed
+none-plainly = (refl, (refl, (refl, tt)))
+
+abbrev ledger : Ledger
+ledger = record { start = start; f = 1; steps = []; calls = calls; accepted = opens; none = none-plainly }
+
+ledger-told : ledgerTold ledger ≡ opened 3 ∷ entered seven ∷ []
+unfolding computed
+ledger-told = refl
+
+pub ledger-answers-pass-used : LedgerAnswersPass
+    → (waitingStep (ledgerEnd ledger) (Ask 1) .answer ≡ record { number = 0; first = 5; second = 7 })
+    × Accepted (waitingStep (ledgerEnd ledger) (Withdraw 7))
+unfolding LedgerAnswersPass replicasBy stillWaiting leaves palletsBy earliestBy
+ledger-answers-pass-used statement =
+    let all = statement ledger in
+    (all .asks 1 (rw ledger-told (omega arith)) ∙ rw ledger-told, all .withdraws seven (rw ledger-told (List·Memᴰ·head refl)))

@@ -1,13 +1,12 @@
 -- A tally goes over the entries from the last to the first.
 use Prim.Native.Nat.{ℕ, zero, suc, _+_, _*_, _-_, _≤_, _<_}
 use mathlib.Core.Path.{_≡_, refl, sym, ap, _∙_}
-use mathlib.Core.Bool.{cond}
 use mathlib.Core.List.{List, []}
 use native.Mathlib.Omega.{arith}
-use lib.Dec.{eqb}
-use Rattle.protocol.proofs.logic.Booleans.{by-cond}
 use Rattle.movements.specs.Movements.{maxPallets}
 use Rattle.entries.specs.Entries.{waitingCount, entry, entriesFrom, entries, palletsFor, earliestFor}
+use Rattle.entries.proofs.Words.{from-length}
+use Rattle.entries.proofs.Lists.{all-from, pallets-small}
 use Rattle.arrivals.specs.declared.TakerTally.{TakerTally}
 use Rattle.arrivals.specs.inner.Found.{tallied, tallyOf}
 
@@ -34,11 +33,7 @@ all-tallied w taker slot e =
     rw (z, e) refl
 
 pub few-pallets : (w : List ℕ) (taker n slot : ℕ) → ((k : ℕ) → k < slot + n → entry w k .pallets ≤ maxPallets)
-    → palletsFor taker (entriesFrom w slot n) ≤ maxPallets * n
-unfolding entriesFrom palletsFor
-few-pallets w taker zero slot few = omega arith
-few-pallets w taker (suc n) slot few =
-    let rest = few-pallets w taker n (suc slot) (λ k l. few k (omega arith)) in
-    let own = few slot (omega arith) in
-    by-cond (λ (p : ℕ). p + palletsFor taker (entriesFrom w (suc slot) n) ≤ maxPallets * suc n)
-    (eqb (entry w slot .taker) taker) (λ e. omega arith) (λ e. omega arith)
+    → palletsFor taker (entriesFrom w slot n) ≤ n * maxPallets
+few-pallets w taker n slot few =
+    let size = from-length w slot n in
+    rw size at (pallets-small taker maxPallets (entriesFrom w slot n) (all-from (λ e. e .pallets ≤ maxPallets) w slot n (λ k from below. few k below)))

@@ -161,3 +161,11 @@ waitingStep s call = follow s (waitingRule s call)
 -- The code's answer, with what the four slices hold then.
 abbrev pub waitingOutcome : Code.Answer → List ℕ → List ℕ → List ℕ → List ℕ → WaitingOutcome
 waitingOutcome a t l b w = record { answer = told a; state = lent (memory t l b) w }
+
+-- A match is lent the movements too, and leaves them as they are.
+pub record MatchOutcome : Type 0 where
+  pub outcome : WaitingOutcome
+  pub movements : List ℕ
+
+abbrev pub matching : Lent → List ℕ → ℕ → ℕ → ℕ → MatchOutcome
+matching s movements i identity place = record { outcome = waitingStep s (Match movements i identity place); movements = movements }

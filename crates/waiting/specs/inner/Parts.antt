@@ -1,0 +1,63 @@
+-- Parts of the rules, as the inner functions have them.
+use Prim.Native.Nat.{ℕ, _+_, _≤_, _<_}
+use mathlib.Core.Path.{_≡_}
+use mathlib.Core.Bool.{Bool, not, _&&_}
+use mathlib.Core.List.{List, [], _∷_, _++_}
+use lib.ListN.{length}
+use lib.Dec.{ltb}
+use Rattle.protocol.specs.Memory.{memory, rowAt, replicaWords, replicaCount, faultBound, blockCount, replica}
+use Rattle.protocol.specs.Ancestry.{isAncestorBy}
+use Rattle.protocol.specs.Form.{allHold, allBelow, wellFormed}
+use Rattle.protocol.specs.Outcome.{Need, _else_, wrongForm, outOfRange, unknownNumber, wrongMovement}
+use Rattle.protocol.specs.FirstNeeds.{isReplica}
+use Rattle.movements.specs.declared.Movement.{Movement}
+use Rattle.movements.specs.Movements.{maxMovements, movement, movementCount, movementAllowed, isMovementList}
+use Rattle.blocks.specs.inner.Records.{parentIn}
+use Rattle.ancestry.specs.inner.AncestryFits.{AncestryFits}
+use Rattle.entries.specs.Entries.{maxReplicas, entryWidth, entryAt, waitingWords, waitingCount, entry, isUsed, waitingFormed, holding}
+use Rattle.entries.specs.Entries.{refreshed}
+use Rattle.entries.proofs.Slices.{Formed}
+use Rattle.entries.specs.Waiting.{Lent, formNeeds, isOfEntry}
+use Rattle.arrivals.specs.inner.Found.{closedUp}
+
+abbrev pub decidedIn : List ℕ → ℕ → ℕ
+decidedIn table i = replica (memory table [] []) i .decidedBlock
+
+abbrev pub isReady : Lent → Bool
+isReady s = wellFormed (s .memory) && waitingFormed (replicaCount (faultBound (s .memory))) (s .waiting)
+
+-- The needs of a match before its identity.
+abbrev pub listedNeeds : Lent → List ℕ → ℕ → ℕ → List Need
+listedNeeds s movements i place =
+    isMovementList movements else wrongForm
+    ∷ (formNeeds s
+    ++ (isReplica (s .memory) i else outOfRange
+    ∷ ltb place (movementCount movements) else unknownNumber
+    ∷ allBelow (movementCount movements)
+    (λ k. movementAllowed (replicaCount (faultBound (s .memory))) (blockCount (s .memory)) (movement movements k))
+    else wrongMovement
+    ∷ []))
+
+-- A slot whose entry may leave; and what is left then.
+pub record Leavable (w : List ℕ) (slot : ℕ) : Type 0 where
+  pub formed : Formed maxReplicas w
+  pub there : slot < waitingCount w
+
+abbrev pub leftBy : List ℕ → ℕ → List ℕ
+leftBy w slot = refreshed (holding w (closedUp w slot)) (entry w slot .taker)
+
+-- What is read to see whether a movement fits; and whether it does.
+pub record Fitting (table blocks w : List ℕ) (i slot place : ℕ) : Type 0 where
+  pub row : rowAt i + replicaWords ≤ length table
+  pub size : length w ≡ waitingWords
+  pub slotFits : entryAt slot + entryWidth ≤ waitingWords
+  pub placeFits : place < maxMovements
+  pub walk : AncestryFits blocks (decidedIn table i)
+
+abbrev pub movementFits : List ℕ → List ℕ → List ℕ → Movement → ℕ → ℕ → ℕ → Bool
+movementFits table blocks w x i slot place =
+    allHold
+    (isOfEntry x (entry w slot)
+    ∷ isAncestorBy (parentIn blocks) (x .block) (decidedIn table i)
+    ∷ not (isUsed w place)
+    ∷ [])

@@ -23,8 +23,8 @@ use Rattle.entries.specs.Entries.{earliestFor, holding, refreshed}
 use Rattle.entries.specs.Waiting.{Lent, lent, WaitingOutcome, WaitingCall, Open, Enter, Withdraw, Match, Ask, openRule, enterRule}
 use Rattle.entries.specs.Waiting.{withdrawRule, matchRule, askRule, matchNeeds, fitNeeds, waitingRule, waitingStep}
 use Rattle.entries.specs.Arrivals.{Event, opened, entered, matched, eventsOf, leaves, stillWaiting, palletsBy, earliestBy}
-use Rattle.entries.specs.Arrivals.{replicasBy, opensAmong, sliceAfter, history, Kept, keptSlice, keptEvents}
-use Rattle.entries.specs.Arrivals.{LedgerCall, plain, waiting, ledgerStep, ledgerAfter, ledgerHistory, OpensNonePlainly, Ledger, ledgerEnd, ledgerTold}
+use Rattle.entries.specs.Arrivals.{replicasBy, opensAmong, sliceAfter, history, Kept, keptSlice, keptEvents, LedgerCall, plain}
+use Rattle.entries.specs.Arrivals.{waiting, ledgerStep, ledgerAfter, ledgerHistory, OpensNonePlainly, Ledger, ledgerEnd, ledgerTold}
 use Rattle.entries.specs.Theorems.{WaitingLowestWins, AskIsPass, LedgerAnswersPass, PlaceTakesOutOne}
 
 -- Everything that the calls are made of opens with this.

@@ -1,4 +1,4 @@
--- What the rules of the calls tell: what a refused call leaves, which refusal is returned, and what opening reads.
+-- What the rules of the calls tell: what a refused call leaves, which refusal is returned, what opening reads, and the form that is left.
 use Prim.Native.Nat.{ℕ, zero, suc}
 use mathlib.Core.Path.{_≡_, refl, sym, ap, _∙_}
 use mathlib.Core.Bool.{true, false}
@@ -86,7 +86,7 @@ open-waiting-order s f steps =
           returned s rule ∙ all-pass (plain .needs) last refl (no-refusal m plain accepted) ∙ fails [] misfit;
     }
 
--- One rule on two states: the answer is one, and so is what it leaves where it is accepted.
+-- One rule on two states: the answer is one.
 same-answer : (s s′ : Lent) (rule : WaitingRule) → follow s rule .answer ≡ follow s′ rule .answer
 unfolding follow answered
 same-answer s s′ rule = go (firstRefusal (rule .needs))

@@ -120,7 +120,7 @@ module _ (w : List ℕ) (es : List Entry) (taker : ℕ) (size : length w ≡ wai
   pub rewritten-entries : entries (refreshed (holding w es) taker) ≡ es
   rewritten-entries = entries-refreshed (holding w es) taker own ∙ entries-held w es few size
 
-  -- A word that is not the count, nor of a taker, nor of an entry.
+  -- The word of a place is none of them.
   pub rewritten-place : (place : ℕ) → getD (refreshed (holding w es) taker) (placeAt place) 0 ≡ getD w (placeAt place) 0
   rewritten-place place =
       refreshed-elsewhere (holding w es) taker (placeAt place) (λ e. omega arith) (λ e. omega arith)

@@ -13,11 +13,12 @@ use Rattle.protocol.proofs.calls.Needs.{all-needs, outcome-state}
 use Rattle.entries.specs.declared.Entry.{Entry}
 use Rattle.entries.specs.Entries.{entryWidth, entryAt, placeAt, waitingWords, waitingCount, entries, entryOf, without, wordsOf}
 use Rattle.entries.specs.Entries.{holding}
-use Rattle.entries.specs.Waiting.{Lent, WaitingCall, Open, Enter, Withdraw, Match, Ask, openRule, enterRule, withdrawRule, matchRule}
-use Rattle.entries.specs.Waiting.{askRule, waitingRule, waitingStep, departed}
+use Rattle.entries.specs.Waiting.{Lent, WaitingCall, Open, Enter, Withdraw, Match, Ask, openRule, enterRule, withdrawRule}
+use Rattle.entries.specs.Waiting.{matchRule, askRule, waitingRule, waitingStep, departed}
 use Rattle.entries.specs.Theorems.{departureIndices, namedWaiting, OnlyNamedWaitingChange}
 use Rattle.protocol.specs.Calls.{opening}
-use Rattle.entries.proofs.Words.{from-length, holding-length, holding-elsewhere, holding-joined, refreshed-length, refreshed-elsewhere}
+use Rattle.entries.proofs.Words.{from-length, holding-length, holding-elsewhere, holding-joined, refreshed-length}
+use Rattle.entries.proofs.Words.{refreshed-elsewhere}
 use Rattle.entries.proofs.Lists.{without-length}
 use Rattle.entries.proofs.Slices.{cleared, cleared-length, arrived}
 

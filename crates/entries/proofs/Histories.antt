@@ -1,30 +1,29 @@
 -- What the further slice holds after calls on it is what a full pass over their history gives, whatever the ledger's three slices are.
 use Prim.Native.Nat.{ℕ, _≤_, _<_}
-use mathlib.Core.Path.{_≡_, refl, sym, ap, _∙_}
-use mathlib.Core.Bool.{Bool, true, false, not}
+use mathlib.Core.Path.{_≡_, sym, ap, _∙_}
+use mathlib.Core.Bool.{false}
 use mathlib.Core.List.{List, [], _∷_, _++_, append-nil, append-assoc}
 use native.Mathlib.Omega.{arith}
-use lib.ListN.{length, getD}
+use lib.ListN.{getD}
 use lib.Seq.{getD-set-same, getD-set-other}
 use lib.Dec.{eqb, eqb·suc-zero}
 use Rattle.protocol.specs.Memory.{Memory}
 use Rattle.protocol.specs.Outcome.{Answer, firstRefusal}
 use Rattle.protocol.specs.Theorems.{Accepted}
 use Rattle.protocol.proofs.logic.Booleans.{tests, by-test}
-use Rattle.protocol.proofs.calls.Needs.{all-needs, outcome-cases, no-refusal, accepts, accepted-after}
+use Rattle.protocol.proofs.calls.Needs.{outcome-cases, no-refusal, accepts, accepted-after}
 use Rattle.movements.specs.Movements.{maxPallets, maxMovements}
-use Rattle.movements.proofs.Allowed.{list-short}
 use Rattle.entries.specs.declared.Entry.{Entry}
-use Rattle.entries.specs.Entries.{maxReplicas, placeAt, waitingCount, isUsed, entries, isWaiting, entryOf, without}
-use Rattle.entries.specs.Waiting.{Lent, lent, WaitingOutcome, WaitingCall, Open, Enter, Withdraw, Match, Ask, openRule, enterRule, withdrawRule, matchRule}
-use Rattle.entries.specs.Waiting.{askRule, waitingRule, waitingStep, departed}
-use Rattle.entries.specs.Arrivals.{Event, opened, entered, withdrawn, matched, acceptedEvents, eventsOf, stillWaiting, passed, LentCall}
-use Rattle.entries.specs.Arrivals.{callOn, sliceAfter, history, Kept, openedSlice, keptSlice, keptEvents}
+use Rattle.entries.specs.Entries.{maxReplicas, placeAt, isUsed, entryOf, without}
+use Rattle.entries.specs.Waiting.{Lent, lent, WaitingOutcome, WaitingCall, Open, Enter, Withdraw, Match, Ask, openRule, enterRule}
+use Rattle.entries.specs.Waiting.{withdrawRule, matchRule, askRule, waitingRule, waitingStep, departed}
+use Rattle.entries.specs.Arrivals.{Event, opened, entered, withdrawn, matched, acceptedEvents, eventsOf, stillWaiting, passed}
+use Rattle.entries.specs.Arrivals.{LentCall, callOn, sliceAfter, history, Kept, openedSlice, keptSlice, keptEvents}
 use Rattle.entries.specs.Theorems.{AskIsPass, NeverMoreWait, PlaceTakesOutOne, PalletsWaitingBounded}
 use Rattle.entries.proofs.Lists.{All, Apart, all-joined, all-without, apart-joined, apart-without, pallets-small}
-use Rattle.entries.proofs.Slices.{is-allowed, Slice, slice-count, cleared, cleared-word, slice-cleared, slice-joined, slice-without}
-use Rattle.entries.proofs.Slices.{slice-placed, joined-place, without-place, taker-known}
-use Rattle.entries.proofs.Rules.{Ready, ready}
+use Rattle.entries.proofs.Slices.{is-allowed, Slice, cleared, cleared-word, slice-cleared, slice-joined}
+use Rattle.entries.proofs.Slices.{slice-without, slice-placed, joined-place, without-place, taker-known}
+use Rattle.entries.proofs.Needs.{Leaves, enters, withdraws, matches, asks}
 use Rattle.entries.proofs.Passes.{pallets-by, earliest-by, still-opened, still-entered, still-withdrawn, still-matched}
 use Rattle.entries.proofs.Places.{usedBy, used-append, Once, once-append, once-opens}
 
@@ -41,10 +40,6 @@ pub record Told (events : List Event) (w : List ℕ) : Type 0 where
 
 -- ---- one call
 
-not-true : (b : Bool) → not b ≡ true → b ≡ false
-not-true true e = sym e
-not-true false e = refl
-
 -- An opening, whatever was before.
 pub told-opened : (past : List Event) (n : ℕ) → Told (past ++ (opened n ∷ [])) cleared
 told-opened past n =
@@ -54,37 +49,32 @@ told-opened past n =
     }
 
 module _ (past : List Event) (m : Memory) (w : List ℕ) (h : Told past w) where
-  listed-count : waitingCount w ≡ length (stillWaiting past)
-  listed-count = slice-count w ∙ ap length (h .listed .slice .listed)
-
   told-entered : (e : Entry) → firstRefusal (enterRule (lent m w) e .needs) ≡ 0
       → Told (past ++ (entered e ∷ [])) (enterRule (lent m w) e .after .waiting)
   unfolding enterRule
   told-entered e pass =
-      let k = all-needs (enterRule (lent m w) e .needs) refl pass in
-      let r = ready (lent m w) (k .0) (k .1 .0) in
-      let most = r .replicas in
-      let own = is-allowed _ e (k .1 .1 .0) in
-      let new = not-true (isWaiting (e .identity) (entries w)) (k .1 .1 .1 .0) in
-      let count = listed-count in
+      let k = enters (lent m w) e pass in
+      let most = k .ready .replicas in
+      let own = is-allowed _ e (k .allowed) in
       let l = h .listed in
+      let room = rw (l .slice .listed) at (k .room) in
       record {
         listed =
             rw (still-entered past e)
             (record {
-              slice = slice-joined w (stillWaiting past) e (l .slice) (omega arith) (omega tests);
-              apart = apart-joined (stillWaiting past) e (l .apart) (rw (l .slice .listed) at new);
+              slice = slice-joined w (stillWaiting past) e (l .slice) (omega arith) room;
+              apart = apart-joined (stillWaiting past) e (l .apart) (rw (l .slice .listed) at (k .new));
               small = all-joined _ (stillWaiting past) e (l .small) (own .few);
             });
         places = λ place inside.
-            rw (joined-place w (stillWaiting past) e (l .slice) (omega arith) (omega tests) place, used-append place false past (entered e ∷ []))
+            rw (joined-place w (stillWaiting past) e (l .slice) (omega arith) room place, used-append place false past (entered e ∷ []))
             (h .places place inside);
       }
 
   -- An entry leaves.
-  module _ (identity : ℕ) (r : Ready (lent m w)) (waits : isWaiting identity (entries w) ≡ true) where
+  module _ (identity : ℕ) (k : Leaves (lent m w) identity) where
     leaving-taker : entryOf identity (stillWaiting past) .taker < maxReplicas
-    leaving-taker = rw (h .listed .slice .listed) at (taker-known _ w (r .waiting) (r .replicas) identity waits)
+    leaving-taker = rw (h .listed .slice .listed) at (taker-known _ w (k .ready .waiting) (k .ready .replicas) identity (k .waits))
 
     listed-departed : Listed (departed w identity) (without identity (stillWaiting past))
     listed-departed =
@@ -101,33 +91,20 @@ module _ (past : List Event) (m : Memory) (w : List ℕ) (h : Told past w) where
       → Told (past ++ (withdrawn identity ∷ [])) (withdrawRule (lent m w) identity .after .waiting)
   unfolding withdrawRule
   told-withdrawn identity pass =
-      let k = all-needs (withdrawRule (lent m w) identity .needs) refl pass in
-      let r = ready (lent m w) (k .0) (k .1 .0) in
+      let k = withdraws (lent m w) identity pass in
       record {
-        listed = rw (still-withdrawn past identity (h .listed .apart)) (listed-departed identity r (k .1 .1 .0));
+        listed = rw (still-withdrawn past identity (h .listed .apart)) (listed-departed identity k);
         places = λ place inside.
-            rw (departed-place identity r (k .1 .1 .0) place, used-append place false past (withdrawn identity ∷ [])) (h .places place inside);
+            rw (departed-place identity k place, used-append place false past (withdrawn identity ∷ [])) (h .places place inside);
       }
-
-  -- The place of a match is one of a movement, and took out no entry before.
-  matched-place : (movements : List ℕ) (i identity place : ℕ) → firstRefusal (matchRule (lent m w) movements i identity place .needs) ≡ 0
-      → (place < maxMovements) × (isUsed w place ≡ false)
-  unfolding matchRule
-  matched-place movements i identity place pass =
-      let k = all-needs (matchRule (lent m w) movements i identity place .needs) refl pass in
-      let short = list-short movements (k .0) in
-      let known = k .1 .1 .1 .1 .0 in
-      (omega tests, not-true (isUsed w place) (k .1 .1 .1 .1 .1 .1 .1 .1 .1 .0))
 
   told-matched : (movements : List ℕ) (i identity place : ℕ) → firstRefusal (matchRule (lent m w) movements i identity place .needs) ≡ 0
       → Told (past ++ (matched identity place ∷ [])) (matchRule (lent m w) movements i identity place .after .waiting)
   unfolding matchRule
   told-matched movements i identity place pass =
-      let k = all-needs (matchRule (lent m w) movements i identity place .needs) refl pass in
-      let r = ready (lent m w) (k .1 .0) (k .1 .1 .0) in
-      let waits = k .1 .1 .1 .1 .1 .1 .0 in
-      let inside = matched-place movements i identity place pass .0 in
-      let l = listed-departed identity r waits in
+      let k = matches (lent m w) movements i identity place pass in
+      let inside = k .inside in
+      let l = listed-departed identity (k .leaves) in
       let size = l .slice .size in
       record {
         listed =
@@ -144,7 +121,7 @@ module _ (past : List Event) (m : Memory) (w : List ℕ) (h : Told past w) where
             rw (
               miss,
               getD-set-other (departed w identity) (placeAt place) (placeAt other) 1 0 (omega tests),
-              departed-place identity r waits other,
+              departed-place identity (k .leaves) other,
               h .places other within,
             )
             (by-test (usedBy other false past) (λ e. rw e) (λ e. rw e))));
@@ -175,8 +152,8 @@ module _ (past : List Event) (m : Memory) (w : List ℕ) (h : Told past w) where
   once-accepted (Enter e) pass a place = (tt, tt)
   once-accepted (Withdraw identity) pass a place = (tt, tt)
   once-accepted (Match movements i identity taking) pass a place =
-      let fresh = matched-place movements i identity taking pass in
-      (λ q. rw (← q) (sym (h .places taking (fresh .0)) ∙ fresh .1), tt)
+      let k = matches (lent m w) movements i identity taking pass in
+      (λ q. rw (← q) (sym (h .places taking (k .inside)) ∙ k .fresh), tt)
   once-accepted (Ask taker) pass a place = tt
 
   once-step : (call : WaitingCall) (place : ℕ)
@@ -193,10 +170,9 @@ module _ (past : List Event) (m : Memory) (w : List ℕ) (h : Told past w) where
   asked taker accepted =
       let rule = askRule (lent m w) taker in
       let pass = no-refusal (lent m w) rule accepted in
-      let k = all-needs (rule .needs) refl pass in
-      let r = ready (lent m w) (k .0) (k .1 .0) in
-      let most = r .replicas in
-      let own : taker < maxReplicas = omega tests in
+      let k = asks (lent m w) taker pass in
+      let most = k .ready .replicas in
+      let own : taker < maxReplicas = omega arith in
       let l = h .listed .slice in
       ap (λ (o : WaitingOutcome). o .answer) (sym (accepts (lent m w) rule (sym pass)))
       ∙ rw (l .pallets taker own, l .earliest taker own, pallets-by past taker, earliest-by past taker)

@@ -10,27 +10,29 @@ use Rattle.protocol.specs.declared.Call.{Call}
 use Rattle.protocol.specs.declared.Call.the-variants as Plain
 use Rattle.protocol.specs.Memory.{Memory, replicaCount, faultBoundAt, faultBound}
 use Rattle.protocol.specs.Form.{wellFormed}
-use Rattle.protocol.specs.Outcome.{firstRefusal}
+use Rattle.protocol.specs.Outcome.{Answer, firstRefusal}
 use Rattle.protocol.specs.Calls.{opening}
 use Rattle.protocol.specs.Runs.{step}
 use Rattle.protocol.specs.Theorems.{Accepted, Address, tableWord, logWord, blockWord, wordAt, named, isOpening, RefusedChangesNothing}
 use Rattle.protocol.specs.Theorems.{AcceptedLeavesForm, OnlyNamedChange}
 use Rattle.protocol.proofs.logic.Booleans.{tests, by-test}
 use Rattle.protocol.proofs.memory.Opened as Opening
-use Rattle.protocol.proofs.calls.Needs.{all-needs, outcome-cases, outcome-state, no-refusal, holds-accepted, accepted-after, accepted-first}
+use Rattle.protocol.proofs.calls.Needs.{all-needs, outcome-cases, outcome-state, no-refusal, holds-accepted, accepted-after}
+use Rattle.protocol.proofs.calls.Needs.{accepted-first}
 use Rattle.protocol.proofs.calls.Rules.{refused-changes-nothing}
 use Rattle.protocol.proofs.calls.LeavesForm.{accepted-leaves-form}
 use Rattle.protocol.proofs.calls.Frame.{only-named-change}
 use Rattle.entries.specs.declared.Entry.{Entry}
-use Rattle.entries.specs.Waiting.{Lent, lent, WaitingCall, Open, Enter, Withdraw, Match, Ask, openRule, enterRule, withdrawRule, matchRule}
-use Rattle.entries.specs.Waiting.{askRule, waitingRule, waitingStep}
+use Rattle.entries.specs.Waiting.{Lent, lent, WaitingCall, Open, Enter, Withdraw, Match, Ask, openRule, enterRule, withdrawRule}
+use Rattle.entries.specs.Waiting.{matchRule, askRule, waitingRule, waitingStep}
 use Rattle.entries.specs.Arrivals.{Event, opened, entered, withdrawn, matched, acceptedEvents, eventsOf, stillWaiting, replicasBy}
 use Rattle.entries.specs.Arrivals.{LedgerCall, plain, waiting, ledgerStep, ledgerEvents, opensPlainly, ledgerAfter, ledgerHistory}
 use Rattle.entries.specs.Arrivals.{OpensNonePlainly, Ledger, openedLedger, ledgerEnd, ledgerTold}
 use Rattle.entries.specs.Theorems.{FormLeft, AcceptedWaitingLeavesForm, LedgerAnswersPass}
 use Rattle.entries.proofs.Lists.{member-waits}
 use Rattle.entries.proofs.Slices.{form}
-use Rattle.entries.proofs.Rules.{Ready, ready, form-left, accepted-waiting-leaves-form}
+use Rattle.entries.proofs.Needs.{Ready, ready}
+use Rattle.entries.proofs.Rules.{form-left, accepted-waiting-leaves-form}
 use Rattle.entries.proofs.Histories.{Told, told-step, asked, opening-told}
 
 -- ---- no call of the eleven changes the fault bound
@@ -128,7 +130,8 @@ module _ (past : List Event) (s : Lent) (h : Stands past s) where
       })
 
   replicas-accepted : (call : WaitingCall) → firstRefusal (waitingRule s call .needs) ≡ 0
-      → replicasBy (past ++ acceptedEvents call (record { number = 0; first = waitingRule s call .first; second = waitingRule s call .second })) 0
+      → let a : Answer = record { number = 0; first = waitingRule s call .first; second = waitingRule s call .second } in
+      replicasBy (past ++ acceptedEvents call a) 0
       ≡ replicaCount (faultBound (waitingRule s call .after .memory))
   unfolding waitingRule enterRule withdrawRule matchRule askRule replicasBy
   replicas-accepted (Open f steps) pass = replicas-append past _ 0 ∙ opened-replicas s f steps pass
@@ -177,7 +180,8 @@ opening-stands s f steps accepted =
       told = opening-told s f steps accepted;
       ready = left-ready _ (accepted-waiting-leaves-form s (Open f steps) accepted);
       replicas =
-          rw (accepted-after s rule accepted, accepted) (accepted-first s rule accepted ∙ opened-replicas s f steps (no-refusal s rule accepted));
+          rw (accepted-after s rule accepted, accepted)
+          (accepted-first s rule accepted ∙ opened-replicas s f steps (no-refusal s rule accepted));
     }
 
 ledger-stands : (x : Ledger) → Stands (ledgerTold x) (ledgerEnd x)

@@ -1,29 +1,27 @@
--- What the rules of the calls tell: what a refused call leaves, which refusal is returned, and what opening reads.
-use Prim.Native.Nat.{ℕ, zero, suc, _≤_}
+-- What the rules of the calls tell: what a refused call leaves, which refusal is returned, what opening reads, and the form that is left.
+use Prim.Native.Nat.{ℕ, zero, suc}
 use mathlib.Core.Path.{_≡_, refl, sym, ap, _∙_}
 use mathlib.Core.Bool.{true, false}
 use mathlib.Core.List.{List, [], _∷_}
-use native.Mathlib.Omega.{arith}
 use lib.ListN.{length}
 use lib.Dec.{leb, eqb}
 use Rattle.protocol.specs.Memory.{Memory, replicaCount, faultBound}
-use Rattle.protocol.specs.Form.{wellFormed}
 use Rattle.protocol.specs.Outcome.{Need, _else_, Answer, OutcomeOf, firstRefusal, answered, follow, wrongForm, wrongCertificate}
 use Rattle.protocol.specs.Calls.{opening}
 use Rattle.protocol.specs.Runs.{ruleOf, step}
 use Rattle.protocol.proofs.logic.Booleans.{tests}
-use Rattle.protocol.proofs.memory.Formed.{sizes}
 use Rattle.protocol.proofs.memory.Formed as Memory
 use Rattle.protocol.proofs.calls.LeavesForm.{opening-leaves}
 use Rattle.protocol.proofs.calls.Needs.{all-needs, outcome-state, returned, no-refusal, refuses, accepts, accepted-after, refused, lowest}
-use Rattle.protocol.proofs.calls.Needs.{lowest-of-first, lowest-refusal, refusal-allowed, first-pass, refused-first, all-pass, fails, holds}
-use Rattle.entries.specs.Entries.{maxReplicas, waitingWords, waitingFormed}
-use Rattle.entries.specs.Waiting.{Lent, lent, WaitingRule, WaitingCall, Open, Enter, Withdraw, Match, Ask, matchNeeds}
-use Rattle.entries.specs.Waiting.{fitNeeds, openRule, enterRule, withdrawRule, matchRule, askRule, waitingRule, waitingStep}
-use Rattle.entries.specs.Waiting.{departed}
+use Rattle.protocol.proofs.calls.Needs.{lowest-of-first, lowest-refusal, refusal-allowed, first-pass, refused-first, all-pass, fails}
+use Rattle.protocol.proofs.calls.Needs.{holds}
+use Rattle.entries.specs.Entries.{waitingWords}
+use Rattle.entries.specs.Waiting.{Lent, lent, WaitingRule, WaitingCall, Open, Enter, Withdraw, Match, Ask, matchNeeds, fitNeeds}
+use Rattle.entries.specs.Waiting.{openRule, enterRule, withdrawRule, matchRule, askRule, waitingRule, waitingStep, departed}
 use Rattle.entries.specs.Theorems.{RefusedWaitingChangesNothing, WaitingLeavesLedger, WaitingLowestWins, OpenWaitingOrder}
 use Rattle.entries.specs.Theorems.{OpenReadsNoEntry, FormLeft, AcceptedWaitingLeavesForm}
-use Rattle.entries.proofs.Slices.{Formed, formed, form, slice-count, cleared, formed-cleared, formed-placed, formed-joined, formed-without}
+use Rattle.entries.proofs.Slices.{Formed, form, cleared, formed-cleared, formed-placed, formed-joined, formed-without}
+use Rattle.entries.proofs.Needs.{Ready, Leaves, enters, withdraws, matches, asks}
 
 pub refused-waiting-changes-nothing : RefusedWaitingChangesNothing
 unfolding RefusedWaitingChangesNothing waitingStep
@@ -76,7 +74,8 @@ open-waiting-order s f steps =
       refused = λ h.
           let some : firstRefusal (plain .needs) ≡ 0 → ⊥ = λ e. h (returned m plain ∙ e) in
           let n = firstRefusal (plain .needs) in
-          ap answerOf (sym (refuses s rule n (sym (refused-first (plain .needs) last some)) some)) ∙ ap plainly (refuses m plain n refl some);
+          ap answerOf (sym (refuses s rule n (sym (refused-first (plain .needs) last some)) some))
+          ∙ ap plainly (refuses m plain n refl some);
       sized = λ accepted long.
           let pass = no-refusal m plain accepted in
           let fit : eqb (length (s .waiting)) waitingWords ≡ true = omega tests in
@@ -87,7 +86,7 @@ open-waiting-order s f steps =
           returned s rule ∙ all-pass (plain .needs) last refl (no-refusal m plain accepted) ∙ fails [] misfit;
     }
 
--- One rule on two states: the answer is one, and so is what it leaves where it is accepted.
+-- One rule on two states: the answer is one.
 same-answer : (s s′ : Lent) (rule : WaitingRule) → follow s rule .answer ≡ follow s′ rule .answer
 unfolding follow answered
 same-answer s s′ rule = go (firstRefusal (rule .needs))
@@ -119,48 +118,36 @@ open-reads-no-entry m w w′ f steps long =
 
 -- ---- the form
 
--- What the first needs of a call tell.
-pub record Ready (s : Lent) : Type 0 where
-  pub memory : wellFormed (s .memory) ≡ true
-  pub waiting : Formed (replicaCount (faultBound (s .memory))) (s .waiting)
-  pub replicas : replicaCount (faultBound (s .memory)) ≤ maxReplicas
-
-pub ready : (s : Lent) → wellFormed (s .memory) ≡ true → waitingFormed (replicaCount (faultBound (s .memory))) (s .waiting) ≡ true
-    → Ready s
-ready s whole shaped =
-    let z = sizes (s .memory) (Memory.formed (s .memory) whole) in
-    record { memory = whole; waiting = formed _ (s .waiting) shaped; replicas = omega arith }
-
-pub left-formed : (s : Lent) → Ready s → (w : List ℕ) → Formed (replicaCount (faultBound (s .memory))) w → FormLeft (lent (s .memory) w)
+left-formed : (s : Lent) → Ready s → (w : List ℕ) → Formed (replicaCount (faultBound (s .memory))) w → FormLeft (lent (s .memory) w)
 left-formed s r w h = record { memory = r .memory; waiting = form _ w h }
+
+-- Once the entry of an identity has left.
+departed-formed : (s : Lent) (identity : ℕ) → Leaves s identity
+    → Formed (replicaCount (faultBound (s .memory))) (departed (s .waiting) identity)
+departed-formed s identity h =
+    let r = h .ready in
+    formed-without _ (s .waiting) (r .waiting) (r .replicas) identity (h .waits)
 
 pub form-left : (s : Lent) (call : WaitingCall) → firstRefusal (waitingRule s call .needs) ≡ 0 → FormLeft (waitingRule s call .after)
 unfolding waitingRule openRule enterRule withdrawRule matchRule askRule opening
-form-left s (Open f steps) e =
-    let h = all-needs (openRule s f steps .needs) refl e in
+form-left s (Open f steps) pass =
+    let h = all-needs (openRule s f steps .needs) refl pass in
     let m = opening (s .memory) f steps .after in
     record {
       memory = Memory.form m (opening-leaves (s .memory) f steps (h .0, (h .1 .0, (h .1 .1 .0, tt))));
       waiting = form _ cleared (formed-cleared _);
     }
 form-left s (Enter e) pass =
-    let h = all-needs (enterRule s e .needs) refl pass in
-    let r = ready s (h .0) (h .1 .0) in
-    let count = slice-count (s .waiting) in
-    left-formed s r _ (formed-joined _ (s .waiting) (r .waiting) (r .replicas) e (h .1 .1 .0) (omega tests))
+    let h = enters s e pass in
+    let r = h .ready in
+    left-formed s r _ (formed-joined _ (s .waiting) (r .waiting) (r .replicas) e (h .allowed) (h .room))
 form-left s (Withdraw identity) pass =
-    let h = all-needs (withdrawRule s identity .needs) refl pass in
-    let r = ready s (h .0) (h .1 .0) in
-    left-formed s r _ (formed-without _ (s .waiting) (r .waiting) (r .replicas) identity (h .1 .1 .0))
+    let h = withdraws s identity pass in
+    left-formed s (h .ready) _ (departed-formed s identity h)
 form-left s (Match movements i identity place) pass =
-    let h = all-needs (matchRule s movements i identity place .needs) refl pass in
-    let r = ready s (h .1 .0) (h .1 .1 .0) in
-    left-formed s r _
-    (formed-placed _ (departed (s .waiting) identity)
-    (formed-without _ (s .waiting) (r .waiting) (r .replicas) identity (h .1 .1 .1 .1 .1 .1 .0)) place 1)
-form-left s (Ask taker) pass =
-    let h = all-needs (askRule s taker .needs) refl pass in
-    record { memory = h .0; waiting = h .1 .0 }
+    let h = matches s movements i identity place pass .leaves in
+    left-formed s (h .ready) _ (formed-placed _ (departed (s .waiting) identity) (departed-formed s identity h) place 1)
+form-left s (Ask taker) pass = let r = asks s taker pass .ready in left-formed s r (s .waiting) (r .waiting)
 
 pub accepted-waiting-leaves-form : AcceptedWaitingLeavesForm
 unfolding AcceptedWaitingLeavesForm waitingStep

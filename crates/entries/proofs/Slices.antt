@@ -11,13 +11,13 @@ use Rattle.protocol.proofs.logic.Booleans.{tests, by-test, each, all-hold, at-b
 use Rattle.movements.specs.Movements.{maxPallets}
 use Rattle.entries.specs.declared.Entry.{Entry}
 use Rattle.entries.specs.Entries.{maxWaiting, maxReplicas, keptPalletsAt, keptEarliestAt, placeAt, waitingWords, waitingCount}
-use Rattle.entries.specs.Entries.{keptPallets, keptEarliest, entriesFrom, entries, entryAllowed, waitingFormed, isWaiting, entryOf, without}
-use Rattle.entries.specs.Entries.{palletsFor, earliestFor, holding, refreshed}
+use Rattle.entries.specs.Entries.{keptPallets, keptEarliest, entriesFrom, entries, entryAllowed, waitingFormed, isWaiting, entryOf}
+use Rattle.entries.specs.Entries.{without, palletsFor, earliestFor, holding, refreshed}
 use Rattle.entries.specs.Waiting.{departed}
 use Rattle.entries.proofs.Words.{from-length, holding-length, holding-elsewhere, entries-held, refreshed-length}
 use Rattle.entries.proofs.Words.{refreshed-elsewhere, entries-refreshed, entries-placed}
-use Rattle.entries.proofs.Lists.{All, all-joined, all-without, all-of, all-from, from-all, without-length, pallets-joined, earliest-joined, pallets-without}
-use Rattle.entries.proofs.Lists.{earliest-without}
+use Rattle.entries.proofs.Lists.{All, all-joined, all-without, all-of, all-from, from-all, without-length, pallets-joined}
+use Rattle.entries.proofs.Lists.{earliest-joined, pallets-without, earliest-without}
 
 -- ---- the form
 
@@ -42,7 +42,8 @@ formed replicas w e =
       size = omega tests;
       few = omega tests;
       each =
-          all-from (λ x. entryAllowed replicas x ≡ true) w 0 (waitingCount w) (λ i l r. at-below (waitingCount w) _ (t .1 .1 .0) i (omega arith));
+          all-from (λ x. entryAllowed replicas x ≡ true) w 0 (waitingCount w)
+          (λ i l r. at-below (waitingCount w) _ (t .1 .1 .0) i (omega arith));
     }
 
 pub form : (replicas : ℕ) (w : List ℕ) → Formed replicas w → waitingFormed replicas w ≡ true
@@ -119,7 +120,7 @@ module _ (w : List ℕ) (es : List Entry) (taker : ℕ) (size : length w ≡ wai
   pub rewritten-entries : entries (refreshed (holding w es) taker) ≡ es
   rewritten-entries = entries-refreshed (holding w es) taker own ∙ entries-held w es few size
 
-  -- A word that is not the count, nor of a taker, nor of an entry.
+  -- The word of a place is none of them.
   pub rewritten-place : (place : ℕ) → getD (refreshed (holding w es) taker) (placeAt place) 0 ≡ getD w (placeAt place) 0
   rewritten-place place =
       refreshed-elsewhere (holding w es) taker (placeAt place) (λ e. omega arith) (λ e. omega arith)

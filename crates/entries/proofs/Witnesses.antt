@@ -23,8 +23,8 @@ use Rattle.entries.specs.Entries.{earliestFor, holding, refreshed}
 use Rattle.entries.specs.Waiting.{Lent, lent, WaitingOutcome, WaitingCall, Open, Enter, Withdraw, Match, Ask, openRule, enterRule}
 use Rattle.entries.specs.Waiting.{withdrawRule, matchRule, askRule, matchNeeds, fitNeeds, waitingRule, waitingStep}
 use Rattle.entries.specs.Arrivals.{Event, opened, entered, matched, eventsOf, leaves, stillWaiting, palletsBy, earliestBy}
-use Rattle.entries.specs.Arrivals.{replicasBy, opensAmong, sliceAfter, history, Kept, keptSlice, keptEvents}
-use Rattle.entries.specs.Arrivals.{LedgerCall, plain, waiting, ledgerStep, ledgerAfter, ledgerHistory, OpensNonePlainly, Ledger, ledgerEnd, ledgerTold}
+use Rattle.entries.specs.Arrivals.{replicasBy, opensAmong, sliceAfter, history, Kept, keptSlice, keptEvents, LedgerCall, plain}
+use Rattle.entries.specs.Arrivals.{waiting, ledgerStep, ledgerAfter, ledgerHistory, OpensNonePlainly, Ledger, ledgerEnd, ledgerTold}
 use Rattle.entries.specs.Theorems.{WaitingLowestWins, AskIsPass, LedgerAnswersPass, PlaceTakesOutOne}
 
 -- Everything that the calls are made of opens with this.
@@ -56,12 +56,12 @@ pub opens : Accepted (waitingStep start (Open 1 []))
 unfolding computed
 opens = refl
 
--- Entries 7 and 8: 5 pallets from replica 0 to replica 1, and 3 from replica 2 to it. And the movement in block 1 that is entry 7's.
+-- Entries 7 and 8: 5 pallets from replica 0 to replica 1, and 4 from replica 2 to it. And the movement in block 1 that is entry 7's.
 abbrev seven : Entry
 seven = record { identity = 7; giver = 0; taker = 1; pallets = 5 }
 
 abbrev eight : Entry
-eight = record { identity = 8; giver = 2; taker = 1; pallets = 3 }
+eight = record { identity = 8; giver = 2; taker = 1; pallets = 4 }
 
 abbrev moved : List ℕ
 moved = 1 ∷ 0 ∷ 1 ∷ 5 ∷ []
@@ -80,7 +80,7 @@ unfolding computed
 ask-accepted = refl
 
 pub ask-is-pass-used : AskIsPass
-    → waitingStep (lent shown (keptSlice back)) (Ask 1) .answer ≡ record { number = 0; first = 8; second = 8 }
+    → waitingStep (lent shown (keptSlice back)) (Ask 1) .answer ≡ record { number = 0; first = 9; second = 8 }
 unfolding AskIsPass computed
 ask-is-pass-used statement = statement back shown 1 ask-accepted ∙ refl
 

@@ -7,8 +7,9 @@ use lib.ListN.{length, getD, set, take, drop, length-set}
 use lib.Seq.{sets, length-sets, getD-set-same, getD-set-other, set-getD, drop-cons}
 use Rattle.protocol.proofs.memory.Words.{sets-at, sets-elsewhere}
 use Rattle.entries.specs.declared.Entry.{Entry}
-use Rattle.entries.specs.Entries.{maxWaiting, maxReplicas, keptPalletsAt, keptEarliestAt, entryWidth, entryAt, placeAt, waitingWords}
-use Rattle.entries.specs.Entries.{waitingCount, entry, entriesFrom, entries, allWordsOf, palletsFor, earliestFor, holding, refreshed}
+use Rattle.entries.specs.Entries.{maxWaiting, maxReplicas, keptPalletsAt, keptEarliestAt, entryWidth, entryAt, placeAt}
+use Rattle.entries.specs.Entries.{waitingWords, waitingCount, entry, entriesFrom, entries, allWordsOf, palletsFor, earliestFor}
+use Rattle.entries.specs.Entries.{holding, refreshed}
 
 -- ---- runs of words
 
@@ -151,7 +152,12 @@ holding-joined w es =
     let n = words-length (entries w) in
     let count = from-length w 0 (waitingCount w) in
     let at : entryAt 0 + length (allWordsOf (entries w)) ≡ entryAt (waitingCount w) = omega arith in
-    rw (words-append (entries w) es, sets-append (allWordsOf (entries w)) (allWordsOf es) w (entryAt 0), at, front-kept w 0 (waitingCount w))
+    rw (
+      words-append (entries w) es,
+      sets-append (allWordsOf (entries w)) (allWordsOf es) w (entryAt 0),
+      at,
+      front-kept w 0 (waitingCount w),
+    )
 
 -- ---- what leaves the entries
 

@@ -60,7 +60,7 @@ pub fn open_waiting(
 ) -> Answer
     ensures { λ r. ⌜ waitingOutcome r (now (table .exit)) (now (log .exit)) (now (blocks .exit)) (now (waiting .exit))
         ≡ waitingStep (lent (memory (now (table .entry)) (now (log .entry)) (now (blocks .entry))) (now (waiting .entry)))
-            (Open f (now (steps .entry))) ⌝ }
+        (Open f (now (steps .entry))) ⌝ }
 {
     if waiting.len() == WAITING_WORDS {
         let answer = opening::open_ledger(table, log, blocks, f, steps);
@@ -112,10 +112,16 @@ fn leave(waiting: &mut [u32], slot: usize)
 }
 
 // The entry of an identity is struck out.
-pub fn withdraw(table: &[u32], log: &[u32], blocks: &[u32], waiting: &mut [u32], identity: u32) -> Answer
+pub fn withdraw(
+    table: &[u32],
+    log: &[u32],
+    blocks: &[u32],
+    waiting: &mut [u32],
+    identity: u32,
+) -> Answer
     ensures { λ r. ⌜ waitingOutcome r (now (table .exit)) (now (log .exit)) (now (blocks .exit)) (now (waiting .exit))
         ≡ waitingStep (lent (memory (now (table .entry)) (now (log .entry)) (now (blocks .entry))) (now (waiting .entry)))
-            (Withdraw identity) ⌝ }
+        (Withdraw identity) ⌝ }
 {
     if !is_ready(table, log, blocks, waiting) {
         return refused(WRONG_FORM);
@@ -141,7 +147,7 @@ fn test_movements(
 ) -> Tested
     ensures { λ r. ⌜ r
         ≡ tested (listedNeeds (lent (memory (now (table .entry)) (now (log .entry)) (now (blocks .entry))) (now (waiting .entry)))
-            (now (movements .entry)) replica place) ⌝ }
+        (now (movements .entry)) replica place) ⌝ }
 {
     if !movements::is_movement_list(movements) {
         return Tested::Refused(WRONG_FORM);
@@ -196,10 +202,11 @@ pub fn match_entry(
     place: u32,
 ) -> Answer
     ensures { λ r. ⌜ record {
-          outcome = waitingOutcome r (now (table .exit)) (now (log .exit)) (now (blocks .exit)) (now (waiting .exit));
-          movements = now (movements .exit) }
+      outcome = waitingOutcome r (now (table .exit)) (now (log .exit)) (now (blocks .exit)) (now (waiting .exit));
+      movements = now (movements .exit);
+    }
         ≡ matching (lent (memory (now (table .entry)) (now (log .entry)) (now (blocks .entry))) (now (waiting .entry)))
-            (now (movements .entry)) replica identity place ⌝ }
+        (now (movements .entry)) replica identity place ⌝ }
 {
     let tested = test_movements(table, log, blocks, waiting, movements, replica, place);
     let Tested::Passed = tested else {

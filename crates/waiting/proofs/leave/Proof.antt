@@ -1,32 +1,25 @@
 use borrow.Author.Needs.{needs}
+use mathlib.Core.Path.{refl}
+use native.Mathlib.Omega.{arith}
+use Rattle.waiting.proofs.Leaving.{removable, left-refreshable}
 use Rattle.waiting.proofs.leave.Statement.{statement}
 use Rattle.waiting.proofs.leave.Tie as tie
-use Rattle.waiting.proofs.leave.Reads as reads
-use Rattle.waiting.proofs.leave.Lts as lts
-use Rattle.arrivals.proofs.entry_in.Reads as entry-in-reads
-use Rattle.arrivals.proofs.refresh.Reads as refresh-reads
-use Rattle.arrivals.proofs.take_out.Reads as take-out-reads
 
--- src/lib.rt:109:17
-entry-in-requires : tie.Need-entry-in-requires
-entry-in-requires c κs = search needs
-
--- src/lib.rt:110:5
-take-out-requires : tie.Need-take-out-requires
-take-out-requires c κs = search needs
-
--- src/lib.rt:111:5
 refresh-requires : tie.Need-refresh-requires
-refresh-requires c κs = ?
+refresh-requires c κs =
+    let taken = c .before .before .before in
+    let read = taken .before .before in
+    let start = read .before .before .before in
+    rw (taken .take-out .ensures, read .entry-in .ensures) (left-refreshable _ _ (start .pre))
 
--- src/lib.rt:105:1
-same-length : tie.Need-same-length
-same-length c = search needs
-
--- src/lib.rt:105:1
 returns : tie.Need-returns
-returns c = ?
+returns c =
+    let fresh = c .before .before in
+    let taken = fresh .before .before .before .before in
+    let read = taken .before .before in
+    rw (fresh .refresh .ensures, taken .take-out .ensures, read .entry-in .ensures) refl
 
 pub leave-spec : {M : Type 1} → statement M
 leave-spec =
-    tie.close (tie.spec entry-in-requires take-out-requires refresh-requires same-length returns)
+    tie.close
+    (tie.spec (λ c κs. search needs) (λ c κs. search needs) refresh-requires (λ c. search needs) returns)

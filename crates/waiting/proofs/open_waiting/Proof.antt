@@ -1,110 +1,49 @@
+use native.Mathlib.Omega.{arith}
+use mathlib.Core.Path.{_≡_, refl, ap, sym, _∙_}
 use borrow.Author.Needs.{needs}
+use lib.ListN.{length, replicate}
+use Rattle.protocol.specs.Memory.{memory}
+use Rattle.protocol.proofs.logic.Joined.{denied, granted}
+use Rattle.entries.specs.Entries.{waitingWords}
+use Rattle.entries.specs.Waiting.{lent, Open}
+use Rattle.waiting.proofs.Answering.{stops}
+use Rattle.waiting.proofs.Opening.{opens, refuses-plainly, open-range, open-steps, open-form}
 use Rattle.waiting.proofs.open_waiting.Statement.{statement}
 use Rattle.waiting.proofs.open_waiting.Tie as tie
-use Rattle.waiting.proofs.open_waiting.Reads as reads
-use Rattle.waiting.proofs.open_waiting.Lts as lts
-use Rattle.arrivals.proofs.clear.Reads as clear-reads
-use Rattle.checks.proofs.refused.Reads as refused-reads
-use Rattle.counter.proofs.steps_allowed.Reads as steps-allowed-reads
-use Rattle.form.proofs.is_fault_bound.Reads as is-fault-bound-reads
-use Rattle.opening.proofs.open_ledger.Reads as open-ledger-reads
 
--- src/lib.rt:66:13
-open-ledger-requires : tie.Need-open-ledger-requires
-open-ledger-requires c κs = search needs
-
--- src/lib.rt:68:13
-clear-requires : tie.Need-clear-requires
-clear-requires c κs = search needs
-
--- src/lib.rt:70:9
-same-length : tie.Need-same-length
-same-length c = search needs
-
--- src/lib.rt:70:9
-same-length-2 : tie.Need-same-length-2
-same-length-2 c = search needs
-
--- src/lib.rt:70:9
-same-length-3 : tie.Need-same-length-3
-same-length-3 c = search needs
-
--- src/lib.rt:70:9
-same-length-4 : tie.Need-same-length-4
-same-length-4 c = search needs
-
--- src/lib.rt:70:9
 returns : tie.Need-returns
-returns c = ?
+returns c =
+    let a = c .before .before .before .before .before .before .before .before .before .before .before .before .before .before .before .before .before .before .before .before .before .before .args in
+    let s = lent (memory (a .table .now) (a .log .now) (a .blocks .now)) (a .waiting .now) in
+    let size : length (a .waiting .now) ≡ waitingWords = c .before .before .before .before .before .before .before .before .before .before .before .before .before .before .before .before .if1 .taken in
+    rw (c .before .before .clear .ensures, size) (opens s (a .f) (a .steps .now) (c .before .before .before .before .before .before .before .before .before .before .before .before .open-ledger .ensures) size (c .before .before .before .before .if2 .taken))
 
--- src/lib.rt:70:9
-same-length-5 : tie.Need-same-length-5
-same-length-5 c = search needs
-
--- src/lib.rt:70:9
-same-length-6 : tie.Need-same-length-6
-same-length-6 c = search needs
-
--- src/lib.rt:70:9
-same-length-7 : tie.Need-same-length-7
-same-length-7 c = search needs
-
--- src/lib.rt:70:9
 returns-2 : tie.Need-returns-2
-returns-2 c = ?
+returns-2 c =
+    let a = c .before .before .before .before .before .before .before .before .before .before .before .before .before .before .before .before .before .before .args in
+    let s = lent (memory (a .table .now) (a .log .now) (a .blocks .now)) (a .waiting .now) in
+    refuses-plainly s (a .f) (a .steps .now) (c .before .before .before .before .before .before .before .before .open-ledger .ensures) (c .if2 .left)
 
--- src/lib.rt:72:9
-is-fault-bound-requires : tie.Need-is-fault-bound-requires
-is-fault-bound-requires c κs = search needs
-
--- src/lib.rt:73:9
-refused-requires : tie.Need-refused-requires
-refused-requires c κs = search needs
-
--- src/lib.rt:73:9
 returns-3 : tie.Need-returns-3
-returns-3 c = ?
+returns-3 c =
+    stops _ (Open _ _) 2 (c .refused .ensures)
+    (open-range _ _ _ (c .before .before .before .if1 .left) (denied (c .before .before .is-fault-bound .ensures) (c .before .if3 .taken))) (λ z. omega arith)
 
--- src/lib.rt:75:9
-steps-allowed-requires : tie.Need-steps-allowed-requires
-steps-allowed-requires c κs = search needs
-
--- src/lib.rt:76:9
-refused-requires-2 : tie.Need-refused-requires-2
-refused-requires-2 c κs = search needs
-
--- src/lib.rt:76:9
 returns-4 : tie.Need-returns-4
-returns-4 c = ?
+returns-4 c =
+    stops _ (Open _ _) 12 (c .refused2 .ensures)
+    (open-steps _ _ _ (c .before .before .before .before .before .if1 .left) (granted (c .before .before .before .before .is-fault-bound .ensures) (c .before .before .before .if3 .left))
+    (denied (c .before .before .steps-allowed .ensures) (c .before .if4 .taken))) (λ z. omega arith)
 
--- src/lib.rt:78:5
-refused-requires-3 : tie.Need-refused-requires-3
-refused-requires-3 c κs = search needs
-
--- src/lib.rt:53:1
 returns-5 : tie.Need-returns-5
-returns-5 c = ?
+returns-5 c =
+    stops _ (Open _ _) 1 (c .refused3 .ensures)
+    (open-form _ _ _ (c .before .before .before .before .before .if1 .left) (granted (c .before .before .before .before .is-fault-bound .ensures) (c .before .before .before .if3 .left))
+    (granted (c .before .before .steps-allowed .ensures) (c .before .if4 .left))) (λ z. omega arith)
 
 pub open-waiting-spec : {M : Type 1} → statement M
 open-waiting-spec =
     tie.close
-    (tie.spec
-    open-ledger-requires
-    clear-requires
-    same-length
-    same-length-2
-    same-length-3
-    same-length-4
-    returns
-    same-length-5
-    same-length-6
-    same-length-7
-    returns-2
-    is-fault-bound-requires
-    refused-requires
-    returns-3
-    steps-allowed-requires
-    refused-requires-2
-    returns-4
-    refused-requires-3
-    returns-5)
+    (tie.spec (λ c κs. search needs) (λ c κs. search needs) (λ c. search needs) (λ c. search needs) (λ c. search needs)
+    (λ c. search needs) returns (λ c. search needs) (λ c. search needs) (λ c. search needs) returns-2 (λ c κs. search needs)
+    (λ c κs. search needs) returns-3 (λ c κs. search needs) (λ c κs. search needs) returns-4 (λ c κs. search needs) returns-5)

@@ -1,74 +1,59 @@
+use native.Mathlib.Omega.{arith}
+use mathlib.Core.Path.{_≡_, refl}
 use borrow.Author.Needs.{needs}
+use Rattle.protocol.proofs.logic.Joined.{denied, granted}
+use Rattle.waiting.proofs.Known.{known}
+use Rattle.waiting.proofs.Listing.{unlisted, unready, stranger, past-list, breach, all-listed}
 use Rattle.waiting.proofs.test_movements.Statement.{statement}
 use Rattle.waiting.proofs.test_movements.Tie as tie
-use Rattle.waiting.proofs.test_movements.Reads as reads
-use Rattle.waiting.proofs.test_movements.Lts as lts
-use Rattle.movements.proofs.all_allowed.Reads as all-allowed-reads
-use Rattle.movements.proofs.is_movement_list.Reads as is-movement-list-reads
-use Rattle.table.proofs.replica_count.Reads as replica-count-reads
-use Rattle.waiting.proofs.is_ready.Reads as is-ready-reads
 
--- src/lib.rt:146:9
-is-movement-list-requires : tie.Need-is-movement-list-requires
-is-movement-list-requires c κs = search needs
-
--- src/lib.rt:147:9
 returns : tie.Need-returns
-returns c = ?
+returns c = unlisted _ _ _ _ (denied (c .before .is-movement-list .ensures) (c .if1 .taken))
 
--- src/lib.rt:149:9
-is-ready-requires : tie.Need-is-ready-requires
-is-ready-requires c κs = search needs
-
--- src/lib.rt:150:9
 returns-2 : tie.Need-returns-2
-returns-2 c = ?
+returns-2 c =
+    unready _ _ _ _ (granted (c .before .before .before .is-movement-list .ensures) (c .before .before .if1 .left)) (denied (c .before .is-ready .ensures) (c .if2 .taken))
 
--- src/lib.rt:152:41
 shared-slice-read-replica-count : tie.Need-shared-slice-read-replica-count
-shared-slice-read-replica-count c = ?
+shared-slice-read-replica-count c = omega (arith, known _ (granted (c .before .before .is-ready .ensures) (c .before .if2 .left)) .sizes)
 
--- src/lib.rt:152:9
 replica-count-requires : tie.Need-replica-count-requires
-replica-count-requires c κs = ?
+replica-count-requires c κs = omega (arith, known _ (granted (c .before .before .is-ready .ensures) (c .before .if2 .left)) .sizes)
 
--- src/lib.rt:154:9
 returns-3 : tie.Need-returns-3
-returns-3 c = ?
+returns-3 c =
+    let h = known _ (granted (c .before .before .before .before .is-ready .ensures) (c .before .before .before .if2 .left)) in
+    stranger _ _ _ _ (granted (c .before .before .before .before .before .before .is-movement-list .ensures) (c .before .before .before .before .before .if1 .left)) h
+    (rw (c .before .replica-count .ensures) at (c .if3 .taken))
 
--- src/lib.rt:157:9
 returns-4 : tie.Need-returns-4
-returns-4 c = ?
+returns-4 c =
+    let h = known _ (granted (c .before .before .before .before .before .is-ready .ensures) (c .before .before .before .before .if2 .left)) in
+    past-list _ _ _ _ (granted (c .before .before .before .before .before .before .before .is-movement-list .ensures) (c .before .before .before .before .before .before .if1 .left)) h
+    (omega (arith, c .before .if3 .left, c .before .before .replica-count .ensures)) (c .if4 .taken)
 
--- src/lib.rt:159:53
 shared-slice-read-all-allowed : tie.Need-shared-slice-read-all-allowed
-shared-slice-read-all-allowed c = ?
+shared-slice-read-all-allowed c = omega (arith, known _ (granted (c .before .before .before .before .before .before .is-ready .ensures) (c .before .before .before .before .before .if2 .left)) .sizes)
 
--- src/lib.rt:159:9
 all-allowed-requires : tie.Need-all-allowed-requires
-all-allowed-requires c κs = ?
+all-allowed-requires c κs = granted (c .before .before .before .before .before .before .before .before .is-movement-list .ensures) (c .before .before .before .before .before .before .before .if1 .left)
 
--- src/lib.rt:160:9
 returns-5 : tie.Need-returns-5
-returns-5 c = ?
+returns-5 c =
+    let h = known _ (granted (c .before .before .before .before .before .before .before .before .is-ready .ensures) (c .before .before .before .before .before .before .before .if2 .left)) in
+    breach _ _ _ _ (granted (c .before .before .before .before .before .before .before .before .before .before .is-movement-list .ensures) (c .before .before .before .before .before .before .before .before .before .if1 .left)) h
+    (omega (arith, c .before .before .before .before .if3 .left, c .before .before .before .before .before .replica-count .ensures)) (omega (arith, c .before .before .before .if4 .left))
+    (rw (c .before .before .before .before .before .replica-count .ensures) at (denied (c .before .all-allowed .ensures) (c .if5 .taken)))
 
--- src/lib.rt:133:1
 returns-6 : tie.Need-returns-6
-returns-6 c = ?
+returns-6 c =
+    let h = known _ (granted (c .before .before .before .before .before .before .before .before .is-ready .ensures) (c .before .before .before .before .before .before .before .if2 .left)) in
+    all-listed _ _ _ _ (granted (c .before .before .before .before .before .before .before .before .before .before .is-movement-list .ensures) (c .before .before .before .before .before .before .before .before .before .if1 .left)) h
+    (omega (arith, c .before .before .before .before .if3 .left, c .before .before .before .before .before .replica-count .ensures)) (omega (arith, c .before .before .before .if4 .left))
+    (rw (c .before .before .before .before .before .replica-count .ensures) at (granted (c .before .all-allowed .ensures) (c .if5 .left)))
 
 pub test-movements-spec : {M : Type 1} → statement M
 test-movements-spec =
     tie.close
-    (tie.spec
-    is-movement-list-requires
-    returns
-    is-ready-requires
-    returns-2
-    shared-slice-read-replica-count
-    replica-count-requires
-    returns-3
-    returns-4
-    shared-slice-read-all-allowed
-    all-allowed-requires
-    returns-5
-    returns-6)
+    (tie.spec (λ c κs. search needs) returns (λ c κs. search needs) returns-2 shared-slice-read-replica-count replica-count-requires
+    returns-3 returns-4 shared-slice-read-all-allowed all-allowed-requires returns-5 returns-6)

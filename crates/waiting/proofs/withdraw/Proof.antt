@@ -1,85 +1,56 @@
+use native.Mathlib.Omega.{arith}
+use mathlib.Core.Path.{_≡_, refl, ap, _∙_}
 use borrow.Author.Needs.{needs}
+use Rattle.protocol.specs.Memory.{memory}
+use Rattle.protocol.proofs.logic.Joined.{denied, granted}
+use Rattle.entries.specs.Waiting.{Lent, lent, Withdraw, waitingRule, withdrawRule}
+use Rattle.arrivals.proofs.Finding.{not-found, found}
+use Rattle.waiting.proofs.Answering.{stops, passes}
+use Rattle.waiting.proofs.Known.{known}
+use Rattle.waiting.proofs.Leaving.{leavable, left-departed}
+use Rattle.waiting.proofs.Deciding.{withdraw-unready, withdraw-gone, withdraw-passes}
 use Rattle.waiting.proofs.withdraw.Statement.{statement}
 use Rattle.waiting.proofs.withdraw.Tie as tie
-use Rattle.waiting.proofs.withdraw.Reads as reads
-use Rattle.waiting.proofs.withdraw.Lts as lts
-use Rattle.arrivals.proofs.find.Reads as find-reads
-use Rattle.checks.proofs.accepted.Reads as accepted-reads
-use Rattle.checks.proofs.refused.Reads as refused-reads
-use Rattle.waiting.proofs.is_ready.Reads as is-ready-reads
-use Rattle.waiting.proofs.leave.Reads as leave-reads
 
--- src/lib.rt:120:9
-is-ready-requires : tie.Need-is-ready-requires
-is-ready-requires c κs = search needs
-
--- src/lib.rt:121:9
-refused-requires : tie.Need-refused-requires
-refused-requires c κs = search needs
-
--- src/lib.rt:121:9
-same-length : tie.Need-same-length
-same-length c = search needs
-
--- src/lib.rt:121:9
 returns : tie.Need-returns
-returns c = ?
+returns c =
+    stops _ (Withdraw _) 1 (c .refused .ensures) (withdraw-unready _ _ (denied (c .before .before .is-ready .ensures) (c .before .if1 .taken)))
+    (λ z. omega arith)
 
--- src/lib.rt:123:17
 slice-read-count : tie.Need-slice-read-count
-slice-read-count c = ?
+slice-read-count c = omega (arith, known _ (granted (c .before .before .is-ready .ensures) (c .before .if1 .left)) .size)
 
--- src/lib.rt:123:17
 cast-count : tie.Need-cast-count
-cast-count c = ?
+cast-count c = omega (arith, known _ (granted (c .before .before .is-ready .ensures) (c .before .if1 .left)) .few)
 
--- src/lib.rt:124:9
 find-requires : tie.Need-find-requires
-find-requires c κs = ?
+find-requires c κs =
+    let h = known _ (granted (c .before .before .before .is-ready .ensures) (c .before .before .if1 .left)) in
+    (omega (arith, h .size, h .few), omega (arith, h .few))
 
--- src/lib.rt:126:9
-refused-requires-2 : tie.Need-refused-requires-2
-refused-requires-2 c κs = search needs
-
--- src/lib.rt:126:9
-same-length-2 : tie.Need-same-length-2
-same-length-2 c = search needs
-
--- src/lib.rt:126:9
 returns-2 : tie.Need-returns-2
-returns-2 c = ?
+returns-2 c =
+    let h = known _ (granted (c .before .before .before .before .before .before .is-ready .ensures) (c .before .before .before .before .before .if1 .left)) in
+    stops _ (Withdraw _) 13 (c .refused2 .ensures) (withdraw-gone _ _ h (not-found _ _ _ (c .before .before .find .ensures) (c .before .if2 .taken)))
+    (λ z. omega arith)
 
--- src/lib.rt:128:5
 leave-requires : tie.Need-leave-requires
-leave-requires c κs = ?
+leave-requires c κs =
+    let h = known _ (granted (c .before .before .before .before .before .before .is-ready .ensures) (c .before .before .before .before .before .if1 .left)) in
+    leavable _ h _ (omega (arith, c .before .if2 .left))
 
--- src/lib.rt:129:5
-accepted-requires : tie.Need-accepted-requires
-accepted-requires c κs = search needs
-
--- src/lib.rt:115:1
-same-length-3 : tie.Need-same-length-3
-same-length-3 c = search needs
-
--- src/lib.rt:115:1
 returns-3 : tie.Need-returns-3
-returns-3 c = ?
+unfolding waitingRule withdrawRule
+returns-3 c =
+    let a = c .before .before .before .before .before .before .before .before .before .before .before .before .before .before .before .before .args in
+    let m = memory (a .table .now) (a .log .now) (a .blocks .now) in
+    let h = known (lent m (a .waiting .now)) (granted (c .before .before .before .before .before .before .before .before .before .before .is-ready .ensures) (c .before .before .before .before .before .before .before .before .before .if1 .left)) in
+    passes (lent m (a .waiting .now)) (Withdraw _) (c .accepted .ensures)
+    (ap (lent m) (c .before .before .before .leave .ensures ∙ left-departed (a .waiting .now) (a .identity) _ (c .before .before .before .before .before .before .find .ensures) (omega (arith, c .before .before .before .before .before .if2 .left))))
+    (withdraw-passes _ _ h (found _ _ _ (c .before .before .before .before .before .before .find .ensures) (omega (arith, c .before .before .before .before .before .if2 .left))))
 
 pub withdraw-spec : {M : Type 1} → statement M
 withdraw-spec =
     tie.close
-    (tie.spec
-    is-ready-requires
-    refused-requires
-    same-length
-    returns
-    slice-read-count
-    cast-count
-    find-requires
-    refused-requires-2
-    same-length-2
-    returns-2
-    leave-requires
-    accepted-requires
-    same-length-3
-    returns-3)
+    (tie.spec (λ c κs. search needs) (λ c κs. search needs) (λ c. search needs) returns slice-read-count cast-count find-requires
+    (λ c κs. search needs) (λ c. search needs) returns-2 leave-requires (λ c κs. search needs) (λ c. search needs) returns-3)

@@ -11,12 +11,11 @@ use Rattle.protocol.specs.Form.{allHold, allBelow, wellFormed}
 use Rattle.protocol.specs.Outcome.{Need, _else_, wrongForm, outOfRange, unknownNumber, wrongMovement}
 use Rattle.protocol.specs.FirstNeeds.{isReplica}
 use Rattle.movements.specs.declared.Movement.{Movement}
-use Rattle.movements.specs.Movements.{maxMovements, movement, movementCount, movementAllowed, isMovementList}
+use Rattle.movements.specs.Movements.{maxPallets, maxMovements, movement, movementCount, movementAllowed, isMovementList}
 use Rattle.blocks.specs.inner.Records.{parentIn}
 use Rattle.ancestry.specs.inner.AncestryFits.{AncestryFits}
-use Rattle.entries.specs.Entries.{maxReplicas, entryWidth, entryAt, waitingWords, waitingCount, entry, isUsed, waitingFormed, holding}
+use Rattle.entries.specs.Entries.{maxWaiting, maxReplicas, entryWidth, entryAt, waitingWords, waitingCount, entry, isUsed, waitingFormed, holding}
 use Rattle.entries.specs.Entries.{refreshed}
-use Rattle.entries.proofs.Slices.{Formed}
 use Rattle.entries.specs.Waiting.{Lent, formNeeds, isOfEntry}
 use Rattle.arrivals.specs.inner.Found.{closedUp}
 
@@ -40,8 +39,11 @@ listedNeeds s movements i place =
 
 -- A slot whose entry may leave; and what is left then.
 pub record Leavable (w : List ℕ) (slot : ℕ) : Type 0 where
-  pub formed : Formed maxReplicas w
+  pub size : length w ≡ waitingWords
+  pub few : waitingCount w ≤ maxWaiting
+  pub pallets : (k : ℕ) → k < waitingCount w → entry w k .pallets ≤ maxPallets
   pub there : slot < waitingCount w
+  pub known : entry w slot .taker < maxReplicas
 
 abbrev pub leftBy : List ℕ → ℕ → List ℕ
 leftBy w slot = refreshed (holding w (closedUp w slot)) (entry w slot .taker)

@@ -16,7 +16,7 @@ use Rattle.protocol.proofs.calls.Needs.{all-needs, outcome-state, returned, no-
 use Rattle.protocol.proofs.calls.Needs.{lowest-of-first, lowest-refusal, refusal-allowed, first-pass, refused-first, all-pass, fails}
 use Rattle.protocol.proofs.calls.Needs.{holds}
 use Rattle.entries.specs.Entries.{waitingWords}
-use Rattle.entries.specs.Waiting.{Lent, lent, WaitingRule, WaitingCall, Open, Enter, Withdraw, Match, Ask, matchNeeds, fitNeeds}
+use Rattle.entries.specs.Waiting.{Lent, lent, WaitingRule, WaitingCall, Open, Enter, Withdraw, Match, Ask, matchNeeds, matchFit}
 use Rattle.entries.specs.Waiting.{openRule, enterRule, withdrawRule, matchRule, askRule, waitingRule, waitingStep, departed}
 use Rattle.entries.specs.Theorems.{RefusedWaitingChangesNothing, WaitingLeavesLedger, WaitingLowestWins, OpenWaitingOrder}
 use Rattle.entries.specs.Theorems.{OpenReadsNoEntry, FormLeft, AcceptedWaitingLeavesForm}
@@ -51,9 +51,9 @@ waiting-lowest-wins s =
       withdraws = λ identity number w. lowest s (withdrawRule s identity) refl w;
       matches = λ movements i identity place number w.
           lowest-of-first s (matchRule s movements i identity place) (matchNeeds s movements i identity place)
-          (fitNeeds s movements i identity place) refl refl w;
+          (matchFit s movements i identity place) refl refl w;
       fits = λ movements i identity place pass number w.
-          let fit = fitNeeds s movements i identity place in
+          let fit = matchFit s movements i identity place in
           let least = lowest-refusal fit wrongCertificate refl w in
           let most = refusal-allowed (λ n. leb n wrongCertificate) fit refl refl in
           let last = all-pass (matchNeeds s movements i identity place) fit refl pass in

@@ -21,7 +21,7 @@ use Rattle.entries.specs.declared.Entry.{Entry}
 use Rattle.entries.specs.Entries.{waitingWords, entriesFrom, entryAllowed, waitingFormed, isWaiting, entryOf, without, palletsFor}
 use Rattle.entries.specs.Entries.{earliestFor, holding, refreshed}
 use Rattle.entries.specs.Waiting.{Lent, lent, WaitingOutcome, WaitingCall, Open, Enter, Withdraw, Match, Ask, openRule, enterRule}
-use Rattle.entries.specs.Waiting.{withdrawRule, matchRule, askRule, matchNeeds, fitNeeds, waitingRule, waitingStep}
+use Rattle.entries.specs.Waiting.{withdrawRule, matchRule, askRule, matchNeeds, matchFit, waitingRule, waitingStep}
 use Rattle.entries.specs.Arrivals.{Event, opened, entered, matched, eventsOf, leaves, stillWaiting, palletsBy, earliestBy}
 use Rattle.entries.specs.Arrivals.{replicasBy, opensAmong, sliceAfter, history, Kept, keptSlice, keptEvents, LedgerCall, plain}
 use Rattle.entries.specs.Arrivals.{waiting, ledgerStep, ledgerAfter, ledgerHistory, OpensNonePlainly, Ledger, ledgerEnd, ledgerTold}
@@ -107,7 +107,7 @@ all-else : firstRefusal (matchNeeds used moved 0 7 0) ≡ 0
 unfolding computed
 all-else = refl
 
-place-used : fitNeeds used moved 0 7 0 ≡ true else wrongCertificate ∷ true else wrongCertificate ∷ false else wrongCertificate ∷ []
+place-used : matchFit used moved 0 7 0 ≡ true else wrongCertificate ∷ true else wrongCertificate ∷ false else wrongCertificate ∷ []
 unfolding computed
 place-used = refl
 

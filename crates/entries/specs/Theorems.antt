@@ -15,7 +15,7 @@ use Rattle.protocol.specs.Theorems.{Accepted, Refused, Lowest, below}
 use Rattle.entries.specs.declared.Entry.{Entry}
 use Rattle.entries.specs.Entries.{maxWaiting, waitingCountAt, keptPalletsAt, keptEarliestAt, entryWidth, entryAt, placeAt}
 use Rattle.entries.specs.Entries.{waitingWords, waitingCount, entries, waitingFormed, entryOf}
-use Rattle.entries.specs.Waiting.{Lent, lent, WaitingCall, Open, Enter, Withdraw, Match, Ask, matchNeeds, fitNeeds, waitingRule}
+use Rattle.entries.specs.Waiting.{Lent, lent, WaitingCall, Open, Enter, Withdraw, Match, Ask, matchNeeds, matchFit, waitingRule}
 use Rattle.entries.specs.Waiting.{waitingStep}
 use Rattle.entries.specs.Arrivals.{Event, matched, stillWaiting, palletsBy, passed, replicasBy, opensAmong, Kept, keptSlice, keptEvents}
 use Rattle.entries.specs.Arrivals.{Ledger, ledgerEnd, ledgerTold}
@@ -92,7 +92,7 @@ pub record WaitingOrder (s : Lent) : Type 0 where
       → List·Memᴰ (false else number) (matchNeeds s movements i identity place)
       → Lowest (waitingStep s (Match movements i identity place)) number
   pub fits : (movements : List ℕ) (i identity place : ℕ) → firstRefusal (matchNeeds s movements i identity place) ≡ 0
-      → (number : ℕ) → List·Memᴰ (false else number) (fitNeeds s movements i identity place)
+      → (number : ℕ) → List·Memᴰ (false else number) (matchFit s movements i identity place)
       → waitingStep s (Match movements i identity place) .answer .number ≡ wrongCertificate
   pub asks : (taker number : ℕ) → List·Memᴰ (false else number) (waitingRule s (Ask taker) .needs)
       → Lowest (waitingStep s (Ask taker)) number

@@ -86,13 +86,28 @@ replicasBy (entered e ∷ later) n = replicasBy later n
 replicasBy (withdrawn gone ∷ later) n = replicasBy later n
 replicasBy (matched gone place ∷ later) n = replicasBy later n
 
+abbrev pub opens : Event → Bool
+opens (opened n) = true
+opens (entered e) = false
+opens (withdrawn gone) = false
+opens (matched gone place) = false
+
 -- An opening is among the events.
 unfoldable pub opensAmong : List Event → Bool
 opensAmong [] = false
-opensAmong (opened n ∷ later) = true
-opensAmong (entered e ∷ later) = opensAmong later
-opensAmong (withdrawn gone ∷ later) = opensAmong later
-opensAmong (matched gone place ∷ later) = opensAmong later
+opensAmong (x ∷ later) = opens x || opensAmong later
+
+-- Whether an event takes an entry out by the movement at a place.
+abbrev pub takesOutBy : Event → ℕ → Bool
+takesOutBy (opened n) place = false
+takesOutBy (entered e) place = false
+takesOutBy (withdrawn gone) place = false
+takesOutBy (matched gone taking) place = eqb taking place
+
+-- "that took out no entry before": whether it took one out, with no opening after that.
+unfoldable pub usedBy : List Event → ℕ → Bool
+usedBy [] place = false
+usedBy (x ∷ later) place = (takesOutBy x place && not (opensAmong later)) || usedBy later place
 
 -- ---- "While these calls and opening alone change the slice": the ledger's three slices are anything at each call
 

@@ -1,7 +1,7 @@
 -- What is claimed of entries that wait: each field is a statement of this crate; proofs/Claims.antt holds the proof of each.
 use Rattle.entries.specs.Theorems.{RefusedWaitingChangesNothing, AcceptedWaitingLeavesForm, WaitingLeavesLedger}
 use Rattle.entries.specs.Theorems.{OnlyNamedWaitingChange, WaitingLowestWins, OpenWaitingOrder, OpenReadsNoEntry, AskIsPass}
-use Rattle.entries.specs.Theorems.{LedgerAnswersPass, NeverMoreWait, PlaceTakesOutOne, PalletsWaitingBounded}
+use Rattle.entries.specs.Theorems.{CallsAnswerByHistory, LedgerAnswersPass, NeverMoreWait, PlaceTakesOutOne, PalletsWaitingBounded}
 
 pub record Claims : Type 0 where
   -- a refused call returns the number of a need that fails and two zeros, and changes no word
@@ -20,6 +20,8 @@ pub record Claims : Type 0 where
   pub openReadsNoEntry : OpenReadsNoEntry
   -- an accepted Ask answers what a full pass over the history gives, whatever the three slices are
   pub askIsPass : AskIsPass
+  -- where the four slices have their form, each call returns what it needs of the entries that wait, and of the places used, by the history
+  pub callsAnswerByHistory : CallsAnswerByHistory
   -- in a ledger that its own calls alone change, every replica's Ask is accepted, and every entry that waits can be withdrawn
   pub ledgerAnswersPass : LedgerAnswersPass
   -- never more than 512 wait

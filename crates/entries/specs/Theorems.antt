@@ -7,18 +7,19 @@ use mathlib.Core.List.{List, [], _∷_, _++_, map, List·Memᴰ}
 use lib.ListN.{length, getD}
 use Rattle.protocol.specs.Memory.{Memory, replicaCount, faultBound}
 use Rattle.protocol.specs.Form.{wellFormed}
-use Rattle.protocol.specs.Outcome.{_else_, firstRefusal, wrongForm, wrongCertificate}
+use Rattle.protocol.specs.Outcome.{_else_, firstRefusal, wrongForm, outOfRange, wrongCertificate}
+use Rattle.protocol.specs.FirstNeeds.{isReplica}
 use Rattle.protocol.specs.Runs.{step}
 use Rattle.protocol.specs.declared.Call.the-variants as Plain
-use Rattle.movements.specs.Movements.{maxPallets}
+use Rattle.movements.specs.Movements.{maxPallets, isMovementList}
 use Rattle.protocol.specs.Theorems.{Accepted, Refused, Lowest, below}
 use Rattle.entries.specs.declared.Entry.{Entry}
 use Rattle.entries.specs.Entries.{maxWaiting, waitingCountAt, keptPalletsAt, keptEarliestAt, entryWidth, entryAt, placeAt}
 use Rattle.entries.specs.Entries.{waitingWords, waitingCount, entries, waitingFormed, entryOf}
-use Rattle.entries.specs.Waiting.{Lent, lent, WaitingCall, Open, Enter, Withdraw, Match, Ask, matchNeeds, matchFit, waitingRule}
-use Rattle.entries.specs.Waiting.{waitingStep}
-use Rattle.entries.specs.Arrivals.{Event, matched, stillWaiting, palletsBy, passed, replicasBy, opensAmong, Kept, keptSlice, keptEvents}
-use Rattle.entries.specs.Arrivals.{Ledger, ledgerEnd, ledgerTold}
+use Rattle.entries.specs.Waiting.{Lent, lent, arrivalNeeds, departureNeeds, namingNeeds, fitNeeds, matchNeeds, matchFit}
+use Rattle.entries.specs.Waiting.{WaitingCall, Open, Enter, Withdraw, Match, Ask, waitingRule, waitingStep}
+use Rattle.entries.specs.Arrivals.{Event, matched, stillWaiting, palletsBy, passed, replicasBy, opensAmong, usedBy, Kept, keptSlice}
+use Rattle.entries.specs.Arrivals.{keptEvents, Ledger, ledgerEnd, ledgerTold}
 
 -- ---- A refused call returns the number of a need that fails and two zeros, and leaves every word of the slice and of the three.
 
@@ -130,6 +131,28 @@ unfoldable pub AskIsPass : Type 0
 AskIsPass =
     (x : Kept) (m : Memory) (taker : ℕ) → Accepted (waitingStep (lent m (keptSlice x)) (Ask taker))
     → waitingStep (lent m (keptSlice x)) (Ask taker) .answer ≡ passed (keptEvents x) taker
+
+-- ---- The calls answer by the history: where the four slices have their form, each returns the number of the first of its needs that fails,
+-- with the entries that wait by the history and the places used by it.
+
+pub record AnswersBy (events : List Event) (s : Lent) : Type 0 where
+  pub enters : (e : Entry)
+      → waitingStep s (Enter e) .answer .number
+      ≡ firstRefusal (arrivalNeeds (replicaCount (faultBound (s .memory))) (stillWaiting events) e)
+  pub withdraws : (identity : ℕ)
+      → waitingStep s (Withdraw identity) .answer .number ≡ firstRefusal (departureNeeds (stillWaiting events) identity)
+  pub matches : (movements : List ℕ) (i identity place : ℕ)
+      → waitingStep s (Match movements i identity place) .answer .number
+      ≡ firstRefusal
+      (isMovementList movements else wrongForm
+      ∷ (namingNeeds (s .memory) (stillWaiting events) movements i identity place
+      ++ fitNeeds (s .memory) (stillWaiting events) (usedBy events place) movements i identity place))
+  pub asks : (taker : ℕ)
+      → waitingStep s (Ask taker) .answer .number ≡ firstRefusal (isReplica (s .memory) taker else outOfRange ∷ [])
+
+unfoldable pub CallsAnswerByHistory : Type 0
+CallsAnswerByHistory =
+    (x : Kept) (m : Memory) → FormLeft (lent m (keptSlice x)) → AnswersBy (keptEvents x) (lent m (keptSlice x))
 
 -- ---- Where the three slices too are changed by the ledger's own calls alone, and no plain opening is among them, the Ask of every replica
 -- is accepted, and every entry that waits by the history can be withdrawn.

@@ -174,7 +174,7 @@ module _ (past : List Event) (m : Memory) (w : List ℕ) (h : Told past w) where
       ap (λ (o : WaitingOutcome). o .answer) (sym (accepts (lent m w) rule (sym pass)))
       ∙ rw (l .pallets taker own, l .earliest taker own, pallets-by past taker, earliest-by past taker)
 
-  by-history : FormLeft (lent m w) → AnswersBy past (lent m w)
+  pub by-history : FormLeft (lent m w) → AnswersBy past (lent m w)
   unfolding waitingStep waitingRule enterRule withdrawRule matchRule askRule firstRefusal
   by-history form =
       let s = lent m w in

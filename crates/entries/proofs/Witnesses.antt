@@ -23,8 +23,8 @@ use Rattle.entries.specs.Entries.{earliestFor, holding, refreshed}
 use Rattle.entries.specs.Waiting.{Lent, lent, WaitingOutcome, WaitingCall, Open, Enter, Withdraw, Match, Ask, openRule, enterRule}
 use Rattle.entries.specs.Waiting.{withdrawRule, matchRule, askRule, matchNeeds, matchFit, waitingRule, waitingStep}
 use Rattle.entries.specs.Arrivals.{Event, opened, entered, matched, eventsOf, leaves, stillWaiting, palletsBy, earliestBy}
-use Rattle.entries.specs.Arrivals.{replicasBy, opensAmong, sliceAfter, history, Kept, keptSlice, keptEvents, LedgerCall, plain}
-use Rattle.entries.specs.Arrivals.{waiting, ledgerStep, ledgerAfter, ledgerHistory, OpensNonePlainly, Ledger, ledgerEnd, ledgerTold}
+use Rattle.entries.specs.Arrivals.{replicasBy, opensAmong, sliceAfter, history, Kept, keptSlice, keptEvents, plain, waiting}
+use Rattle.entries.specs.Arrivals.{ledgerStep, ledgerAfter, ledgerHistory, Ledger, ledgerEnd, ledgerTold}
 use Rattle.entries.specs.Theorems.{WaitingLowestWins, AskIsPass, LedgerAnswersPass, PlaceTakesOutOne}
 
 -- Everything that the calls are made of opens with this.
@@ -116,16 +116,16 @@ unfolding WaitingLowestWins
 waiting-lowest-wins-used statement =
     statement used .fits moved 0 7 0 all-else 5 (rw place-used (List·Memᴰ·tail (List·Memᴰ·tail (List·Memᴰ·head refl))))
 
--- A ledger: a block, entry 7, and an opening that is refused.
-abbrev calls : List LedgerCall
-calls = plain (unlisted (Plain.Block 0)) ∷ waiting (Enter seven) ∷ plain (unlisted (Plain.Open 0)) ∷ []
-
-pub none-plainly : OpensNonePlainly (waitingStep start (Open 1 []) .state) calls
-unfolding computed
-none-plainly = (refl, (refl, (refl, tt)))
-
+-- A ledger: a block, entry 7, and an opening that is not lent the slice: the entry waits on.
 abbrev ledger : Ledger
-ledger = record { start = start; f = 1; steps = []; calls = calls; accepted = opens; none = none-plainly }
+ledger =
+    record {
+      start = start;
+      f = 1;
+      steps = [];
+      calls = plain (unlisted (Plain.Block 0)) ∷ waiting (Enter seven) ∷ plain (unlisted (Plain.Open 1)) ∷ [];
+      accepted = opens;
+    }
 
 ledger-told : ledgerTold ledger ≡ opened 3 ∷ entered seven ∷ []
 unfolding computed

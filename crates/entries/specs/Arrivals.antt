@@ -1,14 +1,13 @@
 -- Lists of calls on entries that wait, and what they and their answers tell: "the history of arrivals and departures since the last opening"
 -- (document 02, #108). Events are told from calls and answers, never from a word, the oldest first.
 use Prim.Native.Nat.{ℕ, _+_}
-use mathlib.Core.Path.{_≡_}
 use mathlib.Core.Bool.{Bool, true, false, cond, not, _&&_, _||_}
 use mathlib.Core.List.{List, [], _∷_, _++_}
 use lib.Dec.{eqb}
 use Rattle.protocol.specs.Memory.{Memory}
 use Rattle.protocol.specs.Outcome.{Answer}
 use Rattle.protocol.specs.Runs.{Invocation, step}
-use Rattle.protocol.specs.Theorems.{Accepted, isOpening}
+use Rattle.protocol.specs.Theorems.{Accepted}
 use Rattle.entries.specs.declared.Entry.{Entry}
 use Rattle.entries.specs.Waiting.{Lent, lent, WaitingOutcome, WaitingCall, Open, Enter, Withdraw, Match, Ask, waitingStep}
 
@@ -162,11 +161,6 @@ abbrev pub ledgerEvents : LedgerCall → Answer → List Event
 ledgerEvents (plain q) a = []
 ledgerEvents (waiting call) a = eventsOf call a
 
--- An accepted opening that is not lent the further slice.
-abbrev pub opensPlainly : Lent → LedgerCall → Bool
-opensPlainly s (plain q) = isOpening (q .call) && eqb (ledgerStep s (plain q) .answer .number) 0
-opensPlainly s (waiting call) = false
-
 unfoldable pub ledgerAfter : Lent → List LedgerCall → Lent
 ledgerAfter s [] = s
 ledgerAfter s (q ∷ qs) = ledgerAfter (ledgerStep s q .state) qs
@@ -175,21 +169,15 @@ unfoldable pub ledgerHistory : Lent → List LedgerCall → List Event
 ledgerHistory s [] = []
 ledgerHistory s (q ∷ qs) = ledgerEvents q (ledgerStep s q .answer) ++ ledgerHistory (ledgerStep s q .state) qs
 
--- None of the calls is such an opening.
-abbrev pub OpensNonePlainly : Lent → List LedgerCall → Type 0
-OpensNonePlainly s [] = Unit {0}
-OpensNonePlainly s (q ∷ qs) = (opensPlainly s q ≡ false) × OpensNonePlainly (ledgerStep s q .state) qs
-
--- An accepted opening with the slice, and calls after it: the eleven, openings with the slice, refused openings, and those on entries.
--- A plain opening is left out: it leaves the further slice, and after one with another f an entry's taker may be no replica any more, so
--- that every call on entries gives 1.
+-- An accepted opening with the slice, and any calls after it. A plain opening is allowed: it leaves the further slice as it is and tells
+-- nothing. With another f (a table of another length, which only a caller that lends other slices can bring) an entry's giver or taker may
+-- be no replica any more, and then the calls on entries give 1.
 pub record Ledger : Type 0 where
   pub start : Lent
   pub f : ℕ
   pub steps : List ℕ
   pub calls : List LedgerCall
   pub accepted : Accepted (waitingStep start (Open f steps))
-  pub none : OpensNonePlainly (waitingStep start (Open f steps) .state) calls
 
 abbrev pub openedLedger : Ledger → Lent
 openedLedger x = waitingStep (x .start) (Open (x .f) (x .steps)) .state

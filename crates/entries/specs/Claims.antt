@@ -20,9 +20,10 @@ pub record Claims : Type 0 where
   pub openReadsNoEntry : OpenReadsNoEntry
   -- an accepted Ask answers what a full pass over the history gives, whatever the three slices are
   pub askIsPass : AskIsPass
-  -- where the four slices have their form, each call returns what it needs of the entries that wait, and of the places used, by the history
+  -- where the four slices have their form, a call's number is told by the entries that wait, and the places used, by the history
   pub callsAnswerByHistory : CallsAnswerByHistory
-  -- in a ledger that its own calls alone change, every replica's Ask is accepted, and every entry that waits can be withdrawn
+  -- in a ledger that its own calls alone change, every replica's Ask is accepted, every entry that waits can be withdrawn, and all calls
+  -- answer by the history
   pub ledgerAnswersPass : LedgerAnswersPass
   -- never more than 512 wait
   pub neverMoreWait : NeverMoreWait

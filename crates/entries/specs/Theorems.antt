@@ -154,14 +154,15 @@ unfoldable pub CallsAnswerByHistory : Type 0
 CallsAnswerByHistory =
     (x : Kept) (m : Memory) → FormLeft (lent m (keptSlice x)) → AnswersBy (keptEvents x) (lent m (keptSlice x))
 
--- ---- Where the three slices too are changed by the ledger's own calls alone, and no plain opening is among them, the Ask of every replica
--- is accepted, and every entry that waits by the history can be withdrawn.
+-- ---- Where the three slices too are changed by the ledger's own calls alone, the Ask of every replica is accepted, every entry that waits
+-- by the history can be withdrawn, and all calls answer by it.
 
 pub record Answers (x : Ledger) : Type 0 where
   pub asks : (taker : ℕ) → taker < replicasBy (ledgerTold x) 0
       → waitingStep (ledgerEnd x) (Ask taker) .answer ≡ passed (ledgerTold x) taker
   pub withdraws : (e : Entry) → List·Memᴰ e (stillWaiting (ledgerTold x))
       → Accepted (waitingStep (ledgerEnd x) (Withdraw (e .identity)))
+  pub calls : AnswersBy (ledgerTold x) (ledgerEnd x)
 
 unfoldable pub LedgerAnswersPass : Type 0
 LedgerAnswersPass = (x : Ledger) → Answers x

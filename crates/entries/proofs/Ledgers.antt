@@ -2,28 +2,24 @@
 use Prim.Native.Nat.{ℕ, _<_}
 use mathlib.Core.Path.{_≡_, refl, sym, ap, _∙_}
 use mathlib.Core.Bool.{true, false}
-use mathlib.Core.Logic.{⊎-elim}
-use mathlib.Core.List.{List, [], _∷_, _++_, append-nil, append-assoc, List·Memᴰ, List·Memᴰ·cases-cons, List·Memᴰ·not-nil}
+use mathlib.Core.List.{List, [], _∷_, _++_, append-nil, append-assoc, List·Memᴰ}
 use native.Mathlib.Omega.{arith}
 use lib.Dec.{eqb, eqb·suc-zero}
 use Rattle.protocol.specs.declared.Call.{Call}
-use Rattle.protocol.specs.declared.Call.the-variants as Plain
-use Rattle.protocol.specs.Memory.{Memory, replicaCount, faultBoundAt, faultBound}
-use Rattle.protocol.specs.Form.{lengthsFit, wellFormed}
+use Rattle.protocol.specs.Memory.{Memory, replicaCount, faultBound}
+use Rattle.protocol.specs.Form.{wellFormed}
 use Rattle.protocol.specs.Outcome.{Answer, firstRefusal}
 use Rattle.protocol.specs.Calls.{opening}
-use Rattle.protocol.specs.Runs.{ruleOf, step}
-use Rattle.protocol.specs.Theorems.{Accepted, Address, tableWord, logWord, blockWord, wordAt, named, RefusedChangesNothing}
-use Rattle.protocol.specs.Theorems.{AcceptedLeavesForm, OnlyNamedChange}
-use Rattle.protocol.proofs.logic.Booleans.{tests, by-test, each}
+use Rattle.protocol.specs.Runs.{step}
+use Rattle.protocol.specs.Theorems.{Accepted, RefusedChangesNothing, AcceptedLeavesForm, LengthsStay}
+use Rattle.protocol.proofs.logic.Booleans.{tests, by-test}
 use Rattle.protocol.proofs.memory.Formed.{sizes}
 use Rattle.protocol.proofs.memory.Formed as Memory
 use Rattle.protocol.proofs.memory.Opened as Opening
-use Rattle.protocol.proofs.calls.Needs.{all-needs, none-refuses, outcome-cases, outcome-state, no-refusal, accepted-holds, accepted-after}
-use Rattle.protocol.proofs.calls.Needs.{accepted-first}
+use Rattle.protocol.proofs.calls.Needs.{all-needs, none-refuses, outcome-cases, outcome-state, no-refusal, accepted-after, accepted-first}
 use Rattle.protocol.proofs.calls.Rules.{refused-changes-nothing}
 use Rattle.protocol.proofs.calls.LeavesForm.{accepted-leaves-form}
-use Rattle.protocol.proofs.calls.Frame.{only-named-change}
+use Rattle.protocol.proofs.calls.Frame.{lengths-stay}
 use Rattle.entries.specs.declared.Entry.{Entry}
 use Rattle.entries.specs.Waiting.{Lent, lent, WaitingCall, Open, Enter, Withdraw, Match, Ask, openRule, enterRule, withdrawRule}
 use Rattle.entries.specs.Waiting.{matchRule, askRule, waitingRule, waitingStep}
@@ -37,68 +33,27 @@ use Rattle.entries.proofs.Needs.{Ready, ready}
 use Rattle.entries.proofs.Rules.{form-left, accepted-waiting-leaves-form}
 use Rattle.entries.proofs.Histories.{Told, told-step, asked, by-history, opening-told}
 
--- ---- no call on the three slices changes the fault bound
-
--- An address past the word of the fault bound.
-abbrev Past : Address → Type 0
-Past (tableWord k) = faultBoundAt < k
-Past (logWord k) = Unit {0}
-Past (blockWord k) = Unit {0}
-
-abbrev AllPast : List Address → Type 0
-AllPast [] = Unit {0}
-AllPast (a ∷ rest) = Past a × AllPast rest
-
-not-past : (xs : List Address) → AllPast xs → List·Memᴰ (tableWord faultBoundAt) xs → ⊥
-not-past [] h w = List·Memᴰ·not-nil w
-not-past (a ∷ rest) h w =
-    ⊎-elim (λ (e : tableWord faultBoundAt ≡ a). let low = rw (← e) at (h .0) in omega arith) (λ v. not-past rest (h .1) v)
-    (List·Memᴰ·cases-cons w)
-
-faults-stay : (m : Memory) (call : Call) (list : List ℕ) → AllPast (named m call) → faultBound (step m call list .state) ≡ faultBound m
-unfolding OnlyNamedChange wordAt
-faults-stay m call list h = only-named-change m call list (tableWord faultBoundAt) (not-past (named m call) h)
-
--- An accepted opening is one for the table's length.
-opening-faults : (m : Memory) (f : ℕ) (steps : List ℕ) → Accepted (step m (Plain.Open f) steps) → wellFormed m ≡ true
-    → faultBound (step m (Plain.Open f) steps .state) ≡ faultBound m
-unfolding step ruleOf opening lengthsFit
-opening-faults m f steps accepted whole =
-    let h = accepted-holds m (opening m f steps) refl accepted in
-    let own = sizes m (Memory.formed m whole) in
-    let fit = each _ (h .1 .1 .0) in
-    rw (accepted-after m (opening m f steps) accepted)
-    (Opening.opened m f steps (h .1 .0) (h .1 .1 .0) .header .faults ∙ omega tests)
-
-accepted-faults : (m : Memory) (call : Call) (list : List ℕ) → Accepted (step m call list) → wellFormed m ≡ true
-    → faultBound (step m call list .state) ≡ faultBound m
-unfolding named
-accepted-faults m (Plain.Open f) list accepted whole = opening-faults m f list accepted whole
-accepted-faults m (Plain.Block p) list accepted whole = faults-stay m (Plain.Block p) list (omega arith)
-accepted-faults m (Plain.Prepare i b justification) list accepted whole = faults-stay m (Plain.Prepare i b justification) list (omega arith)
-accepted-faults m (Plain.Store i number) list accepted whole = faults-stay m (Plain.Store i number) list (omega arith)
-accepted-faults m (Plain.View i w) list accepted whole = faults-stay m (Plain.View i w) list (omega arith)
-accepted-faults m (Plain.Accumulate i) list accepted whole = faults-stay m (Plain.Accumulate i) list (omega arith)
-accepted-faults m (Plain.Decide i) list accepted whole = faults-stay m (Plain.Decide i) list (omega arith)
-accepted-faults m (Plain.Reboot i) list accepted whole = faults-stay m (Plain.Reboot i) list (omega arith)
-accepted-faults m (Plain.Reserve i) list accepted whole = faults-stay m (Plain.Reserve i) list (omega arith)
-accepted-faults m (Plain.Request i) list accepted whole = faults-stay m (Plain.Request i) list (omega arith)
-accepted-faults m (Plain.Reply i number) list accepted whole = faults-stay m (Plain.Reply i number) list (omega arith)
-accepted-faults m (Plain.Recover i) list accepted whole = faults-stay m (Plain.Recover i) list (omega arith)
+-- ---- a call on the three slices leaves their form and the fault bound, which the table's length tells
 
 pub record Stays (m m′ : Memory) : Type 0 where
   pub formed : wellFormed m′ ≡ true
   pub faults : faultBound m′ ≡ faultBound m
 
-plain-stays : (m : Memory) (call : Call) (list : List ℕ) → wellFormed m ≡ true → Stays m (step m call list .state)
+form-stays : (m : Memory) (call : Call) (list : List ℕ) → wellFormed m ≡ true → wellFormed (step m call list .state) ≡ true
 unfolding AcceptedLeavesForm RefusedChangesNothing
+form-stays m call list whole =
+    by-test (eqb (step m call list .answer .number) 0) (λ accepted. accepted-leaves-form m call list (omega tests))
+    (λ refused. rw (refused-changes-nothing m call list (λ accepted. omega tests) .state) whole)
+
+plain-stays : (m : Memory) (call : Call) (list : List ℕ) → wellFormed m ≡ true → Stays m (step m call list .state)
+unfolding LengthsStay
 plain-stays m call list whole =
-    by-test (eqb (step m call list .answer .number) 0)
-    (λ hit.
-    let accepted : step m call list .answer .number ≡ 0 = omega tests in
-    record { formed = accepted-leaves-form m call list accepted; faults = accepted-faults m call list accepted whole })
-    (λ miss.
-    rw (refused-changes-nothing m call list (λ accepted. omega tests) .state) (record { formed = whole; faults = refl }))
+    let left = step m call list .state in
+    let formed = form-stays m call list whole in
+    let before = sizes m (Memory.formed m whole) in
+    let after = sizes left (Memory.formed left formed) in
+    let same = lengths-stay m call list in
+    record { formed = formed; faults = omega arith }
 
 -- ---- what holds after each call
 

@@ -1,7 +1,8 @@
 -- What is claimed of entries that wait: each field is a statement of this crate; proofs/Claims.antt holds the proof of each.
 use Rattle.entries.specs.Theorems.{RefusedWaitingChangesNothing, AcceptedWaitingLeavesForm, WaitingLeavesLedger}
 use Rattle.entries.specs.Theorems.{OnlyNamedWaitingChange, WaitingLowestWins, OpenWaitingOrder, OpenReadsNoEntry, AskIsPass}
-use Rattle.entries.specs.Theorems.{CallsAnswerByHistory, LedgerAnswersPass, NeverMoreWait, PlaceTakesOutOne, PalletsWaitingBounded}
+use Rattle.entries.specs.Theorems.{CallsAnswerByHistory, LedgerAnswersPass, NeverMoreWait, PlaceTakesOutOne, WaitingNumbersListed}
+use Rattle.entries.specs.Theorems.{PalletsWaitingBounded}
 
 pub record Claims : Type 0 where
   -- a refused call returns the number of a need that fails and two zeros, and changes no word
@@ -29,5 +30,7 @@ pub record Claims : Type 0 where
   pub neverMoreWait : NeverMoreWait
   -- a place takes out at most one entry between two openings
   pub placeTakesOutOne : PlaceTakesOutOne
+  -- a call returns only the numbers listed for it
+  pub waitingNumbersListed : WaitingNumbersListed
   -- the pallets waiting for a taker are at most 5,120,000
   pub palletsWaitingBounded : PalletsWaitingBounded

@@ -7,7 +7,8 @@ use mathlib.Core.List.{List, [], _∷_, _++_, map, List·Memᴰ}
 use lib.ListN.{length, getD}
 use Rattle.protocol.specs.Memory.{Memory, replicaCount, faultBound}
 use Rattle.protocol.specs.Form.{wellFormed}
-use Rattle.protocol.specs.Outcome.{_else_, firstRefusal, wrongForm, outOfRange, wrongCertificate}
+use Rattle.protocol.specs.Outcome.{_else_, firstRefusal, wrongForm, outOfRange, unknownNumber, wrongCertificate, wrongMovement, wrongSteps}
+use Rattle.protocol.specs.Outcome.{wrongIdentity, waitingFull}
 use Rattle.protocol.specs.FirstNeeds.{isReplica}
 use Rattle.protocol.specs.Runs.{step}
 use Rattle.protocol.specs.declared.Call.the-variants as Plain
@@ -179,7 +180,20 @@ PlaceTakesOutOne =
     (x : Kept) (before between after : List Event) (first second place : ℕ)
     → keptEvents x ≡ before ++ (matched first place ∷ (between ++ (matched second place ∷ after))) → opensAmong between ≡ true
 
--- ---- Answers: a number is one of those listed for these calls, and the pallets waiting for a taker are at most 5,120,000 (512 times 10,000).
+-- ---- A call returns only the numbers listed for it; 0 is "accepted".
+
+unfoldable pub mayAnswer : WaitingCall → List ℕ
+mayAnswer (Open f steps) = 0 ∷ outOfRange ∷ wrongSteps ∷ wrongForm ∷ []
+mayAnswer (Enter e) = 0 ∷ wrongForm ∷ wrongMovement ∷ wrongIdentity ∷ waitingFull ∷ []
+mayAnswer (Withdraw identity) = 0 ∷ wrongForm ∷ wrongIdentity ∷ []
+mayAnswer (Match movements i identity place) =
+    0 ∷ wrongForm ∷ outOfRange ∷ unknownNumber ∷ wrongMovement ∷ wrongIdentity ∷ wrongCertificate ∷ []
+mayAnswer (Ask taker) = 0 ∷ wrongForm ∷ outOfRange ∷ []
+
+unfoldable pub WaitingNumbersListed : Type 0
+WaitingNumbersListed = (s : Lent) (call : WaitingCall) → List·Memᴰ (waitingStep s call .answer .number) (mayAnswer call)
+
+-- ---- The pallets waiting for a taker are at most 5,120,000 (512 times 10,000).
 
 abbrev pub maxPalletsWaiting : ℕ
 maxPalletsWaiting = maxWaiting * maxPallets

@@ -18,7 +18,7 @@ use Rattle.entries.specs.Entries.{maxReplicas, placeAt, isUsed, entryOf,
 use Rattle.entries.specs.Waiting.{Lent, lent, WaitingOutcome, WaitingCall, Open, Enter, Withdraw, Match, Ask, openRule, enterRule}
 use Rattle.entries.specs.Waiting.{withdrawRule, matchRule, askRule, waitingRule, waitingStep, departed}
 use Rattle.entries.specs.Arrivals.{Event, opened, entered, withdrawn, matched, acceptedEvents, eventsOf, stillWaiting, passed}
-use Rattle.entries.specs.Arrivals.{usedBy, LentCall, callOn, sliceAfter, history, Kept, openedSlice, keptSlice, keptEvents}
+use Rattle.entries.specs.Arrivals.{usedBy, LentCall, callOn, sliceAfter, history, SliceRun, openedSlice, sliceEnd, sliceTold}
 use Rattle.entries.specs.Theorems.{FormLeft, AskIsPass, AnswersBy, CallsAnswerByHistory, NeverMoreWait, PlaceTakesOutOne}
 use Rattle.entries.specs.Theorems.{PalletsWaitingBounded}
 use Rattle.entries.proofs.Lists.{All, Apart, all-joined, all-without, apart-joined, apart-without, pallets-small}
@@ -215,33 +215,33 @@ pub opening-told : (s : Lent) (f : ℕ) (steps : List ℕ) → Accepted (waiting
 unfolding waitingStep waitingRule openRule eventsOf
 opening-told s f steps accepted = rw (accepted-after s (openRule s f steps) accepted, accepted) (told-opened [] _)
 
-kept-told : (x : Kept) → Told (keptEvents x) (keptSlice x)
-kept-told x = told-after (x .calls) _ (openedSlice x) (opening-told (x .start) (x .f) (x .steps) (x .accepted))
+slice-told : (x : SliceRun) → Told (sliceTold x) (sliceEnd x)
+slice-told x = told-after (x .calls) _ (openedSlice x) (opening-told (x .start) (x .f) (x .steps) (x .accepted))
 
 pub ask-is-pass : AskIsPass
 unfolding AskIsPass
-ask-is-pass x m taker accepted = asked (keptEvents x) m (keptSlice x) (kept-told x) taker accepted
+ask-is-pass x m taker accepted = asked (sliceTold x) m (sliceEnd x) (slice-told x) taker accepted
 
 pub calls-answer-by-history : CallsAnswerByHistory
 unfolding CallsAnswerByHistory
-calls-answer-by-history x m form = by-history (keptEvents x) m (keptSlice x) (kept-told x) form
+calls-answer-by-history x m form = by-history (sliceTold x) m (sliceEnd x) (slice-told x) form
 
 pub never-more-wait : NeverMoreWait
 unfolding NeverMoreWait
-never-more-wait x = kept-told x .listed .slice .few
+never-more-wait x = slice-told x .listed .slice .few
 
 pub pallets-waiting-bounded : PalletsWaitingBounded
 unfolding PalletsWaitingBounded
 pallets-waiting-bounded x taker =
-    let l = kept-told x .listed in
+    let l = slice-told x .listed in
     let few = l .slice .few in
-    let by = pallets-by (keptEvents x) taker in
-    let small = pallets-small taker maxPallets (stillWaiting (keptEvents x)) (l .small) in
+    let by = pallets-by (sliceTold x) taker in
+    let small = pallets-small taker maxPallets (stillWaiting (sliceTold x)) (l .small) in
     omega arith
 
-kept-once : (x : Kept) (place : ℕ) → Once place [] (keptEvents x)
+slice-once : (x : SliceRun) (place : ℕ) → Once place [] (sliceTold x)
 unfolding eventsOf usedBy
-kept-once x place =
+slice-once x place =
     let call = Open (x .f) (x .steps) in
     let events = eventsOf call (waitingStep (x .start) call .answer) in
     once-append place [] events (history (openedSlice x) (x .calls)) (rw (x .accepted) (λ q. refl, tt))
@@ -250,4 +250,4 @@ kept-once x place =
 pub place-takes-out-one : PlaceTakesOutOne
 unfolding PlaceTakesOutOne
 place-takes-out-one x before between after first second place is =
-    once-opens place first second before between after (rw is at (kept-once x place))
+    once-opens place first second before between after (rw is at (slice-once x place))

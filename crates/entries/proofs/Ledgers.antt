@@ -24,7 +24,7 @@ use Rattle.entries.specs.declared.Entry.{Entry}
 use Rattle.entries.specs.Waiting.{Lent, lent, WaitingCall, Open, Enter, Withdraw, Match, Ask, openRule, enterRule, withdrawRule}
 use Rattle.entries.specs.Waiting.{matchRule, askRule, waitingRule, waitingStep}
 use Rattle.entries.specs.Arrivals.{Event, opened, entered, withdrawn, matched, acceptedEvents, eventsOf, stillWaiting, replicasBy}
-use Rattle.entries.specs.Arrivals.{LedgerCall, plain, waiting, ledgerStep, ledgerEvents, ledgerAfter, ledgerHistory, Ledger}
+use Rattle.entries.specs.Arrivals.{LedgerCall, plain, onEntries, ledgerStep, ledgerEvents, ledgerAfter, ledgerHistory, LedgerRun}
 use Rattle.entries.specs.Arrivals.{openedLedger, ledgerEnd, ledgerTold}
 use Rattle.entries.specs.Theorems.{FormLeft, AcceptedWaitingLeavesForm, AnswersBy, LedgerAnswersPass}
 use Rattle.entries.proofs.Lists.{member-waits}
@@ -120,7 +120,7 @@ module _ (past : List Event) (s : Lent) (h : Stands past s) where
   stands-step : (q : LedgerCall) → Stands (past ++ ledgerEvents q (ledgerStep s q .answer)) (ledgerStep s q .state)
   unfolding ledgerStep
   stands-step (plain q) = plain-stands (q .call) (q .list) (plain-stays (s .memory) (q .call) (q .list) (h .ready .memory))
-  stands-step (waiting call) = waiting-stands call
+  stands-step (onEntries call) = waiting-stands call
 
 stands-after : (qs : List LedgerCall) (past : List Event) (s : Lent) → Stands past s
     → Stands (past ++ ledgerHistory s qs) (ledgerAfter s qs)
@@ -146,7 +146,7 @@ opening-stands s f steps accepted =
           (accepted-first s rule accepted ∙ opened-replicas s f steps (no-refusal s rule accepted));
     }
 
-ledger-stands : (x : Ledger) → Stands (ledgerTold x) (ledgerEnd x)
+ledger-stands : (x : LedgerRun) → Stands (ledgerTold x) (ledgerEnd x)
 ledger-stands x =
     stands-after (x .calls) _ (openedLedger x) (opening-stands (x .start) (x .f) (x .steps) (x .accepted))
 

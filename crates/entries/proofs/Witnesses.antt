@@ -23,8 +23,8 @@ use Rattle.entries.specs.Entries.{earliestFor, holding, refreshed}
 use Rattle.entries.specs.Waiting.{Lent, lent, WaitingOutcome, WaitingCall, Open, Enter, Withdraw, Match, Ask, openRule, enterRule}
 use Rattle.entries.specs.Waiting.{withdrawRule, matchRule, askRule, matchNeeds, matchFit, waitingRule, waitingStep}
 use Rattle.entries.specs.Arrivals.{Event, opened, entered, matched, eventsOf, leaves, stillWaiting, palletsBy, earliestBy}
-use Rattle.entries.specs.Arrivals.{replicasBy, opensAmong, sliceAfter, history, Kept, keptSlice, keptEvents, plain, waiting}
-use Rattle.entries.specs.Arrivals.{ledgerStep, ledgerAfter, ledgerHistory, Ledger, ledgerEnd, ledgerTold}
+use Rattle.entries.specs.Arrivals.{replicasBy, opensAmong, sliceAfter, history, SliceRun, sliceEnd, sliceTold, plain, onEntries}
+use Rattle.entries.specs.Arrivals.{ledgerStep, ledgerAfter, ledgerHistory, LedgerRun, ledgerEnd, ledgerTold}
 use Rattle.entries.specs.Theorems.{WaitingLowestWins, AskIsPass, LedgerAnswersPass, PlaceTakesOutOne}
 
 -- Everything that the calls are made of opens with this.
@@ -67,31 +67,31 @@ abbrev moved : List ℕ
 moved = 1 ∷ 0 ∷ 1 ∷ 5 ∷ []
 
 -- Calls on that memory, after the opening of the other.
-abbrev keptBy : List WaitingCall → Kept
-keptBy calls =
+abbrev runOf : List WaitingCall → SliceRun
+runOf calls =
     record { start = start; f = 1; steps = []; calls = map (λ call. record { memory = shown; call = call }) calls; accepted = opens }
 
 -- Entry 7 leaves and comes again: it stands last.
-abbrev back : Kept
-back = keptBy (Enter seven ∷ Enter eight ∷ Withdraw 7 ∷ Enter seven ∷ [])
+abbrev back : SliceRun
+back = runOf (Enter seven ∷ Enter eight ∷ Withdraw 7 ∷ Enter seven ∷ [])
 
-ask-accepted : Accepted (waitingStep (lent shown (keptSlice back)) (Ask 1))
+ask-accepted : Accepted (waitingStep (lent shown (sliceEnd back)) (Ask 1))
 unfolding computed
 ask-accepted = refl
 
 pub ask-is-pass-used : AskIsPass
-    → waitingStep (lent shown (keptSlice back)) (Ask 1) .answer ≡ record { number = 0; first = 9; second = 8 }
+    → waitingStep (lent shown (sliceEnd back)) (Ask 1) .answer ≡ record { number = 0; first = 9; second = 8 }
 unfolding AskIsPass computed
 ask-is-pass-used statement = statement back shown 1 ask-accepted ∙ refl
 
 -- Place 0 takes out entry 7; again after an opening, which lies between.
-abbrev twice : Kept
-twice = keptBy (Enter seven ∷ Match moved 0 7 0 ∷ Open 1 [] ∷ Enter seven ∷ Match moved 0 7 0 ∷ [])
+abbrev twice : SliceRun
+twice = runOf (Enter seven ∷ Match moved 0 7 0 ∷ Open 1 [] ∷ Enter seven ∷ Match moved 0 7 0 ∷ [])
 
 abbrev before : List Event
 before = opened 3 ∷ entered seven ∷ []
 
-twice-told : keptEvents twice ≡ before ++ (matched 7 0 ∷ (before ++ (matched 7 0 ∷ [])))
+twice-told : sliceTold twice ≡ before ++ (matched 7 0 ∷ (before ++ (matched 7 0 ∷ [])))
 unfolding computed
 twice-told = refl
 
@@ -101,7 +101,7 @@ place-takes-out-one-used statement = statement twice before before [] 7 7 0 twic
 
 -- Without it the second match is refused with 5, since all else holds.
 abbrev used : Lent
-used = lent shown (keptSlice (keptBy (Enter seven ∷ Match moved 0 7 0 ∷ Enter seven ∷ [])))
+used = lent shown (sliceEnd (runOf (Enter seven ∷ Match moved 0 7 0 ∷ Enter seven ∷ [])))
 
 all-else : firstRefusal (matchNeeds used moved 0 7 0) ≡ 0
 unfolding computed
@@ -117,13 +117,13 @@ waiting-lowest-wins-used statement =
     statement used .fits moved 0 7 0 all-else 5 (rw place-used (List·Memᴰ·tail (List·Memᴰ·tail (List·Memᴰ·head refl))))
 
 -- A ledger: a block, entry 7, and an opening that is not lent the slice: the entry waits on.
-abbrev ledger : Ledger
+abbrev ledger : LedgerRun
 ledger =
     record {
       start = start;
       f = 1;
       steps = [];
-      calls = plain (unlisted (Plain.Block 0)) ∷ waiting (Enter seven) ∷ plain (unlisted (Plain.Open 1)) ∷ [];
+      calls = plain (unlisted (Plain.Block 0)) ∷ onEntries (Enter seven) ∷ plain (unlisted (Plain.Open 1)) ∷ [];
       accepted = opens;
     }
 

@@ -127,21 +127,21 @@ history w [] = []
 history w (q ∷ qs) = eventsOf (q .call) (callOn w q .answer) ++ history (callOn w q .state .waiting) qs
 
 -- An accepted opening with the slice, whatever the four slices held, and calls after it, further openings with the slice among them.
-pub record Kept : Type 0 where
+pub record SliceRun : Type 0 where
   pub start : Lent
   pub f : ℕ
   pub steps : List ℕ
   pub calls : List LentCall
   pub accepted : Accepted (waitingStep start (Open f steps))
 
-abbrev pub openedSlice : Kept → List ℕ
+abbrev pub openedSlice : SliceRun → List ℕ
 openedSlice x = waitingStep (x .start) (Open (x .f) (x .steps)) .state .waiting
 
-abbrev pub keptSlice : Kept → List ℕ
-keptSlice x = sliceAfter (openedSlice x) (x .calls)
+abbrev pub sliceEnd : SliceRun → List ℕ
+sliceEnd x = sliceAfter (openedSlice x) (x .calls)
 
-abbrev pub keptEvents : Kept → List Event
-keptEvents x =
+abbrev pub sliceTold : SliceRun → List Event
+sliceTold x =
     eventsOf (Open (x .f) (x .steps)) (waitingStep (x .start) (Open (x .f) (x .steps)) .answer) ++ history (openedSlice x) (x .calls)
 
 -- ---- a ledger whose three slices too are changed by its own calls alone
@@ -149,17 +149,17 @@ keptEvents x =
 -- One of the twelve calls, lent the three slices, or one that is lent the four.
 pub data LedgerCall : Type 0 where
   plain : Invocation → LedgerCall
-  waiting : WaitingCall → LedgerCall
+  onEntries : WaitingCall → LedgerCall
 
 unfoldable pub ledgerStep : Lent → LedgerCall → WaitingOutcome
 ledgerStep s (plain q) =
     let o = step (s .memory) (q .call) (q .list) in
     record { answer = o .answer; state = lent (o .state) (s .waiting) }
-ledgerStep s (waiting call) = waitingStep s call
+ledgerStep s (onEntries call) = waitingStep s call
 
 abbrev pub ledgerEvents : LedgerCall → Answer → List Event
 ledgerEvents (plain q) a = []
-ledgerEvents (waiting call) a = eventsOf call a
+ledgerEvents (onEntries call) a = eventsOf call a
 
 unfoldable pub ledgerAfter : Lent → List LedgerCall → Lent
 ledgerAfter s [] = s
@@ -172,19 +172,19 @@ ledgerHistory s (q ∷ qs) = ledgerEvents q (ledgerStep s q .answer) ++ ledgerHi
 -- An accepted opening with the slice, and any calls after it. A plain opening is allowed: it leaves the further slice as it is and tells
 -- nothing. With another f (a table of another length, which only a caller that lends other slices can bring) an entry's giver or taker may
 -- be no replica any more, and then the calls on entries give 1.
-pub record Ledger : Type 0 where
+pub record LedgerRun : Type 0 where
   pub start : Lent
   pub f : ℕ
   pub steps : List ℕ
   pub calls : List LedgerCall
   pub accepted : Accepted (waitingStep start (Open f steps))
 
-abbrev pub openedLedger : Ledger → Lent
+abbrev pub openedLedger : LedgerRun → Lent
 openedLedger x = waitingStep (x .start) (Open (x .f) (x .steps)) .state
 
-abbrev pub ledgerEnd : Ledger → Lent
+abbrev pub ledgerEnd : LedgerRun → Lent
 ledgerEnd x = ledgerAfter (openedLedger x) (x .calls)
 
-abbrev pub ledgerTold : Ledger → List Event
+abbrev pub ledgerTold : LedgerRun → List Event
 ledgerTold x =
     eventsOf (Open (x .f) (x .steps)) (waitingStep (x .start) (Open (x .f) (x .steps)) .answer) ++ ledgerHistory (openedLedger x) (x .calls)

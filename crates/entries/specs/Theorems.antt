@@ -19,8 +19,8 @@ use Rattle.entries.specs.Entries.{maxWaiting, waitingCountAt, keptPallet
 use Rattle.entries.specs.Entries.{waitingWords, waitingCount, entries, waitingFormed, entryOf}
 use Rattle.entries.specs.Waiting.{Lent, lent, arrivalNeeds, departureNeeds, namingNeeds, fitNeeds, matchNeeds, matchFit}
 use Rattle.entries.specs.Waiting.{WaitingCall, Open, Enter, Withdraw, Match, Ask, waitingRule, waitingStep}
-use Rattle.entries.specs.Arrivals.{Event, matched, stillWaiting, palletsBy, passed, replicasBy, opensAmong, usedBy, Kept, keptSlice}
-use Rattle.entries.specs.Arrivals.{keptEvents, Ledger, ledgerEnd, ledgerTold}
+use Rattle.entries.specs.Arrivals.{Event, matched, stillWaiting, palletsBy, passed, replicasBy, opensAmong, usedBy, SliceRun, sliceEnd}
+use Rattle.entries.specs.Arrivals.{sliceTold, LedgerRun, ledgerEnd, ledgerTold}
 
 -- ---- A refused call returns the number of a need that fails and two zeros, and leaves every word of the slice and of the three.
 
@@ -130,8 +130,8 @@ OpenReadsNoEntry = (m : Memory) (w w′ : List ℕ) (f : ℕ) (steps : List ℕ)
 
 unfoldable pub AskIsPass : Type 0
 AskIsPass =
-    (x : Kept) (m : Memory) (taker : ℕ) → Accepted (waitingStep (lent m (keptSlice x)) (Ask taker))
-    → waitingStep (lent m (keptSlice x)) (Ask taker) .answer ≡ passed (keptEvents x) taker
+    (x : SliceRun) (m : Memory) (taker : ℕ) → Accepted (waitingStep (lent m (sliceEnd x)) (Ask taker))
+    → waitingStep (lent m (sliceEnd x)) (Ask taker) .answer ≡ passed (sliceTold x) taker
 
 -- ---- The calls answer by the history: where the four slices have their form, each returns the number of the first of its needs that fails,
 -- with the entries that wait by the history and the places used by it.
@@ -153,12 +153,12 @@ pub record AnswersBy (events : List Event) (s : Lent) : Type 0 where
 
 unfoldable pub CallsAnswerByHistory : Type 0
 CallsAnswerByHistory =
-    (x : Kept) (m : Memory) → FormLeft (lent m (keptSlice x)) → AnswersBy (keptEvents x) (lent m (keptSlice x))
+    (x : SliceRun) (m : Memory) → FormLeft (lent m (sliceEnd x)) → AnswersBy (sliceTold x) (lent m (sliceEnd x))
 
 -- ---- Where the three slices too are changed by the ledger's own calls alone, the Ask of every replica is accepted, every entry that waits
 -- by the history can be withdrawn, and all calls answer by it.
 
-pub record Answers (x : Ledger) : Type 0 where
+pub record Answers (x : LedgerRun) : Type 0 where
   pub asks : (taker : ℕ) → taker < replicasBy (ledgerTold x) 0
       → waitingStep (ledgerEnd x) (Ask taker) .answer ≡ passed (ledgerTold x) taker
   pub withdraws : (e : Entry) → List·Memᴰ e (stillWaiting (ledgerTold x))
@@ -166,19 +166,19 @@ pub record Answers (x : Ledger) : Type 0 where
   pub calls : AnswersBy (ledgerTold x) (ledgerEnd x)
 
 unfoldable pub LedgerAnswersPass : Type 0
-LedgerAnswersPass = (x : Ledger) → Answers x
+LedgerAnswersPass = (x : LedgerRun) → Answers x
 
 -- ---- "512 may wait": never more than 512 wait, by the history.
 
 unfoldable pub NeverMoreWait : Type 0
-NeverMoreWait = (x : Kept) → length (stillWaiting (keptEvents x)) ≤ maxWaiting
+NeverMoreWait = (x : SliceRun) → length (stillWaiting (sliceTold x)) ≤ maxWaiting
 
 -- ---- "that took out no entry before": a place takes out at most one entry between two openings.
 
 unfoldable pub PlaceTakesOutOne : Type 0
 PlaceTakesOutOne =
-    (x : Kept) (before between after : List Event) (first second place : ℕ)
-    → keptEvents x ≡ before ++ (matched first place ∷ (between ++ (matched second place ∷ after))) → opensAmong between ≡ true
+    (x : SliceRun) (before between after : List Event) (first second place : ℕ)
+    → sliceTold x ≡ before ++ (matched first place ∷ (between ++ (matched second place ∷ after))) → opensAmong between ≡ true
 
 -- ---- A call returns only the numbers listed for it; 0 is "accepted".
 
@@ -199,4 +199,4 @@ abbrev pub maxPalletsWaiting : ℕ
 maxPalletsWaiting = maxWaiting * maxPallets
 
 unfoldable pub PalletsWaitingBounded : Type 0
-PalletsWaitingBounded = (x : Kept) (taker : ℕ) → palletsBy (keptEvents x) taker ≤ maxPalletsWaiting
+PalletsWaitingBounded = (x : SliceRun) (taker : ℕ) → palletsBy (sliceTold x) taker ≤ maxPalletsWaiting

@@ -5,14 +5,14 @@ use mathlib.Core.Bool.{Bool, true, false, not, _&&_, _||_}
 use mathlib.Core.List.{List, [], _∷_, _++_, append-nil, append-assoc}
 use lib.Dec.{eqb}
 use Rattle.protocol.proofs.logic.Booleans.{tests, by-test, or-false}
-use Rattle.entries.specs.Arrivals.{Event, matched, opens, opensAmong, takesOutBy, usedBy}
+use Rattle.entries.specs.Arrivals.{Event, matched, isOpened, opensAmong, takesOutBy, usedBy}
 
 -- ---- a further event
 
-opens-next : (events : List Event) (x : Event) → opensAmong (events ++ (x ∷ [])) ≡ (opensAmong events || opens x)
+opens-next : (events : List Event) (x : Event) → opensAmong (events ++ (x ∷ [])) ≡ (opensAmong events || isOpened x)
 unfolding opensAmong
-opens-next [] x = by-test (opens x) (λ e. rw e) (λ e. rw e)
-opens-next (y ∷ later) x = rw (opens-next later x) (by-test (opens y) (λ e. rw e) (λ e. rw e))
+opens-next [] x = by-test (isOpened x) (λ e. rw e) (λ e. rw e)
+opens-next (y ∷ later) x = rw (opens-next later x) (by-test (isOpened y) (λ e. rw e) (λ e. rw e))
 
 -- Of an event that takes out, with an opening after it or not, and of one more.
 regroup : (takes opensLater opensNow takesNow used : Bool)
@@ -25,13 +25,13 @@ regroup true false false true used = refl
 regroup true false false false used = refl
 
 pub used-next : (events : List Event) (x : Event) (place : ℕ)
-    → usedBy (events ++ (x ∷ [])) place ≡ (takesOutBy x place || (not (opens x) && usedBy events place))
+    → usedBy (events ++ (x ∷ [])) place ≡ (takesOutBy x place || (not (isOpened x) && usedBy events place))
 unfolding usedBy opensAmong
 used-next [] x place =
-    by-test (takesOutBy x place) (λ t. rw t) (λ t. rw t (by-test (opens x) (λ e. rw e) (λ e. rw e)))
+    by-test (takesOutBy x place) (λ t. rw t) (λ t. rw t (by-test (isOpened x) (λ e. rw e) (λ e. rw e)))
 used-next (y ∷ later) x place =
     rw (opens-next later x, used-next later x place)
-    (regroup (takesOutBy y place) (opensAmong later) (opens x) (takesOutBy x place) (usedBy later place))
+    (regroup (takesOutBy y place) (opensAmong later) (isOpened x) (takesOutBy x place) (usedBy later place))
 
 -- ---- no event of a list takes an entry out by a place that did so before
 

@@ -85,16 +85,16 @@ replicasBy (entered e ∷ later) n = replicasBy later n
 replicasBy (withdrawn gone ∷ later) n = replicasBy later n
 replicasBy (matched gone place ∷ later) n = replicasBy later n
 
-abbrev pub opens : Event → Bool
-opens (opened n) = true
-opens (entered e) = false
-opens (withdrawn gone) = false
-opens (matched gone place) = false
+abbrev pub isOpened : Event → Bool
+isOpened (opened n) = true
+isOpened (entered e) = false
+isOpened (withdrawn gone) = false
+isOpened (matched gone place) = false
 
 -- An opening is among the events.
 unfoldable pub opensAmong : List Event → Bool
 opensAmong [] = false
-opensAmong (x ∷ later) = opens x || opensAmong later
+opensAmong (x ∷ later) = isOpened x || opensAmong later
 
 -- Whether an event takes an entry out by the movement at a place.
 abbrev pub takesOutBy : Event → ℕ → Bool
@@ -103,7 +103,7 @@ takesOutBy (entered e) place = false
 takesOutBy (withdrawn gone) place = false
 takesOutBy (matched gone taking) place = eqb taking place
 
--- "that took out no entry before": whether it took one out, with no opening after that.
+-- "that took out no entry before": whether the movement at a place did take one out, with no opening after that.
 unfoldable pub usedBy : List Event → ℕ → Bool
 usedBy [] place = false
 usedBy (x ∷ later) place = (takesOutBy x place && not (opensAmong later)) || usedBy later place

@@ -19,8 +19,8 @@ use Rattle.entries.specs.Entries.{maxWaiting, waitingCountAt, keptPallet
 use Rattle.entries.specs.Entries.{waitingWords, waitingCount, entries, waitingFormed, entryOf}
 use Rattle.entries.specs.Waiting.{Lent, lent, arrivalNeeds, departureNeeds, namingNeeds, fitNeeds, matchNeeds, matchFit}
 use Rattle.entries.specs.Waiting.{WaitingCall, Open, Enter, Withdraw, Match, Ask, waitingRule, waitingStep}
-use Rattle.entries.specs.Arrivals.{Event, matched, stillWaiting, palletsBy, passed, replicasBy, opensAmong, usedBy, SliceRun, sliceEnd}
-use Rattle.entries.specs.Arrivals.{sliceTold, LedgerRun, ledgerEnd, ledgerTold}
+use Rattle.entries.specs.Arrivals.{Event, matched, stillWaiting, palletsBy, passed, replicasBy, opensAmong, usedBy}
+use Rattle.entries.specs.Arrivals.{SliceRun, sliceEnd, sliceTold, LedgerRun, ledgerEnd, ledgerTold}
 
 -- ---- A refused call returns the number of a need that fails and two zeros, and leaves every word of the slice and of the three.
 
@@ -133,8 +133,8 @@ AskIsPass =
     (x : SliceRun) (m : Memory) (taker : ℕ) → Accepted (waitingStep (lent m (sliceEnd x)) (Ask taker))
     → waitingStep (lent m (sliceEnd x)) (Ask taker) .answer ≡ passed (sliceTold x) taker
 
--- ---- The calls answer by the history: where the four slices have their form, each returns the number of the first of its needs that fails,
--- with the entries that wait by the history and the places used by it.
+-- ---- The calls answer by the history: where the four slices have their form, each returns the number of the first of its needs that
+-- fails, with the entries that wait by the history and the places used by it.
 
 pub record AnswersBy (events : List Event) (s : Lent) : Type 0 where
   pub enters : (e : Entry)

@@ -43,8 +43,8 @@ formNeeds s =
 
 -- ---- what the calls need after the form, where these entries wait
 
--- "Entering returns 11 for an identity of 0 or a breach of those rules"; "13 for an identity already waiting [..]; 14 for 512 waiting." Where
--- there are so many replicas.
+-- "Entering returns 11 for an identity of 0 or a breach of those rules"; "13 for an identity already waiting [..]; 14 for 512 waiting."
+-- Where there are so many replicas.
 abbrev pub arrivalNeeds : ℕ → List Entry → Entry → List Need
 arrivalNeeds replicas es e =
     entryAllowed replicas e else wrongMovement

@@ -1,9 +1,10 @@
 -- The proof of each claim.
 use Rattle.entries.specs.Claims.{Claims}
 use Rattle.entries.proofs.Rules.{refused-waiting-changes-nothing, accepted-waiting-leaves-form, waiting-leaves-ledger}
-use Rattle.entries.proofs.Rules.{waiting-lowest-wins, open-waiting-order, open-reads-no-entry}
+use Rattle.entries.proofs.Rules.{waiting-lowest-wins, open-waiting-order, open-reads-no-entry, waiting-numbers-listed}
 use Rattle.entries.proofs.Frames.{only-named-waiting-change}
-use Rattle.entries.proofs.Histories.{ask-is-pass, never-more-wait, place-takes-out-one, pallets-waiting-bounded}
+use Rattle.entries.proofs.Histories.{ask-is-pass, calls-answer-by-history, never-more-wait, place-takes-out-one}
+use Rattle.entries.proofs.Histories.{pallets-waiting-bounded}
 use Rattle.entries.proofs.Ledgers.{ledger-answers-pass}
 
 pub claimed : Claims
@@ -17,8 +18,10 @@ claimed =
       openWaitingOrder = open-waiting-order;
       openReadsNoEntry = open-reads-no-entry;
       askIsPass = ask-is-pass;
+      callsAnswerByHistory = calls-answer-by-history;
       ledgerAnswersPass = ledger-answers-pass;
       neverMoreWait = never-more-wait;
       placeTakesOutOne = place-takes-out-one;
+      waitingNumbersListed = waiting-numbers-listed;
       palletsWaitingBounded = pallets-waiting-bounded;
     }

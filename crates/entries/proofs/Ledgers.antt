@@ -1,95 +1,59 @@
 -- A ledger whose slices its own calls alone change: it is ready for every call on entries, and answers what its history tells.
 use Prim.Native.Nat.{ℕ, _<_}
 use mathlib.Core.Path.{_≡_, refl, sym, ap, _∙_}
-use mathlib.Core.Bool.{true, false, _&&_}
-use mathlib.Core.Logic.{⊎-elim}
-use mathlib.Core.List.{List, [], _∷_, _++_, append-nil, append-assoc, List·Memᴰ, List·Memᴰ·cases-cons, List·Memᴰ·not-nil}
+use mathlib.Core.Bool.{true}
+use mathlib.Core.List.{List, [], _∷_, _++_, append-nil, append-assoc, List·Memᴰ}
 use native.Mathlib.Omega.{arith}
 use lib.Dec.{eqb, eqb·suc-zero}
 use Rattle.protocol.specs.declared.Call.{Call}
-use Rattle.protocol.specs.declared.Call.the-variants as Plain
-use Rattle.protocol.specs.Memory.{Memory, replicaCount, faultBoundAt, faultBound}
+use Rattle.protocol.specs.Memory.{Memory, replicaCount, faultBound}
 use Rattle.protocol.specs.Form.{wellFormed}
 use Rattle.protocol.specs.Outcome.{Answer, firstRefusal}
 use Rattle.protocol.specs.Calls.{opening}
 use Rattle.protocol.specs.Runs.{step}
-use Rattle.protocol.specs.Theorems.{Accepted, Address, tableWord, logWord, blockWord, wordAt, named, isOpening, RefusedChangesNothing}
-use Rattle.protocol.specs.Theorems.{AcceptedLeavesForm, OnlyNamedChange}
+use Rattle.protocol.specs.Theorems.{Accepted, RefusedChangesNothing, AcceptedLeavesForm, LengthsStay}
 use Rattle.protocol.proofs.logic.Booleans.{tests, by-test}
+use Rattle.protocol.proofs.memory.Formed.{sizes}
+use Rattle.protocol.proofs.memory.Formed as Memory
 use Rattle.protocol.proofs.memory.Opened as Opening
-use Rattle.protocol.proofs.calls.Needs.{all-needs, outcome-cases, outcome-state, no-refusal, holds-accepted, accepted-after}
-use Rattle.protocol.proofs.calls.Needs.{accepted-first}
+use Rattle.protocol.proofs.calls.Needs.{all-needs, none-refuses, outcome-cases, outcome-state, no-refusal, accepted-after, accepted-first}
 use Rattle.protocol.proofs.calls.Rules.{refused-changes-nothing}
 use Rattle.protocol.proofs.calls.LeavesForm.{accepted-leaves-form}
-use Rattle.protocol.proofs.calls.Frame.{only-named-change}
+use Rattle.protocol.proofs.calls.Frame.{lengths-stay}
 use Rattle.entries.specs.declared.Entry.{Entry}
 use Rattle.entries.specs.Waiting.{Lent, lent, WaitingCall, Open, Enter, Withdraw, Match, Ask, openRule, enterRule, withdrawRule}
 use Rattle.entries.specs.Waiting.{matchRule, askRule, waitingRule, waitingStep}
 use Rattle.entries.specs.Arrivals.{Event, opened, entered, withdrawn, matched, acceptedEvents, eventsOf, stillWaiting, replicasBy}
-use Rattle.entries.specs.Arrivals.{LedgerCall, plain, waiting, ledgerStep, ledgerEvents, opensPlainly, ledgerAfter, ledgerHistory}
-use Rattle.entries.specs.Arrivals.{OpensNonePlainly, Ledger, openedLedger, ledgerEnd, ledgerTold}
-use Rattle.entries.specs.Theorems.{FormLeft, AcceptedWaitingLeavesForm, LedgerAnswersPass}
+use Rattle.entries.specs.Arrivals.{LedgerCall, plain, onEntries, ledgerStep, ledgerEvents, ledgerAfter, ledgerHistory, LedgerRun}
+use Rattle.entries.specs.Arrivals.{openedLedger, ledgerEnd, ledgerTold}
+use Rattle.entries.specs.Theorems.{FormLeft, AcceptedWaitingLeavesForm, AnswersBy, LedgerAnswersPass}
 use Rattle.entries.proofs.Lists.{member-waits}
 use Rattle.entries.proofs.Slices.{form}
 use Rattle.entries.proofs.Needs.{Ready, ready}
 use Rattle.entries.proofs.Rules.{form-left, accepted-waiting-leaves-form}
-use Rattle.entries.proofs.Histories.{Told, told-step, asked, opening-told}
+use Rattle.entries.proofs.Histories.{Told, told-step, asked, by-history, opening-told}
 
--- ---- no call of the eleven changes the fault bound
+-- ---- a call on the three slices leaves their form and the fault bound, which the table's length tells
 
--- An address past the word of the fault bound.
-abbrev Past : Address → Type 0
-Past (tableWord k) = faultBoundAt < k
-Past (logWord k) = Unit {0}
-Past (blockWord k) = Unit {0}
-
-abbrev AllPast : List Address → Type 0
-AllPast [] = Unit {0}
-AllPast (a ∷ rest) = Past a × AllPast rest
-
-named-past : (m : Memory) (call : Call) → isOpening call ≡ false → AllPast (named m call)
-unfolding named
-named-past m (Plain.Open f) e = let z : _≡_ {A = ℕ} 0 1 = cc in absurd (omega arith)
-named-past m (Plain.Block p) e = omega arith
-named-past m (Plain.Prepare i b justification) e = omega arith
-named-past m (Plain.Store i number) e = omega arith
-named-past m (Plain.View i w) e = omega arith
-named-past m (Plain.Accumulate i) e = omega arith
-named-past m (Plain.Decide i) e = omega arith
-named-past m (Plain.Reboot i) e = omega arith
-named-past m (Plain.Reserve i) e = omega arith
-named-past m (Plain.Request i) e = omega arith
-named-past m (Plain.Reply i number) e = omega arith
-named-past m (Plain.Recover i) e = omega arith
-
-not-past : (xs : List Address) → AllPast xs → List·Memᴰ (tableWord faultBoundAt) xs → ⊥
-not-past [] h w = List·Memᴰ·not-nil w
-not-past (a ∷ rest) h w =
-    ⊎-elim (λ (e : tableWord faultBoundAt ≡ a). let low = rw (← e) at (h .0) in omega arith) (λ v. not-past rest (h .1) v)
-    (List·Memᴰ·cases-cons w)
-
-faults-stay : (m : Memory) (call : Call) (list : List ℕ) → isOpening call ≡ false → faultBound (step m call list .state) ≡ faultBound m
-unfolding OnlyNamedChange wordAt
-faults-stay m call list e = only-named-change m call list (tableWord faultBoundAt) (not-past (named m call) (named-past m call e))
-
--- A plain call that is no accepted opening.
 pub record Stays (m m′ : Memory) : Type 0 where
   pub formed : wellFormed m′ ≡ true
   pub faults : faultBound m′ ≡ faultBound m
 
-plain-stays : (m : Memory) (call : Call) (list : List ℕ) → (isOpening call && eqb (step m call list .answer .number) 0) ≡ false
-    → wellFormed m ≡ true → Stays m (step m call list .state)
+form-stays : (m : Memory) (call : Call) (list : List ℕ) → wellFormed m ≡ true → wellFormed (step m call list .state) ≡ true
 unfolding AcceptedLeavesForm RefusedChangesNothing
-plain-stays m call list none whole =
-    by-test (eqb (step m call list .answer .number) 0)
-    (λ hit.
-    let accepted : step m call list .answer .number ≡ 0 = omega tests in
-    record {
-      formed = accepted-leaves-form m call list accepted;
-      faults = faults-stay m call list (by-test (isOpening call) (λ opens. opens ∙ (rw (opens, hit) at none)) (λ other. other));
-    })
-    (λ miss.
-    rw (refused-changes-nothing m call list (λ accepted. omega tests) .state) (record { formed = whole; faults = refl }))
+form-stays m call list whole =
+    by-test (eqb (step m call list .answer .number) 0) (λ accepted. accepted-leaves-form m call list (omega tests))
+    (λ refused. rw (refused-changes-nothing m call list (λ accepted. omega tests) .state) whole)
+
+plain-stays : (m : Memory) (call : Call) (list : List ℕ) → wellFormed m ≡ true → Stays m (step m call list .state)
+unfolding LengthsStay
+plain-stays m call list whole =
+    let left = step m call list .state in
+    let formed = form-stays m call list whole in
+    let before = sizes m (Memory.formed m whole) in
+    let after = sizes left (Memory.formed left formed) in
+    let same = lengths-stay m call list in
+    record { formed = formed; faults = omega arith }
 
 -- ---- what holds after each call
 
@@ -153,21 +117,19 @@ module _ (past : List Event) (s : Lent) (h : Stands past s) where
             (λ pass. replicas-accepted call pass);
       }
 
-  stands-step : (q : LedgerCall) → opensPlainly s q ≡ false
-      → Stands (past ++ ledgerEvents q (ledgerStep s q .answer)) (ledgerStep s q .state)
+  stands-step : (q : LedgerCall) → Stands (past ++ ledgerEvents q (ledgerStep s q .answer)) (ledgerStep s q .state)
   unfolding ledgerStep
-  stands-step (plain q) none =
-      plain-stands (q .call) (q .list) (plain-stays (s .memory) (q .call) (q .list) none (h .ready .memory))
-  stands-step (waiting call) none = waiting-stands call
+  stands-step (plain q) = plain-stands (q .call) (q .list) (plain-stays (s .memory) (q .call) (q .list) (h .ready .memory))
+  stands-step (onEntries call) = waiting-stands call
 
-stands-after : (qs : List LedgerCall) (past : List Event) (s : Lent) → Stands past s → OpensNonePlainly s qs
+stands-after : (qs : List LedgerCall) (past : List Event) (s : Lent) → Stands past s
     → Stands (past ++ ledgerHistory s qs) (ledgerAfter s qs)
 unfolding ledgerHistory ledgerAfter
-stands-after [] past s h none = rw (append-nil past) h
-stands-after (q ∷ qs) past s h none =
+stands-after [] past s h = rw (append-nil past) h
+stands-after (q ∷ qs) past s h =
     let o = ledgerStep s q in
     rw (← append-assoc past (ledgerEvents q (o .answer)) (ledgerHistory (o .state) qs))
-    (stands-after qs (past ++ ledgerEvents q (o .answer)) (o .state) (stands-step past s h q (none .0)) (none .1))
+    (stands-after qs (past ++ ledgerEvents q (o .answer)) (o .state) (stands-step past s h q))
 
 -- ---- from an accepted opening on
 
@@ -184,25 +146,22 @@ opening-stands s f steps accepted =
           (accepted-first s rule accepted ∙ opened-replicas s f steps (no-refusal s rule accepted));
     }
 
-ledger-stands : (x : Ledger) → Stands (ledgerTold x) (ledgerEnd x)
+ledger-stands : (x : LedgerRun) → Stands (ledgerTold x) (ledgerEnd x)
 ledger-stands x =
-    stands-after (x .calls) _ (openedLedger x) (opening-stands (x .start) (x .f) (x .steps) (x .accepted)) (x .none)
+    stands-after (x .calls) _ (openedLedger x) (opening-stands (x .start) (x .f) (x .steps) (x .accepted))
 
 module _ (events : List Event) (s : Lent) (h : Stands events s) where
-  ask-accepted : (taker : ℕ) → taker < replicasBy events 0 → Accepted (waitingStep s (Ask taker))
-  unfolding waitingStep waitingRule askRule
-  ask-accepted taker own =
+  stands-by-history : AnswersBy events s
+  stands-by-history =
       let r = h .ready in
-      let n = h .replicas in
-      holds-accepted s (askRule s taker) (r .memory, (form _ (s .waiting) (r .waiting), (omega tests, tt)))
+      by-history events (s .memory) (s .waiting) (h .told) (record { memory = r .memory; waiting = form _ (s .waiting) (r .waiting) })
+
+  ask-accepted : (taker : ℕ) → taker < replicasBy events 0 → Accepted (waitingStep s (Ask taker))
+  ask-accepted taker own = let n = h .replicas in stands-by-history .asks taker ∙ none-refuses _ (omega tests, tt)
 
   withdraw-accepted : (e : Entry) → List·Memᴰ e (stillWaiting events) → Accepted (waitingStep s (Withdraw (e .identity)))
-  unfolding waitingStep waitingRule withdrawRule
   withdraw-accepted e waits =
-      let r = h .ready in
-      let listed = h .told .listed .slice .listed in
-      holds-accepted s (withdrawRule s (e .identity))
-      (r .memory, (form _ (s .waiting) (r .waiting), (rw listed (member-waits e (stillWaiting events) waits), tt)))
+      stands-by-history .withdraws (e .identity) ∙ none-refuses _ (member-waits e (stillWaiting events) waits, tt)
 
 pub ledger-answers-pass : LedgerAnswersPass
 unfolding LedgerAnswersPass
@@ -212,4 +171,5 @@ ledger-answers-pass x =
     record {
       asks = λ taker own. asked (ledgerTold x) (s .memory) (s .waiting) (h .told) taker (ask-accepted (ledgerTold x) s h taker own);
       withdraws = withdraw-accepted (ledgerTold x) s h;
+      calls = stands-by-history (ledgerTold x) s h;
     }

@@ -16,7 +16,7 @@ use Rattle.movements.proofs.Allowed.{list-short}
 use Rattle.entries.specs.declared.Entry.{Entry}
 use Rattle.entries.specs.Entries.{maxWaiting, maxReplicas, isUsed, entries, entryAllowed, waitingFormed, isWaiting}
 use Rattle.entries.specs.Waiting.{Lent, enterRule, withdrawRule, matchRule, askRule}
-use Rattle.entries.proofs.Slices.{Formed, formed, slice-count}
+use Rattle.entries.proofs.Slices.{Formed, formed}
 
 not-true : (b : Bool) → not b ≡ true → b ≡ false
 not-true true e = sym e
@@ -57,7 +57,6 @@ module _ (s : Lent) where
   unfolding enterRule
   enters e pass =
       let h = all-needs (enterRule s e .needs) refl pass in
-      let count = slice-count (s .waiting) in
       record {
         ready = ready (h .0) (h .1 .0);
         allowed = h .1 .1 .0;

@@ -1,25 +1,27 @@
--- What the rules of the calls tell: what a refused call leaves, which refusal is returned, what opening reads, and the form that is left.
+-- What the rules of the calls tell: what a refused call leaves, which refusal is returned and of which numbers, what opening reads, and the
+-- form that is left.
 use Prim.Native.Nat.{ℕ, zero, suc}
 use mathlib.Core.Path.{_≡_, refl, sym, ap, _∙_}
-use mathlib.Core.Bool.{true, false}
-use mathlib.Core.List.{List, [], _∷_}
+use mathlib.Core.Bool.{Bool, true, false, _||_}
+use mathlib.Core.List.{List, [], _∷_, List·Memᴰ, List·Memᴰ·head, List·Memᴰ·tail}
+use native.Mathlib.Omega.{arith}
 use lib.ListN.{length}
 use lib.Dec.{leb, eqb}
 use Rattle.protocol.specs.Memory.{Memory, replicaCount, faultBound}
 use Rattle.protocol.specs.Outcome.{Need, _else_, Answer, OutcomeOf, firstRefusal, answered, follow, wrongForm, wrongCertificate}
 use Rattle.protocol.specs.Calls.{opening}
 use Rattle.protocol.specs.Runs.{ruleOf, step}
-use Rattle.protocol.proofs.logic.Booleans.{tests}
+use Rattle.protocol.proofs.logic.Booleans.{tests, by-test}
 use Rattle.protocol.proofs.memory.Formed as Memory
 use Rattle.protocol.proofs.calls.LeavesForm.{opening-leaves}
 use Rattle.protocol.proofs.calls.Needs.{all-needs, outcome-state, returned, no-refusal, refuses, accepts, accepted-after, refused, lowest}
 use Rattle.protocol.proofs.calls.Needs.{lowest-of-first, lowest-refusal, refusal-allowed, first-pass, refused-first, all-pass, fails}
-use Rattle.protocol.proofs.calls.Needs.{holds}
+use Rattle.protocol.proofs.calls.Needs.{holds, allAllowed}
 use Rattle.entries.specs.Entries.{waitingWords}
-use Rattle.entries.specs.Waiting.{Lent, lent, WaitingRule, WaitingCall, Open, Enter, Withdraw, Match, Ask, matchNeeds, fitNeeds}
+use Rattle.entries.specs.Waiting.{Lent, lent, WaitingRule, WaitingCall, Open, Enter, Withdraw, Match, Ask, matchNeeds, matchFit}
 use Rattle.entries.specs.Waiting.{openRule, enterRule, withdrawRule, matchRule, askRule, waitingRule, waitingStep, departed}
 use Rattle.entries.specs.Theorems.{RefusedWaitingChangesNothing, WaitingLeavesLedger, WaitingLowestWins, OpenWaitingOrder}
-use Rattle.entries.specs.Theorems.{OpenReadsNoEntry, FormLeft, AcceptedWaitingLeavesForm}
+use Rattle.entries.specs.Theorems.{OpenReadsNoEntry, FormLeft, AcceptedWaitingLeavesForm, mayAnswer, WaitingNumbersListed}
 use Rattle.entries.proofs.Slices.{Formed, form, cleared, formed-cleared, formed-placed, formed-joined, formed-without}
 use Rattle.entries.proofs.Needs.{Ready, Leaves, enters, withdraws, matches, asks}
 
@@ -51,9 +53,9 @@ waiting-lowest-wins s =
       withdraws = λ identity number w. lowest s (withdrawRule s identity) refl w;
       matches = λ movements i identity place number w.
           lowest-of-first s (matchRule s movements i identity place) (matchNeeds s movements i identity place)
-          (fitNeeds s movements i identity place) refl refl w;
+          (matchFit s movements i identity place) refl refl w;
       fits = λ movements i identity place pass number w.
-          let fit = fitNeeds s movements i identity place in
+          let fit = matchFit s movements i identity place in
           let least = lowest-refusal fit wrongCertificate refl w in
           let most = refusal-allowed (λ n. leb n wrongCertificate) fit refl refl in
           let last = all-pass (matchNeeds s movements i identity place) fit refl pass in
@@ -115,6 +117,31 @@ open-reads-no-entry m w w′ f steps long =
           let also = sym (ap (λ (a : Answer). a .number) (same-answer s s′ rule)) ∙ accepted in
           accepted-after s rule accepted ∙ sym (accepted-after s′ rule also));
     }
+
+-- ---- the numbers
+
+abbrev isOneOf : List ℕ → ℕ → Bool
+isOneOf [] n = false
+isOneOf (k ∷ ks) n = eqb n k || isOneOf ks n
+
+one-of : (numbers : List ℕ) (n : ℕ) → isOneOf numbers n ≡ true → List·Memᴰ n numbers
+one-of [] n h = let z : _≡_ {A = ℕ} 0 1 = cc in absurd (omega arith)
+one-of (k ∷ ks) n h =
+    by-test (eqb n k) (λ hit. List·Memᴰ·head (omega tests)) (λ miss. List·Memᴰ·tail (one-of ks n (rw miss at h)))
+
+-- The numbers of a rule's needs, and 0, are among some.
+all-listed : (s : Lent) (rule : WaitingRule) (numbers : List ℕ) → isOneOf numbers 0 ≡ true
+    → allAllowed (isOneOf numbers) (rule .needs) ≡ true → List·Memᴰ (follow s rule .answer .number) numbers
+all-listed s rule numbers none all =
+    rw (returned s rule) (one-of numbers _ (refusal-allowed (isOneOf numbers) (rule .needs) none all))
+
+pub waiting-numbers-listed : WaitingNumbersListed
+unfolding WaitingNumbersListed mayAnswer waitingStep waitingRule openRule enterRule withdrawRule matchRule askRule opening
+waiting-numbers-listed s (Open f steps) = all-listed s (openRule s f steps) _ refl refl
+waiting-numbers-listed s (Enter e) = all-listed s (enterRule s e) _ refl refl
+waiting-numbers-listed s (Withdraw identity) = all-listed s (withdrawRule s identity) _ refl refl
+waiting-numbers-listed s (Match movements i identity place) = all-listed s (matchRule s movements i identity place) _ refl refl
+waiting-numbers-listed s (Ask taker) = all-listed s (askRule s taker) _ refl refl
 
 -- ---- the form
 

@@ -4,9 +4,9 @@ use mathlib.Core.Path.{_≡_, refl, sym, ap, _∙_}
 use mathlib.Core.Bool.{true, false}
 use mathlib.Core.List.{List, [], _∷_, _++_}
 use native.Mathlib.Omega.{arith}
-use lib.ListN.{length, getD, set, replicate, length-append, length-set, length-replicate, getD-replicate}
+use lib.ListN.{length, getD, set, replicate, length-append, length-set, length-replicate, getD-replicate, List·getD-eq-default}
 use lib.Seq.{getD-set-same, getD-set-other}
-use lib.Dec.{eqb}
+use lib.Dec.{ltb, eqb}
 use Rattle.protocol.proofs.logic.Booleans.{tests, by-test, each, all-hold, at-below, all-below}
 use Rattle.movements.specs.Movements.{maxPallets}
 use Rattle.entries.specs.declared.Entry.{Entry}
@@ -97,8 +97,11 @@ cleared = replicate waitingWords 0
 pub cleared-length : length cleared ≡ waitingWords
 cleared-length = length-replicate {A = ℕ} waitingWords 0
 
-pub cleared-word : (j : ℕ) → j < waitingWords → getD cleared j 0 ≡ 0
-cleared-word j l = getD-replicate {A = ℕ} waitingWords j 0 0 l
+pub cleared-word : (j : ℕ) → getD cleared j 0 ≡ 0
+cleared-word j =
+    let size = cleared-length in
+    by-test (ltb j waitingWords) (λ inside. getD-replicate {A = ℕ} waitingWords j 0 0 (omega tests))
+    (λ past. List·getD-eq-default cleared 0 {n = j} (omega tests))
 
 pub slice-cleared : Slice cleared []
 unfolding entriesFrom palletsFor earliestFor
@@ -107,8 +110,8 @@ slice-cleared =
       size = cleared-length;
       listed = refl;
       few = omega arith;
-      pallets = λ taker l. cleared-word (keptPalletsAt taker) (omega arith);
-      earliest = λ taker l. cleared-word (keptEarliestAt taker) (omega arith);
+      pallets = λ taker l. cleared-word (keptPalletsAt taker);
+      earliest = λ taker l. cleared-word (keptEarliestAt taker);
     }
 
 -- Other entries, that tell no taker anything else but one, whose two words are written anew.

@@ -1,10 +1,10 @@
 -- Statements with premises, used at worked instances: the premises hold there by computation.
 use Prim.Native.Nat.{ℕ}
-use mathlib.Core.Path.{_≡_, refl, _∙_}
+use mathlib.Core.Path.{_≡_, refl, sym, _∙_}
 use mathlib.Core.Bool.{true, false}
 use mathlib.Core.List.{List, [], _∷_, _++_, map, List·Memᴰ·head, List·Memᴰ·tail}
 use native.Mathlib.Omega.{arith}
-use lib.ListN.{replicate}
+use lib.ListN.{replicate, length-replicate}
 use Rattle.protocol.specs.declared.Call.{Call}
 use Rattle.protocol.specs.declared.Call.the-variants as Plain
 use Rattle.protocol.specs.Memory.{Memory, memory, _becomes_, tableLength, decidedViewAt, decidedBlockAt, blockAt, update, appendBlock}
@@ -21,11 +21,14 @@ use Rattle.entries.specs.declared.Entry.{Entry}
 use Rattle.entries.specs.Entries.{waitingWords, entriesFrom, entryAllowed, waitingFormed, isWaiting, entryOf, without, palletsFor}
 use Rattle.entries.specs.Entries.{earliestFor, holding, refreshed}
 use Rattle.entries.specs.Waiting.{Lent, lent, WaitingOutcome, WaitingCall, Open, Enter, Withdraw, Match, Ask, openRule, enterRule}
-use Rattle.entries.specs.Waiting.{withdrawRule, matchRule, askRule, matchNeeds, fitNeeds, waitingRule, waitingStep}
+use Rattle.entries.specs.Waiting.{withdrawRule, matchRule, askRule, matchNeeds, matchFit, waitingRule, waitingStep}
 use Rattle.entries.specs.Arrivals.{Event, opened, entered, matched, eventsOf, leaves, stillWaiting, palletsBy, earliestBy}
-use Rattle.entries.specs.Arrivals.{replicasBy, opensAmong, sliceAfter, history, Kept, keptSlice, keptEvents, LedgerCall, plain}
-use Rattle.entries.specs.Arrivals.{waiting, ledgerStep, ledgerAfter, ledgerHistory, OpensNonePlainly, Ledger, ledgerEnd, ledgerTold}
-use Rattle.entries.specs.Theorems.{WaitingLowestWins, AskIsPass, LedgerAnswersPass, PlaceTakesOutOne}
+use Rattle.entries.specs.Arrivals.{replicasBy, opensAmong, usedBy, sliceAfter, history, SliceRun, sliceEnd, sliceTold}
+use Rattle.entries.specs.Arrivals.{plain, onEntries, ledgerStep, ledgerAfter, ledgerHistory, LedgerRun, ledgerEnd, ledgerTold}
+use Rattle.entries.specs.Theorems.{RefusedWaitingChangesNothing, FormLeft, AcceptedWaitingLeavesForm, WaitingLowestWins}
+use Rattle.entries.specs.Theorems.{OpenWaitingOrder, OpenReadsNoEntry, AskIsPass, CallsAnswerByHistory, LedgerAnswersPass}
+use Rattle.entries.specs.Theorems.{PlaceTakesOutOne}
+use Rattle.entries.proofs.Slices.{cleared, cleared-length}
 
 -- Everything that the calls are made of opens with this.
 unfoldable computed : Lent → WaitingCall → WaitingOutcome
@@ -33,7 +36,7 @@ unfolding update appendBlock ancestorWithin allHold allBelow blockFormed replica
     wellFormed stepsFrom stepsAllowed firstRefusal answered follow freshReplicas opening block ruleOf step run movementAllowed
     isMovementList entriesFrom entryAllowed waitingFormed isWaiting entryOf without palletsFor earliestFor holding refreshed openRule
     enterRule withdrawRule matchRule askRule waitingRule waitingStep eventsOf leaves stillWaiting palletsBy earliestBy replicasBy
-    opensAmong sliceAfter history ledgerStep ledgerAfter ledgerHistory
+    opensAmong usedBy sliceAfter history ledgerStep ledgerAfter ledgerHistory
 computed s call = waitingStep s call
 
 abbrev unlisted : Call → Invocation
@@ -50,7 +53,7 @@ shown =
     (decidedViewAt becomes 1 ∷ decidedBlockAt becomes 1 ∷ [])
 
 abbrev start : Lent
-start = lent unopened (replicate waitingWords 0)
+start = lent unopened cleared
 
 pub opens : Accepted (waitingStep start (Open 1 []))
 unfolding computed
@@ -67,31 +70,31 @@ abbrev moved : List ℕ
 moved = 1 ∷ 0 ∷ 1 ∷ 5 ∷ []
 
 -- Calls on that memory, after the opening of the other.
-abbrev keptBy : List WaitingCall → Kept
-keptBy calls =
+abbrev runOf : List WaitingCall → SliceRun
+runOf calls =
     record { start = start; f = 1; steps = []; calls = map (λ call. record { memory = shown; call = call }) calls; accepted = opens }
 
 -- Entry 7 leaves and comes again: it stands last.
-abbrev back : Kept
-back = keptBy (Enter seven ∷ Enter eight ∷ Withdraw 7 ∷ Enter seven ∷ [])
+abbrev back : SliceRun
+back = runOf (Enter seven ∷ Enter eight ∷ Withdraw 7 ∷ Enter seven ∷ [])
 
-ask-accepted : Accepted (waitingStep (lent shown (keptSlice back)) (Ask 1))
+ask-accepted : Accepted (waitingStep (lent shown (sliceEnd back)) (Ask 1))
 unfolding computed
 ask-accepted = refl
 
 pub ask-is-pass-used : AskIsPass
-    → waitingStep (lent shown (keptSlice back)) (Ask 1) .answer ≡ record { number = 0; first = 9; second = 8 }
+    → waitingStep (lent shown (sliceEnd back)) (Ask 1) .answer ≡ record { number = 0; first = 9; second = 8 }
 unfolding AskIsPass computed
 ask-is-pass-used statement = statement back shown 1 ask-accepted ∙ refl
 
 -- Place 0 takes out entry 7; again after an opening, which lies between.
-abbrev twice : Kept
-twice = keptBy (Enter seven ∷ Match moved 0 7 0 ∷ Open 1 [] ∷ Enter seven ∷ Match moved 0 7 0 ∷ [])
+abbrev twice : SliceRun
+twice = runOf (Enter seven ∷ Match moved 0 7 0 ∷ Open 1 [] ∷ Enter seven ∷ Match moved 0 7 0 ∷ [])
 
 abbrev before : List Event
 before = opened 3 ∷ entered seven ∷ []
 
-twice-told : keptEvents twice ≡ before ++ (matched 7 0 ∷ (before ++ (matched 7 0 ∷ [])))
+twice-told : sliceTold twice ≡ before ++ (matched 7 0 ∷ (before ++ (matched 7 0 ∷ [])))
 unfolding computed
 twice-told = refl
 
@@ -100,14 +103,17 @@ unfolding PlaceTakesOutOne
 place-takes-out-one-used statement = statement twice before before [] 7 7 0 twice-told
 
 -- Without it the second match is refused with 5, since all else holds.
+abbrev again : SliceRun
+again = runOf (Enter seven ∷ Match moved 0 7 0 ∷ Enter seven ∷ [])
+
 abbrev used : Lent
-used = lent shown (keptSlice (keptBy (Enter seven ∷ Match moved 0 7 0 ∷ Enter seven ∷ [])))
+used = lent shown (sliceEnd again)
 
 all-else : firstRefusal (matchNeeds used moved 0 7 0) ≡ 0
 unfolding computed
 all-else = refl
 
-place-used : fitNeeds used moved 0 7 0 ≡ true else wrongCertificate ∷ true else wrongCertificate ∷ false else wrongCertificate ∷ []
+place-used : matchFit used moved 0 7 0 ≡ true else wrongCertificate ∷ true else wrongCertificate ∷ false else wrongCertificate ∷ []
 unfolding computed
 place-used = refl
 
@@ -116,16 +122,73 @@ unfolding WaitingLowestWins
 waiting-lowest-wins-used statement =
     statement used .fits moved 0 7 0 all-else 5 (rw place-used (List·Memᴰ·tail (List·Memᴰ·tail (List·Memᴰ·head refl))))
 
--- A ledger: a block, entry 7, and an opening that is refused.
-abbrev calls : List LedgerCall
-calls = plain (unlisted (Plain.Block 0)) ∷ waiting (Enter seven) ∷ plain (unlisted (Plain.Open 0)) ∷ []
-
-pub none-plainly : OpensNonePlainly (waitingStep start (Open 1 []) .state) calls
+match-refused : Accepted (waitingStep used (Match moved 0 7 0)) → ⊥
 unfolding computed
-none-plainly = (refl, (refl, (refl, tt)))
+match-refused accepted = omega arith
 
-abbrev ledger : Ledger
-ledger = record { start = start; f = 1; steps = []; calls = calls; accepted = opens; none = none-plainly }
+pub refused-waiting-changes-nothing-used : RefusedWaitingChangesNothing → waitingStep used (Match moved 0 7 0) .state ≡ used
+unfolding RefusedWaitingChangesNothing
+refused-waiting-changes-nothing-used statement = statement used (Match moved 0 7 0) match-refused .state
+
+used-formed : FormLeft used
+unfolding computed
+used-formed = record { memory = refl; waiting = refl }
+
+-- By the history too; and entry 7 waits, but entry 8 does not.
+pub calls-answer-by-history-used : CallsAnswerByHistory
+    → (waitingStep used (Match moved 0 7 0) .answer .number ≡ 5)
+    × ((waitingStep used (Enter seven) .answer .number ≡ 13) × (waitingStep used (Withdraw 8) .answer .number ≡ 13))
+unfolding CallsAnswerByHistory computed
+calls-answer-by-history-used statement =
+    let all = statement again shown used-formed in
+    (all .matches moved 0 7 0 ∙ refl, (all .enters seven ∙ refl, all .withdraws 8 ∙ refl))
+
+-- ---- opening
+
+pub accepted-waiting-leaves-form-used : AcceptedWaitingLeavesForm → FormLeft (waitingStep start (Open 1 []) .state)
+unfolding AcceptedWaitingLeavesForm
+accepted-waiting-leaves-form-used statement = statement start (Open 1 []) opens
+
+plain-opens : Accepted (step unopened (Plain.Open 1) [])
+unfolding computed
+plain-opens = refl
+
+plain-refused : Accepted (step unopened (Plain.Open 0) []) → ⊥
+unfolding computed
+plain-refused accepted = omega arith
+
+-- With f = 0 it is refused as the ledger's opening is; with f = 1 it is accepted as that is, or refused where the slice has no word.
+pub open-waiting-order-used : OpenWaitingOrder
+    → (waitingStep start (Open 0 []) .answer ≡ step unopened (Plain.Open 0) [] .answer)
+    × ((waitingStep start (Open 1 []) .answer ≡ step unopened (Plain.Open 1) [] .answer)
+    × (waitingStep (lent unopened []) (Open 1 []) .answer .number ≡ 1))
+unfolding OpenWaitingOrder
+open-waiting-order-used statement =
+    let short = statement (lent unopened []) 1 [] .unsized plain-opens (λ same. omega arith) in
+    (statement start 0 [] .refused plain-refused, (statement start 1 [] .sized plain-opens cleared-length, short))
+
+-- On another slice of that length it leaves the same.
+abbrev nines : List ℕ
+nines = replicate waitingWords 9
+
+pub open-reads-no-entry-used : OpenReadsNoEntry
+    → waitingStep start (Open 1 []) .state ≡ waitingStep (lent unopened nines) (Open 1 []) .state
+unfolding OpenReadsNoEntry
+open-reads-no-entry-used statement =
+    statement unopened cleared nines 1 [] (cleared-length ∙ sym (length-replicate {A = ℕ} waitingWords 9)) .left opens
+
+-- ---- a ledger
+
+-- A block, entry 7, and an opening that is not lent the slice: the entry waits on.
+abbrev ledger : LedgerRun
+ledger =
+    record {
+      start = start;
+      f = 1;
+      steps = [];
+      calls = plain (unlisted (Plain.Block 0)) ∷ onEntries (Enter seven) ∷ plain (unlisted (Plain.Open 1)) ∷ [];
+      accepted = opens;
+    }
 
 ledger-told : ledgerTold ledger ≡ opened 3 ∷ entered seven ∷ []
 unfolding computed

@@ -1,14 +1,13 @@
 -- Lists of calls on entries that wait, and what they and their answers tell: "the history of arrivals and departures since the last opening"
 -- (document 02, #108). Events are told from calls and answers, never from a word, the oldest first.
 use Prim.Native.Nat.{ℕ, _+_}
-use mathlib.Core.Path.{_≡_}
 use mathlib.Core.Bool.{Bool, true, false, cond, not, _&&_, _||_}
 use mathlib.Core.List.{List, [], _∷_, _++_}
 use lib.Dec.{eqb}
 use Rattle.protocol.specs.Memory.{Memory}
 use Rattle.protocol.specs.Outcome.{Answer}
 use Rattle.protocol.specs.Runs.{Invocation, step}
-use Rattle.protocol.specs.Theorems.{Accepted, isOpening}
+use Rattle.protocol.specs.Theorems.{Accepted}
 use Rattle.entries.specs.declared.Entry.{Entry}
 use Rattle.entries.specs.Waiting.{Lent, lent, WaitingOutcome, WaitingCall, Open, Enter, Withdraw, Match, Ask, waitingStep}
 
@@ -86,13 +85,28 @@ replicasBy (entered e ∷ later) n = replicasBy later n
 replicasBy (withdrawn gone ∷ later) n = replicasBy later n
 replicasBy (matched gone place ∷ later) n = replicasBy later n
 
+abbrev pub isOpened : Event → Bool
+isOpened (opened n) = true
+isOpened (entered e) = false
+isOpened (withdrawn gone) = false
+isOpened (matched gone place) = false
+
 -- An opening is among the events.
 unfoldable pub opensAmong : List Event → Bool
 opensAmong [] = false
-opensAmong (opened n ∷ later) = true
-opensAmong (entered e ∷ later) = opensAmong later
-opensAmong (withdrawn gone ∷ later) = opensAmong later
-opensAmong (matched gone place ∷ later) = opensAmong later
+opensAmong (x ∷ later) = isOpened x || opensAmong later
+
+-- Whether an event takes an entry out by the movement at a place.
+abbrev pub takesOutBy : Event → ℕ → Bool
+takesOutBy (opened n) place = false
+takesOutBy (entered e) place = false
+takesOutBy (withdrawn gone) place = false
+takesOutBy (matched gone taking) place = eqb taking place
+
+-- "that took out no entry before": whether the movement at a place did take one out, with no opening after that.
+unfoldable pub usedBy : List Event → ℕ → Bool
+usedBy [] place = false
+usedBy (x ∷ later) place = (takesOutBy x place && not (opensAmong later)) || usedBy later place
 
 -- ---- "While these calls and opening alone change the slice": the ledger's three slices are anything at each call
 
@@ -113,21 +127,21 @@ history w [] = []
 history w (q ∷ qs) = eventsOf (q .call) (callOn w q .answer) ++ history (callOn w q .state .waiting) qs
 
 -- An accepted opening with the slice, whatever the four slices held, and calls after it, further openings with the slice among them.
-pub record Kept : Type 0 where
+pub record SliceRun : Type 0 where
   pub start : Lent
   pub f : ℕ
   pub steps : List ℕ
   pub calls : List LentCall
   pub accepted : Accepted (waitingStep start (Open f steps))
 
-abbrev pub openedSlice : Kept → List ℕ
+abbrev pub openedSlice : SliceRun → List ℕ
 openedSlice x = waitingStep (x .start) (Open (x .f) (x .steps)) .state .waiting
 
-abbrev pub keptSlice : Kept → List ℕ
-keptSlice x = sliceAfter (openedSlice x) (x .calls)
+abbrev pub sliceEnd : SliceRun → List ℕ
+sliceEnd x = sliceAfter (openedSlice x) (x .calls)
 
-abbrev pub keptEvents : Kept → List Event
-keptEvents x =
+abbrev pub sliceTold : SliceRun → List Event
+sliceTold x =
     eventsOf (Open (x .f) (x .steps)) (waitingStep (x .start) (Open (x .f) (x .steps)) .answer) ++ history (openedSlice x) (x .calls)
 
 -- ---- a ledger whose three slices too are changed by its own calls alone
@@ -135,22 +149,17 @@ keptEvents x =
 -- One of the twelve calls, lent the three slices, or one that is lent the four.
 pub data LedgerCall : Type 0 where
   plain : Invocation → LedgerCall
-  waiting : WaitingCall → LedgerCall
+  onEntries : WaitingCall → LedgerCall
 
 unfoldable pub ledgerStep : Lent → LedgerCall → WaitingOutcome
 ledgerStep s (plain q) =
     let o = step (s .memory) (q .call) (q .list) in
     record { answer = o .answer; state = lent (o .state) (s .waiting) }
-ledgerStep s (waiting call) = waitingStep s call
+ledgerStep s (onEntries call) = waitingStep s call
 
 abbrev pub ledgerEvents : LedgerCall → Answer → List Event
 ledgerEvents (plain q) a = []
-ledgerEvents (waiting call) a = eventsOf call a
-
--- An accepted opening that is not lent the further slice.
-abbrev pub opensPlainly : Lent → LedgerCall → Bool
-opensPlainly s (plain q) = isOpening (q .call) && eqb (ledgerStep s (plain q) .answer .number) 0
-opensPlainly s (waiting call) = false
+ledgerEvents (onEntries call) a = eventsOf call a
 
 unfoldable pub ledgerAfter : Lent → List LedgerCall → Lent
 ledgerAfter s [] = s
@@ -160,28 +169,22 @@ unfoldable pub ledgerHistory : Lent → List LedgerCall → List Event
 ledgerHistory s [] = []
 ledgerHistory s (q ∷ qs) = ledgerEvents q (ledgerStep s q .answer) ++ ledgerHistory (ledgerStep s q .state) qs
 
--- None of the calls is such an opening.
-abbrev pub OpensNonePlainly : Lent → List LedgerCall → Type 0
-OpensNonePlainly s [] = Unit {0}
-OpensNonePlainly s (q ∷ qs) = (opensPlainly s q ≡ false) × OpensNonePlainly (ledgerStep s q .state) qs
-
--- An accepted opening with the slice, and calls after it: the eleven, openings with the slice, refused openings, and those on entries.
--- A plain opening is left out: it leaves the further slice, and after one with another f an entry's taker may be no replica any more, so
--- that every call on entries gives 1.
-pub record Ledger : Type 0 where
+-- An accepted opening with the slice, and any calls after it. A plain opening is allowed: it leaves the further slice as it is and tells
+-- nothing. With another f (a table of another length, which only a caller that lends other slices can bring) an entry's giver or taker may
+-- be no replica any more, and then the calls on entries give 1.
+pub record LedgerRun : Type 0 where
   pub start : Lent
   pub f : ℕ
   pub steps : List ℕ
   pub calls : List LedgerCall
   pub accepted : Accepted (waitingStep start (Open f steps))
-  pub none : OpensNonePlainly (waitingStep start (Open f steps) .state) calls
 
-abbrev pub openedLedger : Ledger → Lent
+abbrev pub openedLedger : LedgerRun → Lent
 openedLedger x = waitingStep (x .start) (Open (x .f) (x .steps)) .state
 
-abbrev pub ledgerEnd : Ledger → Lent
+abbrev pub ledgerEnd : LedgerRun → Lent
 ledgerEnd x = ledgerAfter (openedLedger x) (x .calls)
 
-abbrev pub ledgerTold : Ledger → List Event
+abbrev pub ledgerTold : LedgerRun → List Event
 ledgerTold x =
     eventsOf (Open (x .f) (x .steps)) (waitingStep (x .start) (Open (x .f) (x .steps)) .answer) ++ ledgerHistory (openedLedger x) (x .calls)

@@ -1,7 +1,8 @@
 -- What is claimed of entries that wait: each field is a statement of this crate; proofs/Claims.antt holds the proof of each.
 use Rattle.entries.specs.Theorems.{RefusedWaitingChangesNothing, AcceptedWaitingLeavesForm, WaitingLeavesLedger}
 use Rattle.entries.specs.Theorems.{OnlyNamedWaitingChange, WaitingLowestWins, OpenWaitingOrder, OpenReadsNoEntry, AskIsPass}
-use Rattle.entries.specs.Theorems.{LedgerAnswersPass, NeverMoreWait, PlaceTakesOutOne, PalletsWaitingBounded}
+use Rattle.entries.specs.Theorems.{CallsAnswerByHistory, LedgerAnswersPass, NeverMoreWait, PlaceTakesOutOne, WaitingNumbersListed}
+use Rattle.entries.specs.Theorems.{PalletsWaitingBounded}
 
 pub record Claims : Type 0 where
   -- a refused call returns the number of a need that fails and two zeros, and changes no word
@@ -20,11 +21,16 @@ pub record Claims : Type 0 where
   pub openReadsNoEntry : OpenReadsNoEntry
   -- an accepted Ask answers what a full pass over the history gives, whatever the three slices are
   pub askIsPass : AskIsPass
-  -- in a ledger that its own calls alone change, every replica's Ask is accepted, and every entry that waits can be withdrawn
+  -- where the four slices have their form, a call's number is told by the entries that wait, and the places used, by the history
+  pub callsAnswerByHistory : CallsAnswerByHistory
+  -- in a ledger that its own calls alone change, every replica's Ask is accepted, every entry that waits can be withdrawn, and all calls
+  -- answer by the history
   pub ledgerAnswersPass : LedgerAnswersPass
   -- never more than 512 wait
   pub neverMoreWait : NeverMoreWait
   -- a place takes out at most one entry between two openings
   pub placeTakesOutOne : PlaceTakesOutOne
+  -- a call returns only the numbers listed for it
+  pub waitingNumbersListed : WaitingNumbersListed
   -- the pallets waiting for a taker are at most 5,120,000
   pub palletsWaitingBounded : PalletsWaitingBounded

@@ -125,12 +125,12 @@ unfoldable pub isWaiting : ℕ → List Entry → Bool
 isWaiting identity [] = false
 isWaiting identity (e ∷ es) = eqb (e .identity) identity || isWaiting identity es
 
--- The entry of an identity; where there is none, one of zeros.
+-- The first entry of an identity; where there is none, one of zeros.
 unfoldable pub entryOf : ℕ → List Entry → Entry
 entryOf identity [] = record { identity = 0; giver = 0; taker = 0; pallets = 0 }
 entryOf identity (e ∷ es) = cond (eqb (e .identity) identity) e (entryOf identity es)
 
--- The entries without that of an identity.
+-- The entries without the first of an identity.
 unfoldable pub without : ℕ → List Entry → List Entry
 without identity [] = []
 without identity (e ∷ es) = cond (eqb (e .identity) identity) es (e ∷ without identity es)

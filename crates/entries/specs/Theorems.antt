@@ -7,18 +7,20 @@ use mathlib.Core.List.{List, [], _∷_, _++_, map, List·Memᴰ}
 use lib.ListN.{length, getD}
 use Rattle.protocol.specs.Memory.{Memory, replicaCount, faultBound}
 use Rattle.protocol.specs.Form.{wellFormed}
-use Rattle.protocol.specs.Outcome.{_else_, firstRefusal, wrongForm, wrongCertificate}
+use Rattle.protocol.specs.Outcome.{_else_, firstRefusal, wrongForm, outOfRange, unknownNumber, wrongCertificate, wrongMovement, wrongSteps}
+use Rattle.protocol.specs.Outcome.{wrongIdentity, waitingFull}
+use Rattle.protocol.specs.FirstNeeds.{isReplica}
 use Rattle.protocol.specs.Runs.{step}
 use Rattle.protocol.specs.declared.Call.the-variants as Plain
-use Rattle.movements.specs.Movements.{maxPallets}
+use Rattle.movements.specs.Movements.{maxPallets, isMovementList}
 use Rattle.protocol.specs.Theorems.{Accepted, Refused, Lowest, below}
 use Rattle.entries.specs.declared.Entry.{Entry}
 use Rattle.entries.specs.Entries.{maxWaiting, waitingCountAt, keptPalletsAt, keptEarliestAt, entryWidth, entryAt, placeAt}
 use Rattle.entries.specs.Entries.{waitingWords, waitingCount, entries, waitingFormed, entryOf}
-use Rattle.entries.specs.Waiting.{Lent, lent, WaitingCall, Open, Enter, Withdraw, Match, Ask, matchNeeds, fitNeeds, waitingRule}
-use Rattle.entries.specs.Waiting.{waitingStep}
-use Rattle.entries.specs.Arrivals.{Event, matched, stillWaiting, palletsBy, passed, replicasBy, opensAmong, Kept, keptSlice, keptEvents}
-use Rattle.entries.specs.Arrivals.{Ledger, ledgerEnd, ledgerTold}
+use Rattle.entries.specs.Waiting.{Lent, lent, arrivalNeeds, departureNeeds, namingNeeds, fitNeeds, matchNeeds, matchFit}
+use Rattle.entries.specs.Waiting.{WaitingCall, Open, Enter, Withdraw, Match, Ask, waitingRule, waitingStep}
+use Rattle.entries.specs.Arrivals.{Event, matched, stillWaiting, palletsBy, passed, replicasBy, opensAmong, usedBy}
+use Rattle.entries.specs.Arrivals.{SliceRun, sliceEnd, sliceTold, LedgerRun, ledgerEnd, ledgerTold}
 
 -- ---- A refused call returns the number of a need that fails and two zeros, and leaves every word of the slice and of the three.
 
@@ -92,7 +94,7 @@ pub record WaitingOrder (s : Lent) : Type 0 where
       → List·Memᴰ (false else number) (matchNeeds s movements i identity place)
       → Lowest (waitingStep s (Match movements i identity place)) number
   pub fits : (movements : List ℕ) (i identity place : ℕ) → firstRefusal (matchNeeds s movements i identity place) ≡ 0
-      → (number : ℕ) → List·Memᴰ (false else number) (fitNeeds s movements i identity place)
+      → (number : ℕ) → List·Memᴰ (false else number) (matchFit s movements i identity place)
       → waitingStep s (Match movements i identity place) .answer .number ≡ wrongCertificate
   pub asks : (taker number : ℕ) → List·Memᴰ (false else number) (waitingRule s (Ask taker) .needs)
       → Lowest (waitingStep s (Ask taker)) number
@@ -128,37 +130,73 @@ OpenReadsNoEntry = (m : Memory) (w w′ : List ℕ) (f : ℕ) (steps : List ℕ)
 
 unfoldable pub AskIsPass : Type 0
 AskIsPass =
-    (x : Kept) (m : Memory) (taker : ℕ) → Accepted (waitingStep (lent m (keptSlice x)) (Ask taker))
-    → waitingStep (lent m (keptSlice x)) (Ask taker) .answer ≡ passed (keptEvents x) taker
+    (x : SliceRun) (m : Memory) (taker : ℕ) → Accepted (waitingStep (lent m (sliceEnd x)) (Ask taker))
+    → waitingStep (lent m (sliceEnd x)) (Ask taker) .answer ≡ passed (sliceTold x) taker
 
--- ---- Where the three slices too are changed by the ledger's own calls alone, and no plain opening is among them, the Ask of every replica
--- is accepted, and every entry that waits by the history can be withdrawn.
+-- ---- The calls answer by the history: where the four slices have their form, each returns the number of the first of its needs that
+-- fails, with the entries that wait by the history and the places used by it.
 
-pub record Answers (x : Ledger) : Type 0 where
+pub record AnswersBy (events : List Event) (s : Lent) : Type 0 where
+  pub enters : (e : Entry)
+      → waitingStep s (Enter e) .answer .number
+      ≡ firstRefusal (arrivalNeeds (replicaCount (faultBound (s .memory))) (stillWaiting events) e)
+  pub withdraws : (identity : ℕ)
+      → waitingStep s (Withdraw identity) .answer .number ≡ firstRefusal (departureNeeds (stillWaiting events) identity)
+  pub matches : (movements : List ℕ) (i identity place : ℕ)
+      → waitingStep s (Match movements i identity place) .answer .number
+      ≡ firstRefusal
+      (isMovementList movements else wrongForm
+      ∷ (namingNeeds (s .memory) (stillWaiting events) movements i identity place
+      ++ fitNeeds (s .memory) (stillWaiting events) (usedBy events place) movements i identity place))
+  pub asks : (taker : ℕ)
+      → waitingStep s (Ask taker) .answer .number ≡ firstRefusal (isReplica (s .memory) taker else outOfRange ∷ [])
+
+unfoldable pub CallsAnswerByHistory : Type 0
+CallsAnswerByHistory =
+    (x : SliceRun) (m : Memory) → FormLeft (lent m (sliceEnd x)) → AnswersBy (sliceTold x) (lent m (sliceEnd x))
+
+-- ---- Where the three slices too are changed by the ledger's own calls alone, the Ask of every replica is accepted, every entry that waits
+-- by the history can be withdrawn, and all calls answer by it.
+
+pub record Answers (x : LedgerRun) : Type 0 where
   pub asks : (taker : ℕ) → taker < replicasBy (ledgerTold x) 0
       → waitingStep (ledgerEnd x) (Ask taker) .answer ≡ passed (ledgerTold x) taker
   pub withdraws : (e : Entry) → List·Memᴰ e (stillWaiting (ledgerTold x))
       → Accepted (waitingStep (ledgerEnd x) (Withdraw (e .identity)))
+  pub calls : AnswersBy (ledgerTold x) (ledgerEnd x)
 
 unfoldable pub LedgerAnswersPass : Type 0
-LedgerAnswersPass = (x : Ledger) → Answers x
+LedgerAnswersPass = (x : LedgerRun) → Answers x
 
 -- ---- "512 may wait": never more than 512 wait, by the history.
 
 unfoldable pub NeverMoreWait : Type 0
-NeverMoreWait = (x : Kept) → length (stillWaiting (keptEvents x)) ≤ maxWaiting
+NeverMoreWait = (x : SliceRun) → length (stillWaiting (sliceTold x)) ≤ maxWaiting
 
 -- ---- "that took out no entry before": a place takes out at most one entry between two openings.
 
 unfoldable pub PlaceTakesOutOne : Type 0
 PlaceTakesOutOne =
-    (x : Kept) (before between after : List Event) (first second place : ℕ)
-    → keptEvents x ≡ before ++ (matched first place ∷ (between ++ (matched second place ∷ after))) → opensAmong between ≡ true
+    (x : SliceRun) (before between after : List Event) (first second place : ℕ)
+    → sliceTold x ≡ before ++ (matched first place ∷ (between ++ (matched second place ∷ after))) → opensAmong between ≡ true
 
--- ---- Answers: a number is one of those listed for these calls, and the pallets waiting for a taker are at most 5,120,000 (512 times 10,000).
+-- ---- A call returns only the numbers listed for it; 0 is "accepted".
+
+unfoldable pub mayAnswer : WaitingCall → List ℕ
+mayAnswer (Open f steps) = 0 ∷ outOfRange ∷ wrongSteps ∷ wrongForm ∷ []
+mayAnswer (Enter e) = 0 ∷ wrongForm ∷ wrongMovement ∷ wrongIdentity ∷ waitingFull ∷ []
+mayAnswer (Withdraw identity) = 0 ∷ wrongForm ∷ wrongIdentity ∷ []
+mayAnswer (Match movements i identity place) =
+    0 ∷ wrongForm ∷ outOfRange ∷ unknownNumber ∷ wrongMovement ∷ wrongIdentity ∷ wrongCertificate ∷ []
+mayAnswer (Ask taker) = 0 ∷ wrongForm ∷ outOfRange ∷ []
+
+unfoldable pub WaitingNumbersListed : Type 0
+WaitingNumbersListed = (s : Lent) (call : WaitingCall) → List·Memᴰ (waitingStep s call .answer .number) (mayAnswer call)
+
+-- ---- The pallets waiting for a taker are at most 5,120,000 (512 times 10,000).
 
 abbrev pub maxPalletsWaiting : ℕ
 maxPalletsWaiting = maxWaiting * maxPallets
 
 unfoldable pub PalletsWaitingBounded : Type 0
-PalletsWaitingBounded = (x : Kept) (taker : ℕ) → palletsBy (keptEvents x) taker ≤ maxPalletsWaiting
+PalletsWaitingBounded = (x : SliceRun) (taker : ℕ) → palletsBy (sliceTold x) taker ≤ maxPalletsWaiting

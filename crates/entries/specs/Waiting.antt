@@ -17,7 +17,7 @@ use Rattle.protocol.specs.Calls.{opening}
 use Rattle.movements.specs.declared.Movement.{Movement}
 use Rattle.movements.specs.Movements.{movement, movementCount, movementAllowed, isMovementList}
 use Rattle.entries.specs.declared.Entry.{Entry}
-use Rattle.entries.specs.Entries.{maxWaiting, placeAt, waitingWords, waitingCount, keptPallets, keptEarliest, isUsed, entries}
+use Rattle.entries.specs.Entries.{maxWaiting, placeAt, waitingWords, keptPallets, keptEarliest, isUsed, entries}
 use Rattle.entries.specs.Entries.{entryAllowed, waitingFormed, isWaiting, entryOf, without, holding, refreshed}
 
 -- What these calls are lent: the ledger's three slices, and the further one.
@@ -41,6 +41,47 @@ formNeeds s =
     ∷ waitingFormed (replicaCount (faultBound (s .memory))) (s .waiting) else wrongForm
     ∷ []
 
+-- ---- what the calls need after the form, where these entries wait
+
+-- "Entering returns 11 for an identity of 0 or a breach of those rules"; "13 for an identity already waiting [..]; 14 for 512 waiting."
+-- Where there are so many replicas.
+abbrev pub arrivalNeeds : ℕ → List Entry → Entry → List Need
+arrivalNeeds replicas es e =
+    entryAllowed replicas e else wrongMovement
+    ∷ not (isWaiting (e .identity) es) else wrongIdentity
+    ∷ ltb (length es) maxWaiting else waitingFull
+    ∷ []
+
+-- "13 for an identity [..] not waiting when it should leave or be matched".
+abbrev pub departureNeeds : List Entry → ℕ → List Need
+departureNeeds es identity = isWaiting identity es else wrongIdentity ∷ []
+
+-- "A movement is named and known by its place, from 0, in the list of #101, whatever list is lent (matching tests all of it as #101 does)".
+-- "A place past the movement list returns 3."
+abbrev pub namingNeeds : Memory → List Entry → List ℕ → ℕ → ℕ → ℕ → List Need
+namingNeeds m es movements i identity place =
+    isReplica m i else outOfRange
+    ∷ ltb place (movementCount movements) else unknownNumber
+    ∷ allBelow (movementCount movements) (λ k. movementAllowed (replicaCount (faultBound m)) (blockCount m) (movement movements k))
+    else wrongMovement
+    ∷ departureNeeds es identity
+
+-- Giver, taker and pallets are the entry's.
+abbrev pub isOfEntry : Movement → Entry → Bool
+isOfEntry x e = allHold (eqb (x .giver) (e .giver) ∷ eqb (x .taker) (e .taker) ∷ eqb (x .pallets) (e .pallets) ∷ [])
+
+-- "or when the line of a chosen box's shown block holds a movement of the same giver, taker and pallets that the host names for it and that
+-- took out no entry before." Where the place took one out, or not.
+abbrev pub fitNeeds : Memory → List Entry → Bool → List ℕ → ℕ → ℕ → ℕ → List Need
+fitNeeds m es tookOut movements i identity place =
+    let x = movement movements place in
+    isOfEntry x (entryOf identity es) else wrongCertificate
+    ∷ isAncestorBy (parent m) (x .block) (replica m i .decidedBlock) else wrongCertificate
+    ∷ not tookOut else wrongCertificate
+    ∷ []
+
+-- ---- the rules
+
 -- "An accepted opening empties the entries and these places." The ledger's opening, with the length of the further slice tested last; no
 -- word of that is read, and each becomes 0.
 unfoldable pub openRule : Lent → ℕ → List ℕ → WaitingRule
@@ -53,18 +94,12 @@ openRule s f steps =
       after = lent (plain .after) (replicate waitingWords 0);
     }
 
--- "Entering returns 11 for an identity of 0 or a breach of those rules"; "13 for an identity already waiting [..]; 14 for 512 waiting." "An
--- identity may come again after it has left, as a fresh arrival": it stands last.
+-- "An identity may come again after it has left, as a fresh arrival": it stands last.
 unfoldable pub enterRule : Lent → Entry → WaitingRule
 enterRule s e =
     let w = s .waiting in
     record {
-      needs =
-          formNeeds s
-          ++ (entryAllowed (replicaCount (faultBound (s .memory))) e else wrongMovement
-          ∷ not (isWaiting (e .identity) (entries w)) else wrongIdentity
-          ∷ ltb (waitingCount w) maxWaiting else waitingFull
-          ∷ []);
+      needs = formNeeds s ++ arrivalNeeds (replicaCount (faultBound (s .memory))) (entries w) e;
       first = 0;
       second = 0;
       after = lent (s .memory) (refreshed (holding w (entries w ++ (e ∷ []))) (e .taker));
@@ -74,50 +109,31 @@ enterRule s e =
 abbrev pub departed : List ℕ → ℕ → List ℕ
 departed w identity = refreshed (holding w (without identity (entries w))) (entryOf identity (entries w) .taker)
 
--- "It leaves when it is withdrawn": "13 for an identity [..] not waiting when it should leave".
+-- "It leaves when it is withdrawn".
 unfoldable pub withdrawRule : Lent → ℕ → WaitingRule
 withdrawRule s identity =
-    let w = s .waiting in
     record {
-      needs = formNeeds s ++ (isWaiting identity (entries w) else wrongIdentity ∷ []);
+      needs = formNeeds s ++ departureNeeds (entries (s .waiting)) identity;
       first = 0;
       second = 0;
-      after = lent (s .memory) (departed w identity);
+      after = lent (s .memory) (departed (s .waiting) identity);
     }
 
--- Giver, taker and pallets are the entry's.
-abbrev pub isOfEntry : Movement → Entry → Bool
-isOfEntry x e = allHold (eqb (x .giver) (e .giver) ∷ eqb (x .taker) (e .taker) ∷ eqb (x .pallets) (e .pallets) ∷ [])
-
--- "A movement is named and known by its place, from 0, in the list of #101, whatever list is lent (matching tests all of it as #101 does)".
--- "A place past the movement list returns 3"; "13 for an identity [..] not waiting when it should [..] be matched".
+-- All but the fit; and the fit, which comes last.
 abbrev pub matchNeeds : Lent → List ℕ → ℕ → ℕ → ℕ → List Need
 matchNeeds s movements i identity place =
-    let m = s .memory in
     isMovementList movements else wrongForm
-    ∷ (formNeeds s
-    ++ (isReplica m i else outOfRange
-    ∷ ltb place (movementCount movements) else unknownNumber
-    ∷ allBelow (movementCount movements) (λ k. movementAllowed (replicaCount (faultBound m)) (blockCount m) (movement movements k))
-    else wrongMovement
-    ∷ isWaiting identity (entries (s .waiting)) else wrongIdentity
-    ∷ []))
+    ∷ (formNeeds s ++ namingNeeds (s .memory) (entries (s .waiting)) movements i identity place)
 
--- "or when the line of a chosen box's shown block holds a movement of the same giver, taker and pallets that the host names for it and that
--- took out no entry before."
-abbrev pub fitNeeds : Lent → List ℕ → ℕ → ℕ → ℕ → List Need
-fitNeeds s movements i identity place =
-    let m = s .memory in
-    let x = movement movements place in
-    isOfEntry x (entryOf identity (entries (s .waiting))) else wrongCertificate
-    ∷ isAncestorBy (parent m) (x .block) (replica m i .decidedBlock) else wrongCertificate
-    ∷ not (isUsed (s .waiting) place) else wrongCertificate
-    ∷ []
+abbrev pub matchFit : Lent → List ℕ → ℕ → ℕ → ℕ → List Need
+matchFit s movements i identity place =
+    let w = s .waiting in
+    fitNeeds (s .memory) (entries w) (isUsed w place) movements i identity place
 
 unfoldable pub matchRule : Lent → List ℕ → ℕ → ℕ → ℕ → WaitingRule
 matchRule s movements i identity place =
     record {
-      needs = matchNeeds s movements i identity place ++ fitNeeds s movements i identity place;
+      needs = matchNeeds s movements i identity place ++ matchFit s movements i identity place;
       first = 0;
       second = 0;
       after = lent (s .memory) (set (departed (s .waiting) identity) (placeAt place) 1);

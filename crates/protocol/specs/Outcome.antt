@@ -14,7 +14,7 @@ wrongForm = 1
 abbrev pub outOfRange : ℕ
 outOfRange = 2
 
--- "certificate or block number not below its count"
+-- "certificate or block number not below its count"; document 02, #108: the place of a movement too.
 abbrev pub unknownNumber : ℕ
 unknownNumber = 3
 
@@ -22,7 +22,8 @@ unknownNumber = 3
 abbrev pub wrongStatus : ℕ
 wrongStatus = 4
 
--- "a certificate of the wrong kind, signer, view, block, subject or boot, or a signer twice; box not leader"
+-- "a certificate of the wrong kind, signer, view, block, subject or boot, or a signer twice; box not leader"; document 02, #108: a movement
+-- that an entry is not matched by, too.
 abbrev pub wrongCertificate : ℕ
 wrongCertificate = 5
 
@@ -67,7 +68,8 @@ pub data Need : Type 0 where
   _else_ : Bool → ℕ → Need
 
 infix 68 _else_
--- The number of the first need that fails, or 0. "The lowest number wins": each call but opening has its needs in rising order.
+-- The number of the first need that fails, or 0. "The lowest number wins": each call has its needs in rising order, but opening and the match
+-- of document 02, #108, whose 5 comes last.
 unfoldable pub firstRefusal : List Need → ℕ
 firstRefusal [] = 0
 firstRefusal ((test else number) ∷ rest) = cond test (firstRefusal rest) number

@@ -162,8 +162,8 @@ pub record OpeningTests (m : Memory) (f : ℕ) (list : List ℕ) : Type 0 where
 unfoldable pub OpeningOrder : Type 0
 OpeningOrder = (m : Memory) (f : ℕ) (list : List ℕ) → OpeningTests m f list
 
--- ---- A call's number is at most 9, or an opening's 12, since 10 is the program's alone and 11 a netting's; its values are at most
--- 1,000,000.
+-- ---- A call's number is at most 9, or an opening's 12, since 10 is the program's alone, 11 a netting's, and 11, 13 and 14 those of the calls
+-- on entries that wait; its values are at most 1,000,000.
 
 abbrev pub mayReturn : Call → ℕ → Bool
 mayReturn call number = leb number noRoom || (isOpening call && eqb number wrongSteps)

@@ -4,6 +4,7 @@ use Rattle.protocol.proofs.Claims as Protocol
 use Rattle.field.proofs.Claims as Field
 use Rattle.panel.proofs.Claims as Panel
 use Rattle.netting.proofs.Claims as Netting
+use Rattle.entries.proofs.Claims as Entries
 use Rattle.script.proofs.Claims as Script
 use Rattle.stream.proofs.Claims as Stream
 
@@ -14,6 +15,7 @@ proved =
       field = Field.claimed;
       panel = Panel.claimed;
       netting = Netting.claimed;
+      entries = Entries.claimed;
       script = Script.claimed;
       stream = Stream.claimed;
     }

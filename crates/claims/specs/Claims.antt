@@ -5,6 +5,7 @@ use Rattle.protocol.specs.Claims as Protocol
 use Rattle.field.specs.Claims as Field
 use Rattle.panel.specs.Claims as Panel
 use Rattle.netting.specs.Claims as Netting
+use Rattle.entries.specs.Claims as Entries
 use Rattle.script.specs.Claims as Script
 use Rattle.stream.specs.Claims as Stream
 
@@ -17,6 +18,8 @@ pub record Claims : Type 0 where
   pub panel : Panel.Claims
   -- nettings
   pub netting : Netting.Claims
+  -- movements that wait
+  pub entries : Entries.Claims
   -- script lines
   pub script : Script.Claims
   -- the program's bytes

@@ -4,6 +4,7 @@ use mathlib.Core.Path.{_≡_, refl, sym, _∙_}
 use mathlib.Core.Bool.{true, false, not, _&&_}
 use mathlib.Core.List.{List, [], _∷_, _++_}
 use lib.Dec.{ltb}
+use lib.ListN.{length}
 use Rattle.protocol.specs.Memory.{replicaCount, faultBound}
 use Rattle.protocol.specs.Form.{wellFormed}
 use Rattle.protocol.specs.Outcome.{Need, firstRefusal, wrongForm, outOfRange, wrongMovement, wrongIdentity, waitingFull}
@@ -12,6 +13,7 @@ use Rattle.protocol.proofs.logic.Booleans.{tests, by-test}
 use Rattle.entries.specs.declared.Entry.{Entry}
 use Rattle.entries.specs.Entries.{maxWaiting, waitingCount, entries, entryAllowed, waitingFormed, isWaiting}
 use Rattle.entries.specs.Waiting.{Lent, formNeeds, enterRule, withdrawRule, askRule, Enter, Withdraw, Ask, waitingRule}
+use Rattle.entries.proofs.Slices.{slice-count}
 use Rattle.waiting.specs.inner.Parts.{isReady}
 use Rattle.waiting.proofs.Known.{Known}
 
@@ -75,12 +77,14 @@ module _ (s : Lent) where
             → firstRefusal (waitingRule s (Enter e) .needs) ≡ waitingFull
         unfolding waitingRule enterRule firstRefusal
         enter-full t l =
-            let room : ltb (waitingCount (s .waiting)) maxWaiting ≡ false = omega tests in
+            let count = slice-count (s .waiting) in
+            let room : ltb (length (entries (s .waiting))) maxWaiting ≡ false = omega tests in
             rw (h .memory, h .waiting, allowed, t, room) refl
 
         pub enter-passes : isWaiting (e .identity) (entries (s .waiting)) ≡ false → waitingCount (s .waiting) < maxWaiting
             → firstRefusal (waitingRule s (Enter e) .needs) ≡ 0
         unfolding waitingRule enterRule firstRefusal
         enter-passes t l =
-            let room : ltb (waitingCount (s .waiting)) maxWaiting ≡ true = omega tests in
+            let count = slice-count (s .waiting) in
+            let room : ltb (length (entries (s .waiting))) maxWaiting ≡ true = omega tests in
             rw (h .memory, h .waiting, allowed, t, room) refl

@@ -3,3 +3,4 @@ pub mod Entries
 pub mod Waiting
 pub mod Arrivals
 pub mod Theorems
+pub mod cases

@@ -1,0 +1,3 @@
+-- The table of cases, by computation.
+pub mod Rows
+pub mod Table

@@ -8,4 +8,6 @@ pub mod Withdrawing
 pub mod Matching
 pub mod Asking
 pub mod Words
+pub mod Crowds
+pub mod Day
 pub mod Table

@@ -1,5 +1,6 @@
 -- The table of cases, by computation: a line for each case, so that the check names the one that is wrong.
 use mathlib.Core.Path.{refl}
+use mathlib.Core.List.{[], _∷_}
 use Rattle.entries.specs.cases.Openings.{openingCases, oneWordLess, oneWordMore, itsLength, refusedOpeningLeaves, openingEmpties, openedOverAnything}
 use Rattle.entries.specs.cases.Forms.{lengthCases}
 use Rattle.entries.specs.cases.Forms.{entryFormCases}
@@ -10,10 +11,14 @@ use Rattle.entries.specs.cases.Withdrawing.{withdrawingCases, notWaiting
 use Rattle.entries.specs.cases.Matching.{matchingCases, lists, everyMovement, identitiesMatched, order, otherMovement, lines, places, placeWords, earlierMatched, passingCases}
 use Rattle.entries.specs.cases.Asking.{askingCases, takers, lastOfMany}
 use Rattle.entries.specs.cases.Words.{wordCases, openLeaves, enterLeaves, withdrawFirstLeaves, withdrawMiddleLeaves, withdrawLastLeaves, matchLeaves, matchFirstPlaceLeaves, askLeaves}
+use Rattle.entries.specs.cases.Crowds.{pastTheMost, oneTooMany, oneMovementTooMany}
+use Rattle.entries.specs.cases.Day.{day}
 use Rattle.entries.specs.cases.Rows.{EveryCaseHolds}
 use Rattle.entries.specs.cases.Table.{WaitingCasesHold}
 use Rattle.protocol.proofs.cases.Rows.{_and_}
 use Rattle.entries.proofs.cases.Rows.{wrong, right, all-right}
+use Rattle.entries.proofs.cases.Crowds.{crowd-cases, many-cases}
+use Rattle.entries.proofs.cases.Day.{day-told, events-hold}
 
 opening-cases : EveryCaseHolds openingCases
 unfolding wrong EveryCaseHolds openingCases
@@ -100,7 +105,18 @@ word-cases =
     and right askLeaves refl
     and tt
 
+past-the-most : EveryCaseHolds pastTheMost
+unfolding wrong EveryCaseHolds pastTheMost
+past-the-most =
+    right oneTooMany refl
+    and right oneMovementTooMany refl
+    and tt
+
+worked-day : EveryCaseHolds (day ∷ [])
+unfolding wrong EveryCaseHolds
+worked-day = right day refl and tt
+
 pub waiting-cases-hold : WaitingCasesHold
 unfolding WaitingCasesHold
 waiting-cases-hold =
-    (opening-cases, length-cases, entry-form-cases, which-entries-cases, every-call-cases, entering-cases, withdrawing-cases, matching-cases, asking-cases, word-cases)
+    (opening-cases, length-cases, entry-form-cases, which-entries-cases, every-call-cases, entering-cases, withdrawing-cases, matching-cases, asking-cases, word-cases, crowd-cases, many-cases, past-the-most, worked-day, day-told, events-hold)

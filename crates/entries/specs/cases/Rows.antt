@@ -5,20 +5,28 @@ use mathlib.Core.Path.{_≡_}
 use mathlib.Core.List.{List, [], _∷_, _++_}
 use lib.ListN.{length, take, drop}
 use Rattle.protocol.specs.Outcome.{Answer}
+use Rattle.protocol.specs.Runs.{Invocation}
 use Rattle.protocol.specs.cases.Rows as Plain
+use Rattle.entries.specs.declared.Entry.{Entry}
 use Rattle.entries.specs.Waiting.{Lent, lent, Open, Enter, Withdraw, Match, Ask}
-use Rattle.entries.specs.Arrivals.{LedgerCall, waiting, ledgerStep}
+use Rattle.entries.specs.Arrivals.{LedgerCall, plain, waiting, ledgerStep}
 
 -- ---- as they are written
+
+-- One of the twelve calls of a ledger.
+abbrev pub calls : Invocation → LedgerCall
+calls q = plain q
 
 -- f, and the steps beside it.
 abbrev pub opens : ℕ → List ℕ → LedgerCall
 opens f steps = waiting (Open f steps)
 
 -- An identity, a giver, a taker, pallets.
+abbrev pub made : ℕ → ℕ → ℕ → ℕ → Entry
+made identity giver taker pallets = record { identity = identity; giver = giver; taker = taker; pallets = pallets }
+
 abbrev pub enters : ℕ → ℕ → ℕ → ℕ → LedgerCall
-enters identity giver taker pallets =
-    waiting (Enter (record { identity = identity; giver = giver; taker = taker; pallets = pallets }))
+enters identity giver taker pallets = waiting (Enter (made identity giver taker pallets))
 
 abbrev pub withdraws : ℕ → LedgerCall
 withdraws identity = waiting (Withdraw identity)

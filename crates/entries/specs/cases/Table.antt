@@ -1,4 +1,5 @@
 -- The table of cases, whole.
+use mathlib.Core.List.{[], _∷_}
 use Rattle.entries.specs.cases.Rows.{EveryCaseHolds}
 use Rattle.entries.specs.cases.Openings.{openingCases}
 use Rattle.entries.specs.cases.Forms.{lengthCases, entryFormCases, whichEntriesCases, everyCallCases}
@@ -7,6 +8,8 @@ use Rattle.entries.specs.cases.Withdrawing.{withdrawingCases}
 use Rattle.entries.specs.cases.Matching.{matchingCases}
 use Rattle.entries.specs.cases.Asking.{askingCases}
 use Rattle.entries.specs.cases.Words.{wordCases}
+use Rattle.entries.specs.cases.Crowds.{crowdCases, manyCases, pastTheMost}
+use Rattle.entries.specs.cases.Day.{day, DayTold, EventsHold}
 
 -- Every row's call gives the answer beside it and, where words stand there, leaves just these.
 unfoldable pub WaitingCasesHold : Type 0
@@ -21,3 +24,9 @@ WaitingCasesHold =
     × EveryCaseHolds matchingCases
     × EveryCaseHolds askingCases
     × EveryCaseHolds wordCases
+    × EveryCaseHolds crowdCases
+    × EveryCaseHolds manyCases
+    × EveryCaseHolds pastTheMost
+    × EveryCaseHolds (day ∷ [])
+    × DayTold
+    × EventsHold

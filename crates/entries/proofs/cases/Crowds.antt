@@ -18,7 +18,7 @@ use Rattle.entries.specs.declared.Entry.{Entry}
 use Rattle.entries.specs.Entries.{waitingCount, entry, entriesFrom, entries, entryAllowed, waitingFormed, isWaiting}
 use Rattle.entries.specs.Waiting.{lent}
 use Rattle.entries.specs.Arrivals.{LedgerCall, ledgerStep}
-use Rattle.entries.specs.cases.Rows.{enters, matches, asks, RowHolds, RowsHold, EveryCaseHolds}
+use Rattle.entries.specs.cases.Rows.{made, enters, withdraws, matches, asks, RowHolds, RowsHold, EveryCaseHolds}
 use Rattle.entries.specs.cases.Starts.{forked, waits, moves}
 use Rattle.entries.specs.cases.Crowds.{repeated, crowd, oneFree, full, crowdCases, many, waiting7, manyCases}
 use Rattle.protocol.proofs.cases.Rows.{_and_}
@@ -39,7 +39,7 @@ read (suc n) (suc k) o ws rest four h l =
 -- ---- entries
 
 abbrev same : Entry
-same = record { identity = 5; giver = 0; taker = 1; pallets = 3 }
+same = made 5 0 1 3
 
 module _ (n : ℕ) (rest : List ℕ) where
   word : (k o : ℕ) → k < n → o < 4 → getD (crowd n rest) (123 + 4 * k + o) 0 ≡ getD (waits 5 0 1 3) o 0
@@ -84,6 +84,10 @@ module _ (slice : List ℕ) (formed : waitingFormed 3 slice ≡ true) where
     unfolding wrong
     no-pallets = rw formed refl
 
+    may-leave : isWaiting 5 (entries slice) ≡ true → Gives (withdraws 5) (accepted 0 0)
+    unfolding wrong
+    may-leave known = rw (formed, known) refl
+
     is-formed : getD slice 3 0 ≡ 77 → getD slice 4 0 ≡ 77 → Gives (asks 1) (accepted 77 77)
     unfolding wrong
     is-formed pallets earliest = rw (formed, pallets, earliest) refl
@@ -116,6 +120,7 @@ crowd-cases =
     and (is-full full full-formed refl full-new and tt)
     and (waits-already full full-formed refl full-known and tt)
     and (no-pallets full full-formed refl and tt)
+    and (may-leave full full-formed refl full-known and tt)
     and tt
 
 -- ---- movements

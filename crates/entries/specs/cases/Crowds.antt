@@ -5,7 +5,7 @@ use lib.ListN.{replicate}
 use lib.Seq.{sets}
 use Rattle.protocol.specs.Outcome.{wrongForm, unknownNumber, wrongMovement, wrongIdentity, wrongCertificate, waitingFull}
 use Rattle.protocol.specs.cases.Rows.{accepted, refused}
-use Rattle.entries.specs.cases.Rows.{enters, matches, asks, Row, _gives_, Case}
+use Rattle.entries.specs.cases.Rows.{enters, withdraws, matches, asks, Row, _gives_, Case}
 use Rattle.entries.specs.cases.Starts.{moves, waits, by-hand, on}
 
 -- The words so many times, and the rest.
@@ -25,7 +25,7 @@ oneFree = crowd 511 (replicate 4 77 ++ replicate 2048 0)
 abbrev pub full : List ℕ
 full = crowd 512 (replicate 2048 0)
 
--- One more goes in where 511 wait; 512 are of the form, and then none goes in. 11 before 13 before 14.
+-- One more goes in where 511 wait; 512 are of the form, and then none goes in, and one may leave. 11 before 13 before 14.
 unfoldable pub crowdCases : List Case
 crowdCases =
     on oneFree (enters 7 0 1 5 gives accepted 0 0 ∷ [])
@@ -33,6 +33,7 @@ crowdCases =
     ∷ on full (enters 7 0 1 5 gives refused waitingFull ∷ [])
     ∷ on full (enters 5 0 1 5 gives refused wrongIdentity ∷ [])
     ∷ on full (enters 5 0 1 0 gives refused wrongMovement ∷ [])
+    ∷ on full (withdraws 5 gives accepted 0 0 ∷ [])
     ∷ []
 
 -- 513 are not of the form, though each by itself is: the words of the last one stand where those of the first places do.

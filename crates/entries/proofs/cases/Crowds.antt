@@ -19,8 +19,8 @@ use Rattle.entries.specs.Entries.{waitingCount, entry, entriesFrom, entr
 use Rattle.entries.specs.Waiting.{lent}
 use Rattle.entries.specs.Arrivals.{LedgerCall, ledgerStep}
 use Rattle.entries.specs.cases.Rows.{made, enters, withdraws, matches, asks, RowHolds, RowsHold, EveryCaseHolds}
-use Rattle.entries.specs.cases.Starts.{forked, waits, moves}
-use Rattle.entries.specs.cases.Crowds.{repeated, crowd, oneFree, full, crowdCases, many, waiting7, manyCases}
+use Rattle.entries.specs.cases.Starts.{repeated, forked, waits, moves}
+use Rattle.entries.specs.cases.Crowds.{crowd, oneFree, full, crowdCases, many, waiting7, manyCases}
 use Rattle.protocol.proofs.cases.Rows.{_and_}
 use Rattle.entries.proofs.cases.Rows.{wrong}
 

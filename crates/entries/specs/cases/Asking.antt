@@ -2,15 +2,11 @@
 use Prim.Native.Nat.{ℕ}
 use mathlib.Core.List.{List, [], _∷_, _++_}
 use lib.ListN.{replicate}
-use Rattle.protocol.specs.declared.Call.the-variants as Plain
-use Rattle.protocol.specs.Memory.{Memory}
 use Rattle.protocol.specs.Outcome.{outOfRange, wrongMovement}
-use Rattle.protocol.specs.Runs.{run}
-use Rattle.protocol.specs.cases.Rows.{plain, accepted, refused}
-use Rattle.protocol.specs.cases.Starts.{zeros}
+use Rattle.protocol.specs.cases.Rows.{accepted, refused}
 use Rattle.entries.specs.Waiting.{lent}
 use Rattle.entries.specs.cases.Rows.{enters, withdraws, asks, Row, _gives_, _gives_leaving_, _holds_, Case}
-use Rattle.entries.specs.cases.Starts.{nothing, on}
+use Rattle.entries.specs.cases.Starts.{sixtyOne, nothing, on}
 
 -- The words of each taker stand beside those of the next: 0, 1 and 2 of replicas 0 to 2.
 abbrev pub takers : Case
@@ -22,14 +18,11 @@ takers =
     ∷ asks 3 gives refused outOfRange leaving []
     ∷ [])
 
--- f = 30, so replicas 0 to 60: the last one's two words stand before the entries.
-abbrev many : Memory
-many = run (zeros 30 0 1) (plain (Plain.Open 30) ∷ [])
-
+-- Of 61 replicas the last one's two words stand before the entries.
 abbrev pub lastOfMany : Case
 lastOfMany =
     record {
-      start = lent many nothing;
+      start = lent sixtyOne nothing;
       rows =
           enters 7 61 60 5 gives refused wrongMovement
           ∷ enters 7 59 61 5 gives refused wrongMovement

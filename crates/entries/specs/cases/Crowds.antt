@@ -1,17 +1,12 @@
 -- As many entries as may wait, and as many movements as may be lent: "512 may wait"; "at most 2,048 movements are lent".
-use Prim.Native.Nat.{ℕ, zero, suc}
+use Prim.Native.Nat.{ℕ}
 use mathlib.Core.List.{List, [], _∷_, _++_}
 use lib.ListN.{replicate}
 use lib.Seq.{sets}
 use Rattle.protocol.specs.Outcome.{wrongForm, unknownNumber, wrongMovement, wrongIdentity, wrongCertificate, waitingFull}
 use Rattle.protocol.specs.cases.Rows.{accepted, refused}
 use Rattle.entries.specs.cases.Rows.{enters, withdraws, matches, asks, Row, _gives_, Case}
-use Rattle.entries.specs.cases.Starts.{moves, waits, by-hand, on}
-
--- The words so many times, and the rest.
-abbrev pub repeated : ℕ → List ℕ → List ℕ → List ℕ
-repeated zero words rest = rest
-repeated (suc n) words rest = words ++ repeated n words rest
+use Rattle.entries.specs.cases.Starts.{repeated, moves, waits, by-hand, on}
 
 -- ---- entries
 

@@ -1,11 +1,16 @@
 -- What the cases start from: a ledger with a forked line, and slices of entries written by hand.
-use Prim.Native.Nat.{ℕ}
+use Prim.Native.Nat.{ℕ, zero, suc}
 use mathlib.Core.List.{List, [], _∷_, _++_}
 use lib.ListN.{replicate}
 use lib.Seq.{sets}
 use Rattle.protocol.specs.Memory.{Memory, memory}
 use Rattle.entries.specs.Waiting.{Lent, lent}
 use Rattle.entries.specs.cases.Rows.{Row, Case}
+
+-- The words so many times, and the rest.
+abbrev pub repeated : ℕ → List ℕ → List ℕ → List ℕ
+repeated zero words rest = rest
+repeated (suc n) words rest = words ++ repeated n words rest
 
 -- f = 1, so replicas 0 to 2. Blocks 1, 2 and 4 are one line on block 0, block 3 is another; one slot is free. Replica 0 shows block 2,
 -- replica 1 block 0, replica 2 block 4.
@@ -34,6 +39,14 @@ forked = memory table [] blocks
 -- The same with another height of block 4.
 abbrev pub brokenLedger : Memory
 brokenLedger = memory table [] (sets blocks 9 (9 ∷ []))
+
+-- f = 30, so replicas 0 to 60, as an opening leaves them.
+abbrev pub sixtyOne : Memory
+sixtyOne =
+    memory
+    (30 ∷ 0 ∷ 1
+    ∷ 64 ∷ 64 ∷ 128 ∷ 128 ∷ 256 ∷ 256 ∷ 512 ∷ 1024
+    ∷ repeated 61 (0 ∷ 0 ∷ 1 ∷ 64 ∷ 0 ∷ 0 ∷ 0 ∷ 0 ∷ 0 ∷ []) []) [] (0 ∷ 0 ∷ [])
 
 -- Nothing waits, and no place was used.
 abbrev pub nothing : List ℕ

@@ -6,6 +6,7 @@ use Rattle.entries.proofs.Frames.{only-named-waiting-change}
 use Rattle.entries.proofs.Histories.{ask-is-pass, calls-answer-by-history, never-more-wait, place-takes-out-one}
 use Rattle.entries.proofs.Histories.{pallets-waiting-bounded}
 use Rattle.entries.proofs.Ledgers.{ledger-answers-pass}
+use Rattle.entries.proofs.cases.Table.{waiting-cases-hold}
 
 pub claimed : Claims
 claimed =
@@ -24,4 +25,5 @@ claimed =
       placeTakesOutOne = place-takes-out-one;
       waitingNumbersListed = waiting-numbers-listed;
       palletsWaitingBounded = pallets-waiting-bounded;
+      waitingCasesHold = waiting-cases-hold;
     }

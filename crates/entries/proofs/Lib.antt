@@ -10,5 +10,6 @@ pub mod Passes
 pub mod Places
 pub mod Histories
 pub mod Ledgers
+pub mod cases
 pub mod Witnesses
 pub mod Claims

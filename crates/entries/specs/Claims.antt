@@ -3,6 +3,7 @@ use Rattle.entries.specs.Theorems.{RefusedWaitingChangesNothing, Accepte
 use Rattle.entries.specs.Theorems.{OnlyNamedWaitingChange, WaitingLowestWins, OpenWaitingOrder, OpenReadsNoEntry, AskIsPass}
 use Rattle.entries.specs.Theorems.{CallsAnswerByHistory, LedgerAnswersPass, NeverMoreWait, PlaceTakesOutOne, WaitingNumbersListed}
 use Rattle.entries.specs.Theorems.{PalletsWaitingBounded}
+use Rattle.entries.specs.cases.Table.{WaitingCasesHold}
 
 pub record Claims : Type 0 where
   -- a refused call returns the number of a need that fails and two zeros, and changes no word
@@ -34,3 +35,5 @@ pub record Claims : Type 0 where
   pub waitingNumbersListed : WaitingNumbersListed
   -- the pallets waiting for a taker are at most 5,120,000
   pub palletsWaitingBounded : PalletsWaitingBounded
+  -- worked cases: openings, the form, each call's limits and order, the words left, and a day
+  pub waitingCasesHold : WaitingCasesHold

@@ -3,4 +3,5 @@ pub mod Entries
 pub mod Waiting
 pub mod Arrivals
 pub mod Theorems
+pub mod cases
 pub mod Claims

@@ -130,7 +130,7 @@ fn form_fits<R: Rules>(rules: R, waiting: &Waiting, n: u32) -> bool {
         && entries.len() <= most
         && entries[..tested].iter().all(|&entry| entry_fits(rules, n, entry, &FORM))
         && !(rules.has(Mistake::WaitingFormDifferent) && (0..entries.len()).any(again))
-        && !(rules.has(Mistake::WaitingFormKept) && !kept_right())
+        && (!rules.has(Mistake::WaitingFormKept) || kept_right())
 }
 
 /// One place's own mistakes in testing an entry.

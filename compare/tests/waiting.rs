@@ -3,9 +3,13 @@
 
 mod common;
 
+use judge::comparison::checkers::Library;
+use judge::comparison::waitings::history_difference;
 use judge::driver::Driver;
 use judge::entries::{Entry, Waiting};
-use judge::mistake::Correct;
+use judge::generate::waiting::history;
+use judge::layout;
+use judge::mistake::{Correct, Mistake};
 use judge::random::Random;
 use judge::waiting::{ask, enter, match_entry, open, withdraw, Claim};
 
@@ -319,4 +323,44 @@ fn what_is_kept_is_the_pass_over_the_history() {
             }
         }
     }
+}
+
+/// Days, full slices and slices made by hand, with each mistake: no step goes past a slice or a number's end.
+#[test]
+fn any_history_is_answered() {
+    let (mut steps, mut by_hand) = (0, 0);
+    let all: Vec<Mistake> =
+        Mistake::ALL.iter().copied().filter(|mistake| mistake.is_of_waiting() || mistake.is_of_netting()).collect();
+    for seed in 1..=20 {
+        let history = history(seed);
+        assert_eq!(history_difference(&Library(None::<Mistake>), &Library(Correct), &history), None);
+        steps += history.acts.len();
+        if history.acts.len() < 12 {
+            by_hand += 1;
+            for &mistake in &all {
+                let _ = history_difference(&Library(Some(mistake)), &Library(Correct), &history);
+            }
+        }
+    }
+    assert!(steps > 300 && by_hand > 8, "{steps} steps, {by_hand} by hand");
+}
+
+/// The archive's words, as the comparison makes them by hand.
+#[test]
+fn the_further_slice_in_words() {
+    let mut yard = Yard::new(1);
+    yard.shows(&[0], 1);
+    for (identity, giver, taker, pallets) in [(7, 0, 1, 5), (8, 2, 1, 6), (9, 1, 2, 4)] {
+        assert_eq!(yard.enter(identity, giver, taker, pallets), ACCEPTED);
+    }
+    assert_eq!(yard.match_entry(0, 7, 2, &[[1, 0, 1, 5]; 3]), ACCEPTED);
+    let mut words = vec![0; 4_219];
+    layout::write(&yard.waiting, &mut words);
+    assert_eq!(words[..7], [2, 0, 0, 6, 8, 4, 9]);
+    assert_eq!(words[123..131], [8, 2, 1, 6, 9, 1, 2, 4]);
+    let used: Vec<usize> = (2_171..4_219).filter(|word| words[*word] != 0).collect();
+    assert_eq!(used, [2_173]);
+    let again = layout::read(&words);
+    assert_eq!((again.words, &again.entries, again.kept), (4_219, &yard.waiting.entries, yard.waiting.kept));
+    assert_eq!(layout::told(&words).2, [2]);
 }

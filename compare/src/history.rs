@@ -80,6 +80,8 @@ pub trait Keeper {
     fn wait(&mut self, memory: &mut Sample, step: &Step, movements: &[u32], off: isize) -> Outcome;
     /// The further slice's words.
     fn words(&self) -> Vec<u32>;
+    /// Begins again from other words of the further slice, as many as before.
+    fn restart(&mut self, words: &[u32]);
 }
 
 /// The library with its own entries.
@@ -122,6 +124,10 @@ impl<R: Rules> Keeper for OwnKeeper<R> {
         let mut words = self.words.clone();
         layout::write(&self.waiting, &mut words);
         words
+    }
+
+    fn restart(&mut self, words: &[u32]) {
+        *self = OwnKeeper::new(self.rules, words);
     }
 }
 

@@ -3,6 +3,7 @@
 
 mod common;
 
+use judge::benchmark::waiting_words::Words;
 use judge::comparison::checkers::Library;
 use judge::comparison::waitings::history_difference;
 use judge::driver::Driver;
@@ -334,6 +335,8 @@ fn any_history_is_answered() {
     for seed in 1..=20 {
         let history = history(seed);
         assert_eq!(history_difference(&Library(None::<Mistake>), &Library(Correct), &history), None);
+        // The benchmark's words beside the library's entries.
+        assert_eq!(history_difference(&Words, &Library(Correct), &history), None, "seed {seed}");
         steps += history.acts.len();
         if history.acts.len() < 12 {
             by_hand += 1;

@@ -116,7 +116,7 @@ fn work(options: &Options) -> Result<(), String> {
         return compare_nettings(checker(LIBRARY).as_ref(), seed, time);
     }
     if options.flag("waitings") {
-        return compare_waitings(checker(LIBRARY).as_ref(), seed, time);
+        return compare_waitings(waiting_checker().as_ref(), seed, time);
     }
     if options.flag("numbers") {
         return tell_numbers(compare_range(checker(FORMATTING).as_ref(), EVERY));
@@ -170,6 +170,18 @@ fn checker(beside: &str) -> Box<dyn Checker + Sync> {
 fn checker(beside: &str) -> Box<dyn Checker + Sync> {
     println!("built without the feature `firmware`: the library against {beside}");
     Box::new(Library(Correct))
+}
+
+/// The same for waiting movements; without the feature the benchmark's own words in its place.
+#[cfg(feature = "firmware")]
+fn waiting_checker() -> Box<dyn Checker + Sync> {
+    checker(LIBRARY)
+}
+
+#[cfg(not(feature = "firmware"))]
+fn waiting_checker() -> Box<dyn Checker + Sync> {
+    println!("built without the feature `firmware`: the benchmark's words against {LIBRARY}");
+    Box::new(judge::benchmark::waiting_words::Words)
 }
 
 fn compare_scripts(one: Run, other: Run, scripts: Scripts) -> Result<(), String> {

@@ -122,6 +122,10 @@ impl Keeper for FirmwareKeeper {
     fn words(&self) -> Vec<u32> {
         self.words[..self.own()].to_vec()
     }
+
+    fn restart(&mut self, words: &[u32]) {
+        self.words[..words.len()].copy_from_slice(words);
+    }
 }
 
 // SAFETY (all five): pointers and lengths come from slices that live through the call and do not overlap.

@@ -13,19 +13,24 @@ use crate::memory::{header, MAX_REPLICAS, WAITING_WORDS};
 struct Side<'a> {
     keeper: Box<dyn Keeper + 'a>,
     memory: Sample,
+    /// The further slice, as the last step left it.
+    words: Vec<u32>,
 }
 
 impl<'a> Side<'a> {
     fn new(checker: &'a dyn Checker, history: &History) -> Side<'a> {
-        Side { keeper: checker.keeper(&history.words), memory: history.memory.clone() }
+        let keeper = checker.keeper(&history.words);
+        Side { words: keeper.words(), keeper, memory: history.memory.clone() }
     }
 
     /// Its outcome; or what no step may do, in words.
     fn step(&mut self, act: &Act, lists: &[Vec<u32>]) -> Result<Outcome, String> {
-        let (memory, words) = (self.memory.clone(), self.keeper.words());
+        let memory = self.memory.clone();
         let outcome = perform(self.keeper.as_mut(), &mut self.memory, act, lists);
         let refused = !outcome.is_accepted();
-        let (same_memory, same_words) = (slices(&memory) == slices(&self.memory), words == self.keeper.words());
+        let words = self.keeper.words();
+        let (same_memory, same_words) = (slices(&memory) == slices(&self.memory), words == self.words);
+        self.words = words;
         let only_asks = matches!(act.step, Step::Ask(_) | Step::Call(_));
         if refused && (outcome.first, outcome.second) != (0, 0) {
             Err(format!("{}, with values", outcome_text(outcome)))
@@ -83,17 +88,17 @@ impl Told {
         waiting.retain(|entry| entry.taker == taker);
         (waiting.iter().map(|entry| entry.pallets).sum(), waiting.first().map_or(0, |entry| entry.identity))
     }
+}
 
-    /// The taker whose two values a step may change.
-    fn touched(&self, step: &Step, before: &[Entry]) -> Option<u32> {
-        let of_identity = |identity: u32| before.iter().find(|entry| entry.identity == identity);
-        match step {
-            Step::Enter(entry) => Some(entry.taker),
-            Step::Withdraw(identity) => of_identity(*identity).map(|entry| entry.taker),
-            Step::Match { claim, .. } => of_identity(claim.identity).map(|entry| entry.taker),
-            _ => None,
-        }
-    }
+/// The taker whose two values a step may change.
+fn touched(step: &Step, words: &[u32]) -> Option<u32> {
+    let identity = match step {
+        Step::Enter(entry) => return Some(entry.taker),
+        Step::Withdraw(identity) => *identity,
+        Step::Match { claim, .. } => claim.identity,
+        _ => return None,
+    };
+    layout::read(words).entries.iter().find(|entry| entry.identity == identity).map(|entry| entry.taker)
 }
 
 /// What differs between the two, or what no keeper may show: the number of the step and words; none if all is well.
@@ -101,11 +106,9 @@ pub fn history_difference(one: &dyn Checker, other: &dyn Checker, history: &Hist
     let (mut left, mut right) = (Side::new(one, history), Side::new(other, history));
     let mut events = Told::default();
     for (place, act) in history.acts.iter().enumerate() {
-        let before = layout::read(&right.keeper.words()).entries;
-        let difference = step_difference(&mut left, &mut right, act, &history.lists, &mut events).or_else(|| {
-            let taker = events.touched(&act.step, &before)?;
-            ask_difference(&mut left, &mut right, taker, &events)
-        });
+        let touched = touched(&act.step, &right.words);
+        let difference = step_difference(&mut left, &mut right, act, &history.lists, &mut events)
+            .or_else(|| ask_difference(&mut left, &mut right, touched?, &events));
         if let Some(told) = difference {
             return Some((place, told));
         }
@@ -158,7 +161,7 @@ fn ask_difference(left: &mut Side, right: &mut Side, taker: u32, events: &Told) 
 
 /// The further slice at the end, as far as the layout says what stands there.
 fn words_difference(left: &Side, right: &Side) -> Option<String> {
-    let (left, right) = (left.keeper.words(), right.keeper.words());
-    let differs = left.len() != right.len() || left.len() >= WAITING_WORDS && told(&left) != told(&right);
+    let (left, right) = (&left.words, &right.words);
+    let differs = left.len() != right.len() || left.len() >= WAITING_WORDS && told(left) != told(right);
     differs.then(|| "at the end entries, kept words or used places differ".to_string())
 }

@@ -73,7 +73,8 @@ fn any_named(random: &mut Random, limits: Limits, line: &[u32], entry: Entry) ->
     let any = sound(random, limits, line);
     let Entry { giver, taker, pallets, .. } = entry;
     // Beside the line, with a number below its end's.
-    let beside: Vec<u32> = (1..line.first().map_or(1, |top| *top)).filter(|block| !line.contains(block)).collect();
+    let top = line.first().map_or(1, |top| limits.added.min(*top));
+    let beside: Vec<u32> = (1..top).filter(|block| !line.contains(block)).collect();
     let block = match random.below(12) {
         0 if !beside.is_empty() => random.pick(&beside),
         1 => any.block,

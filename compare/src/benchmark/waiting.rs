@@ -108,8 +108,7 @@ pub fn section(firmware: Option<&dyn Checker>, calls: usize, runs: u64) -> Resul
         if let Some((_, told)) = history_difference(checkers[0].1, &Words, &case.history) {
             return Err(format!("{} with {} waiting: {told}", case.name, case.waiting));
         }
-        let times: Result<Vec<f64>, String> = checkers.iter().map(|one| each(*one, &case, calls, runs)).collect();
-        let times = times?;
+        let times = times(&checkers, &case, calls, runs)?;
         let Case { name, waiting, height, .. } = case;
         let cells: String = times.iter().map(|time| format!(" {time:.2} |")).collect();
         let ratio = if let [one, other] = times[..] { format!(" {:.2} |", one / other) } else { String::new() };
@@ -118,21 +117,24 @@ pub fn section(firmware: Option<&dyn Checker>, calls: usize, runs: u64) -> Resul
     Ok(table)
 }
 
-/// Microseconds of one call: what it takes with its words put back before it, less what putting them back takes.
-fn each((name, checker): Named, case: &Case, calls: usize, runs: u64) -> Result<f64, String> {
+/// Microseconds of one call by each checker: what it takes with its words put back before it, less what putting them back
+/// takes. All take turns.
+fn times(checkers: &[Named], case: &Case, calls: usize, runs: u64) -> Result<Vec<f64>, String> {
     let History { memory, words, acts, lists, .. } = &case.history;
-    let (mut left, mut right) = (checker.keeper(words), checker.keeper(words));
-    let mut memory = memory.clone();
-    if !make(left.as_mut(), &mut memory, &acts[0].step, &lists[0]) {
-        return Err(format!("{name}: {} with {} waiting is refused", case.name, case.waiting));
+    let mut actions: Vec<Box<dyn FnMut() + '_>> = Vec::new();
+    for (name, checker) in checkers {
+        let (mut left, mut right, mut memory) = (checker.keeper(words), checker.keeper(words), memory.clone());
+        if !make(left.as_mut(), &mut memory, &acts[0].step, &lists[0]) {
+            return Err(format!("{name}: {} with {} waiting is refused", case.name, case.waiting));
+        }
+        actions.push(Box::new(move || left.restart(black_box(words))));
+        actions.push(Box::new(move || {
+            right.restart(black_box(words));
+            black_box(make(right.as_mut(), &mut memory, black_box(&acts[0].step), black_box(&lists[0])));
+        }));
     }
-    let put_back = Box::new(|| left.restart(black_box(words))) as Box<dyn FnMut()>;
-    let call = Box::new(|| {
-        right.restart(black_box(words));
-        black_box(make(right.as_mut(), &mut memory, black_box(&acts[0].step), black_box(&lists[0])));
-    }) as Box<dyn FnMut()>;
-    let seconds = best_in_turn(&mut [put_back, call], calls, runs).map_err(|error| error.to_string())?;
-    Ok((seconds[1] - seconds[0]) * 1e6 / calls as f64)
+    let seconds = best_in_turn(&mut actions, calls, runs).map_err(|error| error.to_string())?;
+    Ok(seconds.chunks_exact(2).map(|pair| (pair[1] - pair[0]) * 1e6 / calls as f64).collect())
 }
 
 fn make(keeper: &mut dyn Keeper, memory: &mut Sample, step: &Step, movements: &[u32]) -> bool {

@@ -146,20 +146,19 @@ fn is_sound(m: &Memory, w: &[u32]) -> bool {
 fn form_fits(w: &[u32], n: u32) -> bool {
     w.len() == WAITING_WORDS
         && w[COUNT] as usize <= MAX_WAITING
-        && entries(w).fold(true, |fits, entry| fits & entry_fits(n, entry))
+        && entries(w).iter().fold(true, |fits, entry| fits & entry_fits(n, entry))
 }
 
-fn entry_fits(n: u32, entry: &[u32]) -> bool {
-    let &[identity, giver, taker, pallets] = entry else { return false };
+fn entry_fits(n: u32, &[identity, giver, taker, pallets]: &[u32; ENTRY_WORDS]) -> bool {
     (identity != 0) & (giver < n) & (taker < n) & (giver != taker) & (pallets.wrapping_sub(1) < MAX_PALLETS)
 }
 
-fn entries(w: &[u32]) -> std::slice::ChunksExact<'_, u32> {
-    w[ENTRIES..entry_start(w[COUNT] as usize)].chunks_exact(ENTRY_WORDS)
+fn entries(w: &[u32]) -> &[[u32; ENTRY_WORDS]] {
+    w[ENTRIES..entry_start(w[COUNT] as usize)].as_chunks().0
 }
 
 fn position(w: &[u32], identity: u32) -> Option<usize> {
-    entries(w).position(|entry| entry[0] == identity)
+    entries(w).iter().position(|entry| entry[0] == identity)
 }
 
 /// The entry leaves, and those after it close up.
@@ -174,7 +173,7 @@ fn remove(w: &mut [u32], position: usize) {
 /// Writes the two words of a taker from a pass over the entries.
 fn refresh(w: &mut [u32], taker: u32) {
     let (mut pallets, mut earliest) = (0, 0);
-    for entry in entries(w).filter(|entry| entry[2] == taker) {
+    for entry in entries(w).iter().filter(|entry| entry[2] == taker) {
         pallets += entry[3];
         earliest = if earliest == 0 { entry[0] } else { earliest };
     }

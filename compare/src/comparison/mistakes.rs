@@ -76,11 +76,15 @@ struct SeenBy {
 
 impl SeenBy {
     /// Scripts and memories make calls of the ledger, and no such call looks at a movement or at what waits; a netting looks
-    /// at nothing that waits. Histories are looked through for what they alone show, and for what a netting shows.
+    /// at nothing that waits. Histories are looked through for what they alone show; a few of them for what a netting shows.
     fn of(mistake: Mistake, seed: u64, scripts: &Scripts, most: &Most, numbers: &BTreeSet<u32>) -> SeenBy {
         let (netting, waiting) = (mistake.is_of_netting(), mistake.is_of_waiting());
         let calls = !netting && !waiting;
-        let histories = if calls { 0 } else { most.histories };
+        let histories = match (waiting, netting) {
+            (true, _) => most.histories,
+            (_, true) => most.histories / 20,
+            _ => 0,
+        };
         let script = calls.then(|| scripts.tell_apart(mistake)).flatten();
         let memory = calls.then(|| memories_tell_apart(mistake, seed, most.memories)).flatten();
         let netting = (!waiting).then(|| nettings_tell_apart(mistake, seed, most.nettings)).flatten();

@@ -239,6 +239,7 @@ const MARKS: &[(&str, Test)] = &[
         let count = s.list().len() / MOVEMENT_WORDS;
         s.is("match", UNKNOWN_NUMBER) && s.claim().is_some_and(|claim| claim.place as usize == count)
     }),
+    ("3 for an empty list", |s| s.is("match", UNKNOWN_NUMBER) && s.list().is_empty()),
     ("1 for broken records", |s| s.is("match", WRONG_FORM) && !s.list().len().is_multiple_of(MOVEMENT_WORDS)),
     ("1 for 2,049 movements", |s| s.is("match", WRONG_FORM) && s.list().len() == MOVEMENT_WORDS * (MAX_MOVEMENTS + 1)),
     ("11 for a movement that is not named", |s| {

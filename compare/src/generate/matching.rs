@@ -135,6 +135,9 @@ fn lent(scene: &mut Scene, limits: Limits, place: usize) -> (Vec<u32>, u32) {
     if random.once_in(64) {
         list.resize(MAX_MOVEMENTS + 1, list[0]);
     }
+    if random.once_in(48) {
+        list.clear();
+    }
     let mut words = words_of(&list);
     if random.once_in(20) {
         break_records(random, &mut words);

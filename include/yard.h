@@ -1,5 +1,5 @@
-/* The agreement core of a ledger box: the six functions of the archive libfirmware.a. First the numbers, then what a caller must know, then
- * a section for each function. docs/CALLS.md has more of the calls: what each needs, in order, and which words it changes. */
+/* The agreement core of a ledger box: the eleven functions of the archive libfirmware.a. First the numbers, then what a caller must know,
+ * then a section for each function. docs/CALLS.md has more of the calls: what each needs, in order, and which words it changes. */
 #ifndef YARD_H
 #define YARD_H
 
@@ -11,7 +11,7 @@ extern "C" {
 #endif
 
 /* The number of this interface. It goes up when a function, a number or a word's place changes; yard_version gives the archive's. */
-#define YARD_VERSION 1
+#define YARD_VERSION 2
 
 /* Codes of calls. Their arguments and values are in the table at yard_call. */
 #define YARD_CALL_OPEN 0
@@ -28,20 +28,23 @@ extern "C" {
 #define YARD_CALL_REPLY 11
 #define YARD_CALL_RECOVER 12
 
-/* Answers. Where several are due the lowest is given; but 10 comes before all others, and an open looks for 2, then 12, then 1. */
+/* Answers. Where several are due the lowest is given; but 10 comes before all others, an open looks for 2, then 12, then 1, and yard_match
+ * for 5 last. */
 #define YARD_ACCEPTED 0
 #define YARD_REFUSED_FORM 1        /* wrong form or lengths of what is lent */
 #define YARD_REFUSED_RANGE 2       /* f, a replica, a view to enter or the length of a list of certificates is out of range */
-#define YARD_REFUSED_NUMBER 3      /* no such certificate or block */
+#define YARD_REFUSED_NUMBER 3      /* no such certificate or block; of yard_match: no such place in the list */
 #define YARD_REFUSED_STATUS 4      /* the replica's status is not the one needed */
-#define YARD_REFUSED_CERTIFICATE 5 /* a certificate does not fit, a signer counts twice, or the replica does not lead */
+#define YARD_REFUSED_CERTIFICATE 5 /* a certificate or named movement does not fit, a signer counts twice, or the replica does not lead */
 #define YARD_REFUSED_BLOCK 6       /* the proposed block is block 0, or not on the block that the ACC or the COMMITs name */
 #define YARD_REFUSED_VIEW 7        /* the view is past; of a proposal also: it is not entered yet, or has its proposal */
 #define YARD_REFUSED_COUNTER 8     /* the limit is too low: reserve, once or more; of a reserve itself: the counter is at its end */
 #define YARD_REFUSED_ROOM 9        /* no free slot for the block or the certificate */
 #define YARD_REFUSED_UNREADABLE 10 /* no such code, or other arguments than its own; of yard_write_number: nothing is written */
-#define YARD_REFUSED_MOVEMENT 11   /* of yard_balance alone: a movement breaks its rules */
+#define YARD_REFUSED_MOVEMENT 11   /* of yard_balance and yard_match: a movement breaks its rules; of yard_enter: the entry does */
 #define YARD_REFUSED_STEPS 12      /* of an open alone: the steps break their rules, or are not eight */
+#define YARD_REFUSED_IDENTITY 13   /* of waiting movements: the identity waits already; or it does not, and should leave */
+#define YARD_REFUSED_FULL 14       /* of yard_enter alone: YARD_MAX_WAITING wait */
 
 /* The second value of an accepted call that issues a certificate: it was added to the log, or an equal one was found there. */
 #define YARD_ADDED 0
@@ -101,12 +104,16 @@ extern "C" {
 #define YARD_BLOCK_PARENT 0
 #define YARD_BLOCK_HEIGHT 1
 
-/* A movement of pallets, lent to yard_balance alone. */
+/* A movement of pallets, lent to yard_balance and yard_match. */
 #define YARD_MOVEMENT_WORDS 4
 #define YARD_MOVEMENT_BLOCK 0
 #define YARD_MOVEMENT_GIVER 1
 #define YARD_MOVEMENT_TAKER 2
 #define YARD_MOVEMENT_PALLETS 3
+
+/* The further slice, for movements that wait: so many words, whatever f is. Only this length is promised; what stands in the words is the
+ * archive's own business, and may be another with another YARD_VERSION. */
+#define YARD_WAITING_WORDS 4219
 
 /* Limits. */
 #define YARD_MAX_F 30
@@ -121,6 +128,7 @@ extern "C" {
 #define YARD_MAX_MOVEMENTS 2048
 #define YARD_MAX_PALLETS 10000    /* of a movement */
 #define YARD_MAX_BALANCE 20480000 /* either way */
+#define YARD_MAX_WAITING 512      /* entries */
 
 /* A number in columns. */
 #define YARD_COLUMNS 8
@@ -128,12 +136,18 @@ extern "C" {
 #define YARD_NO_NUMBER 4294967295u /* what reading gives for bytes that are no number */
 
 /* Bytes of stack that each function takes, with its arguments and the return address: what examples/stack.c measures on x86-64, and at most
- * 256 more. A balance recurses along the line of its block; its figure is for the longest line, of YARD_MAX_BLOCKS. Do not scale it down
- * for shorter ones: it also covers memset, which a balance calls, and what binds memset at the first call. */
+ * 256 more. A balance recurses along the line of its block, and a match along that of the decided block; their figures are for the longest
+ * line, of YARD_MAX_BLOCKS. Do not scale them down for shorter ones: they also cover memset, which a balance calls, and what binds memset
+ * at the first call. */
 #define YARD_VERSION_STACK 64
 #define YARD_CALL_STACK 512
 #define YARD_PANEL_STACK 256
 #define YARD_BALANCE_STACK 12800
+#define YARD_OPEN_WAITING_STACK 512
+#define YARD_ENTER_STACK 512
+#define YARD_WITHDRAW_STACK 512
+#define YARD_MATCH_STACK 12800
+#define YARD_ASK_STACK 256
 #define YARD_READ_NUMBER_STACK 64
 #define YARD_WRITE_NUMBER_STACK 64
 
@@ -153,12 +167,21 @@ extern "C" {
  * Of slices that something else wrote, or of an older copy that was put back, this is not promised; every call is still answered without a
  * fault. That a decision is ever reached is not promised either.
  *
- * Power. All words of the three slices must outlive a power cut, and their lengths, which are no words of theirs. A replica forgets by its
- * reboot and not by losing words: the reboot clears its stored view and block and its flag, and moves its lowest view up to its old limit.
- * (One that retires it changes its status alone.) It is all that tells a replica that its power failed. Whoever runs the replica makes it,
- * once after each cut of that replica's own power and before any other call for it. A program that keeps the whole pool's slices, stops
- * and goes on with every word in its place has cut no replica. Power must not fail within a call, and the caller sees to that: for one, it
- * makes the call on a copy of the slices, then puts the copy in use by a single write, and only then tells anybody the answer.
+ * Waiting movements. A ledger may have a further slice, of YARD_WAITING_WORDS words, for movements that dispatchers enter before any block
+ * has them. It is lent to five functions: yard_open_waiting, yard_enter, yard_withdraw, yard_match and yard_ask. A plain open, by
+ * yard_call, is not lent it and leaves it as it is, with entries and used places of the ledger before: so open a ledger that has waiting
+ * movements with yard_open_waiting, every time. What the slice holds before that does not matter. While only these five change it, an
+ * accepted yard_ask gives what a pass over all that came and left since that open would give. After a plain open with a smaller f an entry
+ * may name a replica that is none: then all of them but yard_open_waiting give YARD_REFUSED_FORM. Where an answer was lost and no other
+ * call was made since, make the call again: an entry that has come, or has left, then gives YARD_REFUSED_IDENTITY.
+ *
+ * Power. All words of the slices, the further one among them, must outlive a power cut, and their lengths, which are no words of theirs. A
+ * replica forgets by its reboot and not by losing words: the reboot clears its stored view and block and its flag, and moves its lowest
+ * view up to its old limit. (One that retires it changes its status alone.) It is all that tells a replica that its power failed. Whoever
+ * runs the replica makes it, once after each cut of that replica's own power and before any other call for it. A program that keeps the
+ * whole pool's slices, stops and goes on with every word in its place has cut no replica. Power must not fail within a call, and the caller
+ * sees to that: for one, it makes the call on a copy of the slices, then puts the copy in use by a single write, and only then tells
+ * anybody the answer.
  *
  * Recovery. After a reboot a replica is recovering: it makes a request, f+1 others that are live reply to the REQ, and it recovers by their
  * REPLYs. So let no more than f replicas be recovering or retired at once: with fewer than f+1 live ones there may be nobody left to reply,
@@ -167,14 +190,15 @@ extern "C" {
  * answered, but its REPLYs serve nobody. A recover takes the stored block of greatest view and makes the lowest view one above that, if it
  * was lower; where this passes the limit it gives YARD_REFUSED_COUNTER: reserve, and recover by the same REPLYs.
  *
- * Pointers. Each comes with its true length, in words (of columns: in bytes), and is aligned as its type, words to 4 bytes. A list, a log
- * or movements of length 0 may be NULL. The slices, the list or the movements, and what is written beside them (the two values, the height,
- * the balance) must not overlap. Where they do nothing is promised: a refused call may change words, and rival blocks may be decided, as
- * examples/overlap.c shows. Nothing else is asked: any words in the slices and any numbers are answered, and what is refused changes no
- * word of a slice.
+ * Pointers. Each comes with its true length, in words (of columns: in bytes), and is aligned as its type, words to 4 bytes. A list, a log,
+ * steps or movements of length 0 may be NULL. The slices, the further one among them, the list, the steps or the movements, and what is
+ * written beside them (the two values, the height, the balance, the replicas, pallets and earliest) must not overlap. Where they do nothing
+ * is promised: a refused call may change words, and rival blocks may be decided, as examples/overlap.c shows. Nothing else is asked: any
+ * words in the slices and any numbers are answered, and what is refused changes no word of a slice.
  *
  * Threads. No function keeps anything: the archive has no data of its own. Calls on different memory may run at once. Calls on the same
- * memory must not; yard_panel and yard_balance only read the slices, and may run beside one another, but not beside yard_call.
+ * memory must not; yard_panel, yard_balance and yard_ask only read the slices, and may run beside one another, but not beside the others.
+ * yard_enter, yard_withdraw and yard_match read the three slices and change the further one alone.
  *
  * Linking. Objects for x86-64 Linux (ELF, the System V calling convention, SSE2), words in the machine's own byte order. Of the C library
  * they want memset alone. Nothing allocates, prints, waits or ends the program. */
@@ -256,6 +280,50 @@ uint32_t yard_panel(const uint32_t *table, size_t table_length, const uint32_t *
 uint32_t yard_balance(const uint32_t *table, size_t table_length, const uint32_t *log, size_t log_length, const uint32_t *blocks,
                       size_t blocks_length, const uint32_t *movements, size_t movements_length, uint32_t block, uint32_t replica,
                       int32_t *balance);
+
+/* A call YARD_CALL_OPEN that is lent the further slice too, and empties it: no entry waits, and no place is used. It reads no word of the
+ * slices. `steps` are none, or YARD_STEPS of the pool's own; any other number of them gives YARD_REFUSED_STEPS.
+ *
+ * Returns YARD_ACCEPTED; or the first that is due of YARD_REFUSED_RANGE (f), YARD_REFUSED_STEPS and YARD_REFUSED_FORM (the length of any of
+ * the four slices), with no word changed. `replicas` is always written: 2f+1, or 0 where refused. */
+uint32_t yard_open_waiting(uint32_t f, const uint32_t *steps, size_t steps_length, uint32_t *table, size_t table_length, uint32_t *log,
+                           size_t log_length, uint32_t *blocks, size_t blocks_length, uint32_t *waiting, size_t waiting_length,
+                           uint32_t *replicas);
+
+/* An entry comes, after all that wait: `giver` is to give pallets to `taker`. Its identity is any number but 0 that no waiting entry has;
+ * one that has left may come again, as a fresh arrival. Giver, taker and pallets are as in a movement.
+ *
+ * Returns YARD_ACCEPTED; or the lowest that is due of YARD_REFUSED_FORM (of the four slices), YARD_REFUSED_MOVEMENT (identity 0, a giver or
+ * taker that is no replica, both the same, pallets), YARD_REFUSED_IDENTITY (it waits already) and YARD_REFUSED_FULL. */
+uint32_t yard_enter(const uint32_t *table, size_t table_length, const uint32_t *log, size_t log_length, const uint32_t *blocks,
+                    size_t blocks_length, uint32_t *waiting, size_t waiting_length, uint32_t identity, uint32_t giver, uint32_t taker,
+                    uint32_t pallets);
+
+/* The entry of an identity is struck out: YARD_ACCEPTED; or YARD_REFUSED_FORM, or YARD_REFUSED_IDENTITY where it does not wait. */
+uint32_t yard_withdraw(const uint32_t *table, size_t table_length, const uint32_t *log, size_t log_length, const uint32_t *blocks,
+                       size_t blocks_length, uint32_t *waiting, size_t waiting_length, uint32_t identity);
+
+/* An entry leaves because the movement that the host names for it was decided. The movement has the giver, taker and pallets of the entry;
+ * its block is in the line of the replica's decided block; and its place took no entry out before.
+ *
+ * `place` counts movements from 0, in a list as yard_balance takes it. A movement is known by its place, whatever list is lent: a place
+ * that took an entry out is used until the next yard_open_waiting that is accepted, also where another movement stands there. So let a list
+ * only grow at its end. All movements that are lent are tested, named or not.
+ *
+ * Returns YARD_ACCEPTED; or the first that is due of YARD_REFUSED_FORM (of the four slices; more than YARD_MAX_MOVEMENTS, or no whole
+ * number of movements), YARD_REFUSED_RANGE (the replica), YARD_REFUSED_NUMBER (the place), YARD_REFUSED_MOVEMENT (any movement),
+ * YARD_REFUSED_IDENTITY (it does not wait) and YARD_REFUSED_CERTIFICATE (the movement does not fit, lies outside the line, or its place was
+ * used). */
+uint32_t yard_match(const uint32_t *table, size_t table_length, const uint32_t *log, size_t log_length, const uint32_t *blocks,
+                    size_t blocks_length, uint32_t *waiting, size_t waiting_length, const uint32_t *movements, size_t movements_length,
+                    uint32_t replica, uint32_t identity, uint32_t place);
+
+/* What waits for a taker: the pallets of its entries, at most YARD_MAX_WAITING * YARD_MAX_PALLETS, and the identity of the earliest of them
+ * to arrive, 0 if there is none. Two words are read for it beside the form test. YARD_ACCEPTED; or YARD_REFUSED_FORM or YARD_REFUSED_RANGE.
+ * Both are always written, as 0 and 0 where it is refused. */
+uint32_t yard_ask(const uint32_t *table, size_t table_length, const uint32_t *log, size_t log_length, const uint32_t *blocks,
+                  size_t blocks_length, const uint32_t *waiting, size_t waiting_length, uint32_t taker, uint32_t *pallets,
+                  uint32_t *earliest);
 
 /* The number that YARD_COLUMNS bytes hold: decimal digits to the last column, after blanks, without leading zeros. YARD_NO_NUMBER for other
  * bytes and other lengths. */

@@ -1,5 +1,5 @@
-//! An independent second implementation of the yard ledger's checker and of the netting of movements, written from
-//! document 01 and document 02's #101 to #107 alone.
+//! An independent second implementation of the yard ledger's checker, of the netting of movements and of movements that
+//! wait, written from document 01 and document 02's #101 to #108 alone.
 //!
 //! Simple before clever: each call looks for its refusal in the order of document 01's table, changes nothing if it
 //! finds one, and otherwise applies the change. Every call is total on any memory.
@@ -13,12 +13,15 @@ pub mod certificate;
 pub mod checker;
 pub mod comparison;
 pub mod driver;
+pub mod entries;
 pub mod explore;
 pub mod field;
 pub mod form;
 pub mod generate;
+pub mod history;
 pub mod host;
 pub mod hunt;
+pub mod layout;
 pub mod leader;
 pub mod log;
 pub mod memory;
@@ -31,7 +34,9 @@ pub mod quorum;
 pub mod random;
 pub mod recovery;
 pub mod refusal;
+pub mod rules;
 pub mod script;
 pub mod script_file;
 pub mod steps;
 pub mod tell;
+pub mod waiting;

@@ -1,5 +1,5 @@
 //! The three lent slices and a replica's words (document 01, "Memory"), the table with the counter's steps (document 02,
-//! #104), a certificate's words (#107), where a block has its words (#105) and a movement (#101).
+//! #104), a certificate's words (#107), where a block has its words (#105) and a movement (#101); the sizes of what waits (#108).
 
 /// Views, boots and the counter never pass this.
 pub const CEILING: u32 = 1_000_000;
@@ -21,6 +21,10 @@ pub const MOVEMENT_WORDS: usize = 4;
 pub const MAX_MOVEMENTS: usize = 2048;
 /// Most pallets of one movement.
 pub const MAX_PALLETS: u32 = 10_000;
+/// Most entries that may wait.
+pub const MAX_WAITING: usize = 512;
+/// Words of the further slice for waiting movements. What they hold is the business of whoever keeps them.
+pub const WAITING_WORDS: usize = 4219;
 
 /// The table: its header, "The steps are kept after the header", then each replica's words.
 pub const STEPS_START: usize = HEADER_WORDS;

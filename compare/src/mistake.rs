@@ -1,50 +1,7 @@
 //! Mistakes that can be switched on, one at a time, to show that the hunt and the comparison see them.
 
-/// The rules a call or a netting goes by: the documents', or the documents' with one mistake.
-pub trait Rules: Copy {
-    fn has(self, mistake: Mistake) -> bool;
-}
-
-/// The documents as they stand. Every question about a mistake folds away.
-#[derive(Clone, Copy, Debug)]
-pub struct Correct;
-
-impl Rules for Correct {
-    #[inline(always)]
-    fn has(self, _: Mistake) -> bool {
-        false
-    }
-}
-
-impl Rules for Option<Mistake> {
-    fn has(self, mistake: Mistake) -> bool {
-        self == Some(mistake)
-    }
-}
-
-macro_rules! mistakes {
-    ($($variant:ident $name:literal $what:literal $blind:literal;)*) => {
-        #[derive(Clone, Copy, PartialEq, Eq, Debug)]
-        pub enum Mistake { $(#[doc = $what] $variant,)* }
-
-        impl Mistake {
-            pub const ALL: &'static [Mistake] = &[$(Mistake::$variant,)*];
-
-            pub fn name(self) -> &'static str {
-                match self { $(Mistake::$variant => $name,)* }
-            }
-
-            pub fn what(self) -> &'static str {
-                match self { $(Mistake::$variant => $what,)* }
-            }
-
-            /// Why demand 3 cannot see the mistake; empty if it can.
-            pub fn blind(self) -> &'static str {
-                match self { $(Mistake::$variant => $blind,)* }
-            }
-        }
-    };
-}
+use crate::rules::mistakes;
+pub use crate::rules::{Correct, Rules};
 
 mistakes! {
     // Restart and recovery.
@@ -323,6 +280,91 @@ mistakes! {
     NettingReplicaFirst "netting-replica-first" "the chosen replica is tested before the list: 2 before 1" "no call: netting changes no word";
     NettingBlockFirst "netting-block-first" "the chosen block is tested before the replica: 3 before 2" "no call: netting changes no word";
     NettingMovementsFirst "netting-movements-first" "the movements are tested before the chosen block: 11 before 3" "no call: netting changes no word";
+    // Movements that wait: what is taken.
+    WaitingIdentityZero "waiting-identity-zero" "an entry of identity 0 is taken" "no call of the ledger: its words stay";
+    WaitingSelf "waiting-self" "giver and taker of an entry may be one replica" "no call of the ledger: its words stay";
+    WaitingGiver "waiting-giver" "an entry's giver is not tested" "no call of the ledger: its words stay";
+    WaitingTaker "waiting-taker" "an entry's taker is not tested" "no call of the ledger: its words stay";
+    WaitingNoPallets "waiting-no-pallets" "an entry of 0 pallets is taken" "no call of the ledger: its words stay";
+    WaitingPastMost "waiting-past-most" "an entry of 10,001 pallets is taken" "no call of the ledger: its words stay";
+    WaitingMostRefused "waiting-most-refused" "an entry of 10,000 pallets is refused" "no call of the ledger: its words stay";
+    WaitingTwice "waiting-twice" "an identity that waits is taken once more" "no call of the ledger: its words stay";
+    WaitingFullEarly "waiting-full-early" "there is no room where 511 wait" "no call of the ledger: its words stay";
+    WaitingRoomPast "waiting-room-past" "there is room where 512 wait" "no call of the ledger: its words stay";
+    WaitingFullFirst "waiting-full-first" "room is looked for before the identity: 14 before 13" "no call of the ledger: its words stay";
+    WaitingFullBeforeRules "waiting-full-before-rules" "room is looked for before the entry's rules: 14 before 11" "no call of the ledger: its words stay";
+    WaitingIdentityFirst "waiting-identity-first" "entering looks for the identity before the entry's rules: 13 before 11" "no call of the ledger: its words stay";
+    WaitingNeverAgain "waiting-never-again" "an identity that has left cannot come again" "no call of the ledger: its words stay";
+    WaitingMatchedNeverAgain "waiting-matched-never-again" "an identity that a movement took out cannot come again" "no call of the ledger: its words stay";
+    WaitingNewestFirst "waiting-newest-first" "a newcomer stands before all that wait" "no call of the ledger: its words stay";
+    // Movements that wait: what leaves, and what is kept.
+    WaitingWithdrawUnknown "waiting-withdraw-unknown" "withdrawing an identity that does not wait is accepted" "no call of the ledger: its words stay";
+    WaitingWithdrawZero "waiting-withdraw-zero" "withdrawing identity 0 is refused with 11" "no call of the ledger: its words stay";
+    WaitingWithdrawLast "waiting-withdraw-last" "of entries with one identity the last leaves" "no call of the ledger: its words stay";
+    WaitingWithdrawUses "waiting-withdraw-uses" "a withdrawal uses up the first place that is free" "no call of the ledger: its words stay";
+    WaitingSwapOut "waiting-swap-out" "the last entry takes the place of the one that leaves" "no call of the ledger: its words stay";
+    WaitingSumStays "waiting-sum-stays" "a departure leaves the pallets that are kept" "no call of the ledger: its words stay";
+    WaitingMatchSumStays "waiting-match-sum-stays" "a departure by a movement leaves the pallets that are kept" "no call of the ledger: its words stay";
+    WaitingEarliestStays "waiting-earliest-stays" "a departure leaves the earliest identity that is kept" "no call of the ledger: its words stay";
+    WaitingEarliestNone "waiting-earliest-none" "a departure leaves no earliest identity" "no call of the ledger: its words stay";
+    WaitingLatest "waiting-latest" "the latest arrival is kept, not the earliest" "no call of the ledger: its words stay";
+    WaitingSmallest "waiting-smallest" "the smallest identity is kept, not the earliest arrival" "no call of the ledger: its words stay";
+    WaitingOfAll "waiting-earliest-of-all" "the earliest arrival of all takers is kept" "no call of the ledger: its words stay";
+    WaitingByGiver "waiting-by-giver" "pallets and earliest arrival are kept by giver" "no call of the ledger: its words stay";
+    WaitingCounted "waiting-counted" "entries are counted, not their pallets" "no call of the ledger: its words stay";
+    WaitingSumCeiling "waiting-sum-ceiling" "the pallets kept stop at 1,000,000" "no call of the ledger: its words stay";
+    WaitingRefreshAll "waiting-refresh-all" "a change makes what is kept anew for every taker" "no call of the ledger: its words stay";
+    WaitingAskPass "waiting-ask-pass" "asking goes through the entries, whatever is kept" "no call of the ledger: its words stay";
+    WaitingAskAny "waiting-ask-any" "asking for a taker that is none gives 0 and 0" "no call of the ledger: its words stay";
+    WaitingAskSwapped "waiting-ask-swapped" "asking gives the identity first" "no call of the ledger: its words stay";
+    // Movements that wait: matching.
+    WaitingMatchReplica "waiting-match-replica" "the chosen replica is not tested" "no call of the ledger: its words stay";
+    WaitingMatchReplicaFirst "waiting-match-replica-first" "the chosen replica is tested before the list: 2 before 1" "no call of the ledger: its words stay";
+    WaitingMatchPlaceFirst "waiting-match-place-first" "the place is tested before the replica: 3 before 2" "no call of the ledger: its words stay";
+    WaitingMatchMovementsFirst "waiting-match-movements-first" "the movements are tested before the place: 11 before 3" "no call of the ledger: its words stay";
+    WaitingMatchIdentityFirst "waiting-match-identity-first" "matching looks for the identity before the movements: 13 before 11" "no call of the ledger: its words stay";
+    WaitingMatchFitFirst "waiting-match-fit-first" "the line and the place are tested before the identity: 5 before 13" "no call of the ledger: its words stay";
+    WaitingPlaceAtLength "waiting-place-at-length" "a place just past the list is no unknown number" "no call of the ledger: its words stay";
+    WaitingNamedOnly "waiting-named-only" "of the movements only the named one is tested" "no call of the ledger: its words stay";
+    WaitingAnyGiver "waiting-any-giver" "the movement's giver is not compared with the entry's" "no call of the ledger: its words stay";
+    WaitingAnyTaker "waiting-any-taker" "the movement's taker is not compared with the entry's" "no call of the ledger: its words stay";
+    WaitingAnyPallets "waiting-any-pallets" "the movement's pallets are not compared with the entry's" "no call of the ledger: its words stay";
+    WaitingMorePallets "waiting-more-pallets" "a movement of more pallets than the entry's takes it out" "no call of the ledger: its words stay";
+    WaitingBackwards "waiting-backwards" "a movement from the entry's taker to its giver takes it out" "no call of the ledger: its words stay";
+    WaitingOutsideLine "waiting-outside-line" "a movement outside the line takes an entry out" "no call of the ledger: its words stay";
+    WaitingStoredLine "waiting-stored-line" "the line is that of the replica's stored block" "no call of the ledger: its words stay";
+    WaitingFirstReplica "waiting-first-replica" "the line is that of replica 0's decided block" "no call of the ledger: its words stay";
+    WaitingOnlyDecided "waiting-only-decided" "only movements of the decided block itself take an entry out" "no call of the ledger: its words stay";
+    WaitingNotItself "waiting-not-itself" "movements of the decided block itself take no entry out" "no call of the ledger: its words stay";
+    WaitingByNumber "waiting-by-number" "a movement of any block up to the decided one's number takes an entry out" "no call of the ledger: its words stay";
+    WaitingUsedAgain "waiting-used-again" "a place may take out several entries" "no call of the ledger: its words stay";
+    WaitingUsedMovement "waiting-used-movement" "a used movement is known by its words, not by its place" "no call of the ledger: its words stay";
+    WaitingUsedOtherList "waiting-used-other-list" "a used place is free where another movement stands there" "no call of the ledger: its words stay";
+    WaitingUsedFreed "waiting-used-freed" "a used place is free once the identity that it took out waits again" "no call of the ledger: its words stay";
+    WaitingUsedLast "waiting-used-last" "that the last place was used is not kept" "no call of the ledger: its words stay";
+    WaitingRefusedUses "waiting-refused-uses" "a movement that does not fit uses its place up" "no call of the ledger: its words stay";
+    WaitingMatchKeeps "waiting-match-keeps" "a movement takes nothing out, and uses its place up" "no call of the ledger: its words stay";
+    // Movements that wait: the further slice's form, and opening.
+    WaitingFormLedger "waiting-form-ledger" "the form of the three slices is not tested" "no call of the ledger: its words stay";
+    WaitingFormLength "waiting-form-length" "a further slice of another length has sound form" "no call of the ledger: its words stay";
+    WaitingFormCount "waiting-form-count" "513 entries have sound form" "no call of the ledger: its words stay";
+    WaitingFormIdentity "waiting-form-identity" "an entry of identity 0 has sound form" "no call of the ledger: its words stay";
+    WaitingFormGiver "waiting-form-giver" "a giver that is no replica has sound form" "no call of the ledger: its words stay";
+    WaitingFormTaker "waiting-form-taker" "a taker that is no replica has sound form" "no call of the ledger: its words stay";
+    WaitingFormByMost "waiting-form-by-most" "any replica of the greatest f has sound form" "no call of the ledger: its words stay";
+    WaitingFormSelf "waiting-form-self" "giver and taker equal have sound form" "no call of the ledger: its words stay";
+    WaitingFormNoPallets "waiting-form-no-pallets" "0 pallets have sound form" "no call of the ledger: its words stay";
+    WaitingFormPastMost "waiting-form-past-most" "10,001 pallets have sound form" "no call of the ledger: its words stay";
+    WaitingFormLast "waiting-form-last" "the last entry is not tested" "no call of the ledger: its words stay";
+    WaitingFormDifferent "waiting-form-different" "two entries of one identity are wrong form" "no call of the ledger: its words stay";
+    WaitingFormKept "waiting-form-kept" "kept words that the entries do not give are wrong form" "no call of the ledger: its words stay";
+    WaitingOpenEntries "waiting-open-entries" "opening leaves the entries" "no call of the ledger: its words stay";
+    WaitingOpenPlaces "waiting-open-places" "opening leaves the used places" "no call of the ledger: its words stay";
+    WaitingOpenKept "waiting-open-kept" "opening leaves what is kept for the takers" "no call of the ledger: its words stay";
+    WaitingOpenLength "waiting-open-length" "opening does not test the further slice's length" "no call of the ledger: its words stay";
+    WaitingOpenLengthFirst "waiting-open-length-first" "opening tests the further slice's length first: 1 before 2 and 12" "no call of the ledger: its words stay";
+    WaitingOpenForm "waiting-open-form" "opening tests the form of the further slice's words" "no call of the ledger: its words stay";
+    WaitingOpenRefused "waiting-open-refused" "a refused opening empties the entries" "no call of the ledger: its words stay";
     // Text.
     TextLeadingZero "text-leading-zero" "a field may have leading zeros" "a matter of text";
     TextBlankField "text-blank-field" "a field of blanks reads as 0" "a matter of text";
@@ -341,20 +383,4 @@ mistakes! {
     DigitsEightAsSeven "digits-eight-as-seven" "a number of eight digits is written with seven" "a matter of text";
     DigitsMostRefused "digits-most-refused" "99,999,999 is not written" "a matter of text";
     DigitsPastMost "digits-past-most" "of 100,000,000 and above the last eight digits are written" "a matter of text";
-}
-
-impl Mistake {
-    pub fn named(name: &str) -> Option<Mistake> {
-        Mistake::ALL.iter().copied().find(|m| m.name() == name)
-    }
-
-    /// Only a netting can show it.
-    pub fn is_of_netting(self) -> bool {
-        self.name().starts_with("netting-")
-    }
-
-    /// Demand 3 (no two conflicting decisions, no panel that falls) is broken by some list of calls.
-    pub fn breaks_agreement(self) -> bool {
-        self.blind().is_empty()
-    }
 }

@@ -10,7 +10,7 @@ use crate::refusal::{need, OUT_OF_RANGE, UNKNOWN_NUMBER, WRONG_FORM, WRONG_MOVEM
 pub const MAX_BALANCE: i32 = MAX_MOVEMENTS as i32 * MAX_PALLETS as i32;
 
 /// "A movement is four words: block, giver, taker, pallets."
-#[derive(Clone, Copy, PartialEq, Eq, Debug)]
+#[derive(Clone, Copy, PartialEq, Eq, Debug, Default)]
 pub struct Movement {
     pub block: u32,
     pub giver: u32,
@@ -64,14 +64,14 @@ pub fn balance<R: Rules>(rules: R, m: &Memory, movements: &[u32], block: u32, re
 }
 
 /// "at most 2,048 movements are lent"; "1 for a movement list longer than this or of broken records".
-fn list_fits<R: Rules>(rules: R, movements: &[u32]) -> bool {
+pub fn list_fits<R: Rules>(rules: R, movements: &[u32]) -> bool {
     let most = MAX_MOVEMENTS + usize::from(rules.has(Mistake::NettingLong));
     (movements.len().is_multiple_of(MOVEMENT_WORDS) || rules.has(Mistake::NettingBroken))
         && movements.len() <= most * MOVEMENT_WORDS
         && !(movements.is_empty() && rules.has(Mistake::NettingEmpty))
 }
 
-fn records<R: Rules>(rules: R, movements: &[u32]) -> impl Iterator<Item = Movement> + '_ {
+pub fn records<R: Rules>(rules: R, movements: &[u32]) -> impl Iterator<Item = Movement> + '_ {
     let last = usize::from(rules.has(Mistake::NettingLast));
     let count = (movements.len() / MOVEMENT_WORDS).saturating_sub(last);
     movements.chunks_exact(MOVEMENT_WORDS).take(count).map(Movement::from_words)
@@ -82,12 +82,12 @@ fn may_be_chosen<R: Rules>(rules: R, m: &Memory, block: u32) -> bool {
     (m.is_added(block) || rules.has(Mistake::NettingAnyBlock)) && !(block == 0 && rules.has(Mistake::NettingChosenZero))
 }
 
-fn all_fit<R: Rules>(rules: R, m: &Memory, movements: &[u32]) -> bool {
+pub fn all_fit<R: Rules>(rules: R, m: &Memory, movements: &[u32]) -> bool {
     records(rules, movements).all(|movement| fits(rules, m, movement))
 }
 
 /// "Giver and taker are different boxes, pallets are 1 to 10,000, the block is an added one other than 0".
-fn fits<R: Rules>(rules: R, m: &Memory, movement: Movement) -> bool {
+pub fn fits<R: Rules>(rules: R, m: &Memory, movement: Movement) -> bool {
     let Movement { block, giver, taker, pallets } = movement;
     (giver != taker || rules.has(Mistake::NettingSelf))
         && (m.is_replica(giver) || rules.has(Mistake::NettingGiver))

@@ -10,6 +10,11 @@ use crate::steps::{self, Steps};
 
 /// The list is the pool's own steps; "Opening without steps, in a script with an empty list, writes the eight of 01."
 pub fn open<R: Rules>(rules: R, m: &mut Memory, f: u32, list: &[u32]) -> Answer {
+    open_beside(rules, m, f, list, true)
+}
+
+/// The same, lent a further slice: whether its length fits is tested with those of the three.
+pub fn open_beside<R: Rules>(rules: R, m: &mut Memory, f: u32, list: &[u32], further_fits: bool) -> Answer {
     // Two tests stand here a second time, each one place early, for mistakes in the order.
     let steps = given_steps(rules, list);
     need(!rules.has(Mistake::OpenStepsFirst) || steps.is_some(), WRONG_STEPS)?;
@@ -17,7 +22,7 @@ pub fn open<R: Rules>(rules: R, m: &mut Memory, f: u32, list: &[u32]) -> Answer 
     need(!rules.has(Mistake::OpenLengthsFirst) || lengths_fit(rules, m, f), WRONG_FORM)?;
     write_early(rules, m, list);
     let steps = steps.ok_or(WRONG_STEPS)?;
-    need(lengths_fit(rules, m, f), WRONG_FORM)?;
+    need(lengths_fit(rules, m, f) && further_fits, WRONG_FORM)?;
     let kept = rules.has(Mistake::OpenEmptyKeepsSteps) && list.is_empty() && m.steps().are_sound();
     write(rules, m, f, if kept { m.steps() } else { steps });
     Ok((m.replicas(), 0))

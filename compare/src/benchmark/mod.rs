@@ -1,4 +1,5 @@
-//! The benchmark's scripts, timing, tables and plot, the form test beside a bare sum and a panel, the search, and nettings.
+//! The benchmark's scripts, timing, tables and plot, the form test beside a bare sum and a panel, the search, nettings, and
+//! waiting movements.
 
 pub mod fit;
 pub mod form_test;
@@ -9,6 +10,8 @@ pub mod plot;
 pub mod search;
 pub mod tables;
 pub mod timing;
+pub mod waiting;
+pub mod waiting_words;
 
 use crate::comparison::checkers::Checker;
 

@@ -29,7 +29,7 @@ struct Measured {
 }
 
 /// The greatest f, no certificates, a chain up to the height, and movements over all its blocks and replicas.
-fn chain(height: usize, movements: usize) -> Netting {
+pub fn chain(height: usize, movements: usize) -> Netting {
     let mut driver = Driver::open(Correct, MAX_F, 0, height + 1);
     for block in 0..height as u32 {
         driver.call(BLOCK, 0, block, &[]);

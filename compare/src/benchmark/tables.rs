@@ -3,7 +3,7 @@
 use super::fit::straight;
 use super::plot::Series;
 use super::timing::best;
-use super::{form_test, inputs, netting, search};
+use super::{form_test, inputs, netting, search, waiting};
 use crate::comparison::checkers::Checker;
 use crate::comparison::programs::{output, Arrival};
 use crate::memory::MAX_F;
@@ -128,6 +128,11 @@ impl Bench<'_> {
     /// One netting by its height and movements, and what a step of it costs.
     pub fn netting(&self, firmware: Option<&dyn Checker>) -> Result<(String, String), String> {
         netting::section(firmware, self.netting_calls(), self.runs)
+    }
+
+    /// The calls for waiting movements, by how many wait.
+    pub fn waiting(&self, firmware: Option<&dyn Checker>) -> Result<String, String> {
+        waiting::section(firmware, self.calls, self.runs)
     }
 
     /// Fewer than of other calls, as a netting takes longer.

@@ -11,7 +11,7 @@ use judge::benchmark::netting::most_steps;
 use judge::benchmark::plot::svg;
 use judge::benchmark::tables::{fit, Bench};
 use judge::comparison::checkers::Checker;
-use judge::memory::{MAX_F, MAX_REPLICAS};
+use judge::memory::{MAX_F, MAX_MOVEMENTS, MAX_REPLICAS, MAX_WAITING, WAITING_WORDS};
 use judge::options::Options;
 use judge::script::{BLOCK_SLOTS, CERTIFICATE_SLOTS};
 use judge::tell::words::thousands;
@@ -55,6 +55,7 @@ fn work(options: &Options) -> Result<(), String> {
         ("panel", bench.panel(firmware())?),
         ("netting", netting),
         ("steps", steps),
+        ("waiting", bench.waiting(firmware())?),
     ];
     measured.iter().for_each(|(_, part)| println!("{}\n", part.trim_end()));
     write(options.text("svg").unwrap_or("../docs/benchmark.svg"), &svg(&series))?;
@@ -65,7 +66,7 @@ fn work(options: &Options) -> Result<(), String> {
 }
 
 /// What the page says of how much was run.
-fn sizes(bench: &Bench) -> [(&'static str, String); 11] {
+fn sizes(bench: &Bench) -> [(&'static str, String); 14] {
     let (most_steps, steps_of_walks) = most_steps();
     [
         ("runs", bench.runs.to_string()),
@@ -78,6 +79,9 @@ fn sizes(bench: &Bench) -> [(&'static str, String); 11] {
         ("certificates", thousands(CERTIFICATE_SLOTS)),
         ("blocks", thousands(BLOCK_SLOTS)),
         ("long", thousands(LONG_LINE)),
+        ("most waiting", thousands(MAX_WAITING)),
+        ("waiting words", thousands(WAITING_WORDS)),
+        ("most movements", thousands(MAX_MOVEMENTS)),
         ("last height", thousands(LAST_HEIGHT as usize)),
     ]
 }

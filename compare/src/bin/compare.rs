@@ -1,15 +1,16 @@
-//! `compare`: two programs on generated scripts, the firmware and the library on random memories and nettings, the
-//! firmware and Rust's own formatting on numbers.
+//! `compare`: two programs on generated scripts, the firmware and the library on random memories, nettings and histories of
+//! waiting movements, the firmware and Rust's own formatting on numbers.
 //!
 //! compare --yard PATH --second PATH [--scenarios DIR] [--seconds N | --scripts N] [--seed N]   scripts, byte for byte
 //! compare --yard PATH --tell PATH [the same]    the numbers that tell tells, in yard's columns, beside yard's output
 //!         --once-across-cuts                    without those that ask for a certificate again after its signer's cut
 //! compare --memories [--seconds N] [--seed N]   memories: the firmware (feature `firmware`), else the library itself
 //! compare --nettings [--seconds N] [--seed N]   lists of movements on memories, the same two
+//! compare --waitings [--seconds N] [--seed N]   histories of waiting movements, the same two
 //! compare --numbers                             every number from 0 to 99,999,999 and some thousands above, written and read again
 //! compare --number-edges                        the same of the numbers near the edges of the eight ranges
 //! compare --self [--mistake NAME] [--seconds N] [--seed N]   the library, with a mistake if one is named, and itself
-//! compare --mistakes [--seed N]                 which mistakes the generators tell apart, and by what
+//! compare --mistakes [--named START] [--seed N] which mistakes the generators tell apart, and by what
 //! compare --coverage [--seed N]                 what the generators reach, and how often
 //! compare --script SEED                         prints the script of a seed
 
@@ -22,10 +23,13 @@ use judge::comparison::programs::{first_difference, output, Arrival};
 use judge::comparison::samples::{call_difference, difference, panel_difference};
 use judge::comparison::shrink::{sample_text, shrink_sample, shrink_script};
 use judge::comparison::shrink_netting::{netting_text, shrink_netting};
+use judge::comparison::shrink_waiting::{history_text, shrink_history};
+use judge::comparison::waitings::history_difference;
 use judge::comparison::{coverage, mistakes};
 use judge::field::COLUMNS;
 use judge::generate::netting::netting;
 use judge::generate::scripts::script;
+use judge::generate::waiting::history;
 use judge::mistake::{Correct, Mistake};
 use judge::options::Options;
 use judge::script::{run, ANSWER_BYTES, MAX_LINE_BYTES};
@@ -60,9 +64,21 @@ fn main() -> ExitCode {
         "scripts",
         "count",
         "netting-count",
+        "history-count",
         "mistake",
+        "named",
     ];
-    let flags = ["memories", "nettings", "numbers", "number-edges", "self", "mistakes", "coverage", "once-across-cuts"];
+    let flags = [
+        "memories",
+        "nettings",
+        "waitings",
+        "numbers",
+        "number-edges",
+        "self",
+        "mistakes",
+        "coverage",
+        "once-across-cuts",
+    ];
     match Options::read(&known, &flags).and_then(|options| work(&options)) {
         Ok(()) => ExitCode::SUCCESS,
         Err(message) => {
@@ -80,11 +96,13 @@ fn work(options: &Options) -> Result<(), String> {
     }
     let (scripts, memories) = (options.number("scripts"), options.number("count").unwrap_or(400_000));
     let nettings = options.number("netting-count").unwrap_or(100_000);
+    let histories = options.number("history-count").unwrap_or(10_000);
+    let most = Most { memories, nettings, histories };
     if options.flag("coverage") {
-        return coverage::tell(seed, scripts.unwrap_or(1000), memories, nettings);
+        return coverage::tell(seed, scripts.unwrap_or(1000), &most);
     }
     if options.flag("mistakes") {
-        return mistakes::tell(seed, scripts.unwrap_or(300), Most { memories, nettings })
+        return mistakes::tell(seed, scripts.unwrap_or(300), &most, options.text("named").unwrap_or(""))
             .then_some(())
             .ok_or("a mistake is missed".to_string());
     }
@@ -96,6 +114,9 @@ fn work(options: &Options) -> Result<(), String> {
     }
     if options.flag("nettings") {
         return compare_nettings(checker(LIBRARY).as_ref(), seed, time);
+    }
+    if options.flag("waitings") {
+        return compare_waitings(waiting_checker().as_ref(), seed, time);
     }
     if options.flag("numbers") {
         return tell_numbers(compare_range(checker(FORMATTING).as_ref(), EVERY));
@@ -110,7 +131,7 @@ fn work(options: &Options) -> Result<(), String> {
 fn compare_programs(options: &Options, seed: u64, time: Duration) -> Result<(), String> {
     let beside = options.text("second").or(options.text("tell"));
     let (Some(yard), Some(beside)) = (options.text("yard"), beside) else {
-        let flags = "--memories, --nettings, --numbers, --number-edges, --self, --mistakes or --coverage";
+        let flags = "--memories, --nettings, --waitings, --numbers, --number-edges, --self, --mistakes or --coverage";
         return Err(format!("give --yard PATH and --second PATH or --tell PATH, or {flags}"));
     };
     let told = options.text("second").is_none();
@@ -133,8 +154,9 @@ fn compare_library(mistake: Option<&str>, seed: u64, time: Duration) -> Result<(
     let scripts = compare_scripts(&|text, _| Ok(run(rules, text)), &|text, _| Ok(run(Correct, text)), scripts);
     let memories = compare_memories(&Library(rules), seed, time);
     let nettings = compare_nettings(&Library(rules), seed, time);
+    let waitings = compare_waitings(&Library(rules), seed, time);
     let numbers = tell_numbers(compare_numbers(&Library(rules), near_edges()));
-    scripts.and(memories).and(nettings).and(numbers)
+    scripts.and(memories).and(nettings).and(waitings).and(numbers)
 }
 
 /// The firmware, to be put beside something; without the feature the library in its place.
@@ -148,6 +170,18 @@ fn checker(beside: &str) -> Box<dyn Checker + Sync> {
 fn checker(beside: &str) -> Box<dyn Checker + Sync> {
     println!("built without the feature `firmware`: the library against {beside}");
     Box::new(Library(Correct))
+}
+
+/// The same for waiting movements; without the feature the benchmark's own words in its place.
+#[cfg(feature = "firmware")]
+fn waiting_checker() -> Box<dyn Checker + Sync> {
+    checker(LIBRARY)
+}
+
+#[cfg(not(feature = "firmware"))]
+fn waiting_checker() -> Box<dyn Checker + Sync> {
+    println!("built without the feature `firmware`: the benchmark's words against {LIBRARY}");
+    Box::new(judge::benchmark::waiting_words::Words)
 }
 
 fn compare_scripts(one: Run, other: Run, scripts: Scripts) -> Result<(), String> {
@@ -247,6 +281,19 @@ fn compare_nettings(checker: &dyn Checker, seed: u64, time: Duration) -> Result<
         println!("seed {seed} ({}): {told}", netting.sort);
         let small = shrink_netting(&netting, |netting| tell(netting).is_some());
         println!("smallest netting:\n{}  {}", netting_text(&small), tell(&small).unwrap_or_default());
+        true
+    })
+}
+
+fn compare_waitings(checker: &dyn Checker, seed: u64, time: Duration) -> Result<(), String> {
+    let tell = |history: &_| history_difference(checker, &Library(Correct), history);
+    compare_seeds("histories of waiting movements", seed, time, |seed| {
+        let history = history(seed);
+        let Some((step, told)) = tell(&history) else { return false };
+        println!("seed {seed} ({}), step {step}: {told}", history.sort);
+        let small = shrink_history(&history, |history| tell(history).is_some());
+        let (step, told) = tell(&small).unwrap_or_default();
+        println!("smallest history:\n{}  step {step}: {told}", history_text(&small));
         true
     })
 }

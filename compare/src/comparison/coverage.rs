@@ -1,8 +1,9 @@
 //! What the generators reach: how often each call gets each answer, which f are opened, and the marks that the
-//! comparison is meant to hit, on script lines, memories and nettings.
+//! comparison is meant to hit, on script lines, memories, nettings and histories of waiting movements.
 
 use super::marks::{self, seen_lines, Seen};
-use super::{memory_marks, netting_marks};
+use super::mistakes::Most;
+use super::{memory_marks, netting_marks, waiting_marks};
 use crate::call::{LAST_CODE, OPEN};
 use crate::generate::memory::sample;
 use crate::generate::scripts::{script, Script, SORTS};
@@ -16,8 +17,8 @@ const OTHER_CODE: u32 = LAST_CODE + 1;
 const LAST_ANSWER: u32 = WRONG_STEPS;
 
 /// Prints it all; what is not reached at all is an error.
-pub fn tell(seed: u64, scripts: u64, memories: u64, nettings: u64) -> Result<(), String> {
-    let of_memories = memories_reach(seed, memories);
+pub fn tell(seed: u64, scripts: u64, most: &Most) -> Result<(), String> {
+    let of_memories = memories_reach(seed, most.memories);
     let mut reached = Reached {
         counts: Default::default(),
         sorts: vec![0; SORTS.len()],
@@ -28,7 +29,8 @@ pub fn tell(seed: u64, scripts: u64, memories: u64, nettings: u64) -> Result<(),
     print("script lines", &reached.counts);
     let mut all = reached.named();
     all.extend(of_memories);
-    all.extend(netting_marks::reached(seed, nettings)?);
+    all.extend(netting_marks::reached(seed, most.nettings)?);
+    all.extend(waiting_marks::reached(seed, most.histories));
     all.iter().for_each(|(name, count)| println!("{name:64}{count:9}"));
     let missed: Vec<&str> = all.iter().filter(|(_, count)| *count == 0).map(|(name, _)| name.as_str()).collect();
     if missed.is_empty() {

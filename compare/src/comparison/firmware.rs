@@ -1,9 +1,11 @@
 //! The proved firmware behind its C interface (include/yard.h), linked from libfirmware.a by build.rs.
 
 use super::checkers::Checker;
+use super::firmware_waiting::FirmwareKeeper;
 use crate::call::Outcome;
 use crate::generate::memory::Sample;
 use crate::generate::netting::Netting;
+use crate::history::Keeper;
 
 extern "C" {
     fn yard_read_number(bytes: *const u8, length: usize) -> u32;
@@ -117,6 +119,10 @@ impl Checker for Firmware {
             )
         };
         (answer, balance)
+    }
+
+    fn keeper(&self, words: &[u32]) -> Box<dyn Keeper + '_> {
+        Box::new(FirmwareKeeper::new(words))
     }
 
     fn read_number(&self, bytes: &[u8]) -> u32 {

@@ -1,4 +1,5 @@
-//! Seeded generators: scripts, memories with one call each, nettings, and the steps that they open with.
+//! Seeded generators: scripts, memories with one call each, nettings, histories of waiting movements, and the steps that
+//! they open with.
 
 pub mod beforehand;
 pub mod blocks;
@@ -6,6 +7,8 @@ pub mod boundary;
 pub mod chunks;
 pub mod cuts;
 pub mod damage;
+pub mod further;
+pub mod matching;
 pub mod memory;
 pub mod movements;
 pub mod netting;
@@ -14,3 +17,4 @@ pub mod progress;
 pub mod ready;
 pub mod scripts;
 pub mod steps;
+pub mod waiting;

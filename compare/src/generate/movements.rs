@@ -57,7 +57,7 @@ pub fn extreme_list(random: &mut Random, limits: Limits, ancestry: &[u32], repli
     words_of(&(0..MAX_MOVEMENTS).map(|_| movement()).collect::<Vec<_>>())
 }
 
-fn words_of(list: &[Movement]) -> Vec<u32> {
+pub fn words_of(list: &[Movement]) -> Vec<u32> {
     list.iter().flat_map(Movement::words).collect()
 }
 
@@ -73,7 +73,7 @@ fn any_count(random: &mut Random, limits: Limits) -> usize {
     }
 }
 
-fn sound(random: &mut Random, limits: Limits, ancestry: &[u32]) -> Movement {
+pub fn sound(random: &mut Random, limits: Limits, ancestry: &[u32]) -> Movement {
     let last = (limits.added - 1).max(1);
     let any = random.within(1, last);
     let block = if ancestry.is_empty() || random.once_in(2) {
@@ -98,7 +98,7 @@ fn give_back(list: &mut [Movement]) {
 }
 
 /// One word of one movement becomes wrong, mostly by just one too much.
-fn damage(random: &mut Random, limits: Limits, list: &mut [Movement]) {
+pub fn damage(random: &mut Random, limits: Limits, list: &mut [Movement]) {
     let any = random.below(list.len() as u32) as usize;
     let place = random.pick(&[0, any, list.len().saturating_sub(1)]);
     let Some(movement) = list.get_mut(place) else { return };
@@ -112,7 +112,7 @@ fn damage(random: &mut Random, limits: Limits, list: &mut [Movement]) {
 }
 
 /// Words too many or too few, near the limit too.
-fn break_records(random: &mut Random, words: &mut Vec<u32>) {
+pub fn break_records(random: &mut Random, words: &mut Vec<u32>) {
     let part = random.within(1, MOVEMENT_WORDS as u32 - 1) as usize;
     match random.below(8) {
         0 => words.resize(MOVEMENT_WORDS * MAX_MOVEMENTS - part, 1),

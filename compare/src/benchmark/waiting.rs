@@ -72,6 +72,7 @@ fn case(name: &'static str, waiting: usize, height: usize, step: impl Fn(Entry) 
 }
 
 const MATCH: &str = "Match";
+const ASK: &str = "Ask";
 
 /// The entry that leaves stands in the middle.
 fn cases() -> Vec<Case> {
@@ -90,7 +91,7 @@ fn cases() -> Vec<Case> {
         }
     }
     for count in COUNTS {
-        all.push(case("Ask", count, 1, |_| Step::Ask(1)));
+        all.push(case(ASK, count, 1, |_| Step::Ask(1)));
     }
     all
 }
@@ -118,7 +119,7 @@ pub fn section(firmware: Option<&dyn Checker>, calls: usize, runs: u64) -> Resul
 }
 
 /// Microseconds of one call by each checker: what it takes with its words put back before it, less what putting them back
-/// takes. All take turns.
+/// takes; an Ask changes none, so nothing is put back. All take turns.
 fn times(checkers: &[Named], case: &Case, calls: usize, runs: u64) -> Result<Vec<f64>, String> {
     let History { memory, words, acts, lists, .. } = &case.history;
     let mut actions: Vec<Box<dyn FnMut() + '_>> = Vec::new();
@@ -127,9 +128,16 @@ fn times(checkers: &[Named], case: &Case, calls: usize, runs: u64) -> Result<Vec
         if !make(left.as_mut(), &mut memory, &acts[0].step, &lists[0]) {
             return Err(format!("{name}: {} with {} waiting is refused", case.name, case.waiting));
         }
-        actions.push(Box::new(move || left.restart(black_box(words))));
+        let changes = case.name != ASK;
         actions.push(Box::new(move || {
-            right.restart(black_box(words));
+            if changes {
+                left.restart(black_box(words))
+            }
+        }));
+        actions.push(Box::new(move || {
+            if changes {
+                right.restart(black_box(words));
+            }
             black_box(make(right.as_mut(), &mut memory, black_box(&acts[0].step), black_box(&lists[0])));
         }));
     }

@@ -4,12 +4,50 @@ use mathlib.Core.Path.{_≡_, refl, sym, ap, _∙_}
 use mathlib.Core.Bool.{Bool, true, false, or-true}
 use mathlib.Core.List.{List, [], _∷_, _++_}
 use native.Mathlib.Omega.{arith}
+use borrow.Author.Tests.{eqb-false}
 use lib.Dec.{ltb, eqb}
+use Rattle.protocol.specs.inner.Groups.{anyHolds}
 use Rattle.protocol.proofs.logic.Booleans.{tests, by-test}
+use Rattle.protocol.proofs.logic.Joined.{none-of}
 use Rattle.entries.specs.declared.Entry.{Entry}
 use Rattle.entries.specs.Entries.{waitingCount, entry, entriesFrom, entries, isWaiting, entryOf, without}
 use Rattle.entries.proofs.Words.{from-append}
-use Rattle.arrivals.specs.inner.Found.{Found, closedUp}
+use Rattle.arrivals.specs.inner.Found.{Found, hasIdentity, closedUp}
+
+-- Entries passed, one and four at a time, of which none has the identity.
+abbrev pub NoneFrom : List ℕ → ℕ → ℕ → ℕ → Type 0
+NoneFrom w identity from to = (k : ℕ) → from ≤ k → k < to → entry w k .identity ≡ identity → ⊥
+
+pub none-more : (w : List ℕ) (identity from slot : ℕ) → NoneFrom w identity from slot → (entry w slot .identity ≡ identity → ⊥)
+    → NoneFrom w identity from (slot + 1)
+none-more w identity from slot none other k le l is =
+    by-test (eqb k slot) (λ e. let q : k ≡ slot = omega tests in other (rw q at is)) (λ e. none k le (omega tests) is)
+
+pub none-of-four : (w : List ℕ) (identity from slot : ℕ) → NoneFrom w identity from slot
+    → anyHolds
+    (hasIdentity w identity slot
+    ∷ hasIdentity w identity (slot + 1)
+    ∷ hasIdentity w identity (slot + 2)
+    ∷ hasIdentity w identity (slot + 3)
+    ∷ [])
+    ≡ false
+    → NoneFrom w identity from (slot + 4)
+none-of-four w identity from slot none e =
+    let has = hasIdentity w identity in
+    let t = none-of (has slot ∷ has (slot + 1) ∷ has (slot + 2) ∷ has (slot + 3) ∷ []) e in
+    let two : slot + 1 + 1 ≡ slot + 2 = omega arith in
+    let three : slot + 2 + 1 ≡ slot + 3 = omega arith in
+    let four : slot + 3 + 1 ≡ slot + 4 = omega arith in
+    let one = none-more w identity from slot none (eqb-false _ _ (t .0)) in
+    let second = rw two at (none-more w identity from (slot + 1) one (eqb-false _ _ (t .1 .0))) in
+    let third = rw three at (none-more w identity from (slot + 2) second (eqb-false _ _ (t .1 .1 .0))) in
+    rw four at (none-more w identity from (slot + 3) third (eqb-false _ _ (t .1 .1 .1 .0)))
+
+-- None before a slot, and none from it on up to another.
+pub none-both : (w : List ℕ) (identity start slot : ℕ) → ((k : ℕ) → k < start → entry w k .identity ≡ identity → ⊥)
+    → NoneFrom w identity start slot → (k : ℕ) → k < slot → entry w k .identity ≡ identity → ⊥
+none-both w identity start slot before from k l is =
+    by-test (ltb k start) (λ e. before k (omega tests) is) (λ e. from k (omega tests) l is)
 
 module _ (identity : ℕ) where
   -- Behind entries of which none has the identity, the rest tells.

@@ -1,10 +1,11 @@
 // The further slice's words (document 02, #108): its form; finding an entry, appending one and taking one out; the two words of a taker.
 ghost use mathlib.Core.Path.{_≡_};
 ghost use mathlib.Core.List.{[], _∷_, _++_};
-ghost use Prim.Native.Nat.{_+_, _-_, _≤_, _<_};
+ghost use Prim.Native.Nat.{ℕ, _+_, _-_, _≤_, _<_};
 ghost use lib.ListN.{length, drop, replicate};
 ghost use lib.Seq.{sets, paste};
 ghost use Rattle.protocol.specs.Form.{allBelow};
+ghost use Rattle.protocol.specs.inner.Groups.{anyHolds};
 ghost use Rattle.entries.specs.Entries.{
   maxWaiting,
   waitingWords,
@@ -21,7 +22,7 @@ ghost use Rattle.entries.specs.Entries.{
   holding,
   refreshed,
 };
-ghost use Rattle.arrivals.specs.inner.Found.{Found, closedUp, Removable, Refreshable, tallied, tallyOf};
+ghost use Rattle.arrivals.specs.inner.Found.{Found, hasIdentity, closedUp, Removable, Refreshable, tallied, tallyOf};
 use entries::ENTRIES_AT;
 use entries::ENTRY_GIVER_AT;
 use entries::ENTRY_PALLETS_AT;
@@ -111,19 +112,56 @@ pub fn is_formed(waiting: &[u32], replicas: u32) -> bool
     entries_formed(waiting, count as usize, replicas)
 }
 
-// The slot of the first entry of an identity, or the count where there is none.
-pub fn find(waiting: &[u32], identity: u32, count: usize) -> usize
-    requires { ⌜ (entryAt count ≤ length (now waiting)) × (entryAt count ≤ waitingWords) ⌝ }
-    ensures { λ r. ⌜ Found (now (waiting .entry)) identity count r ⌝ }
+// The identity of the entry in a slot.
+fn identity_in(waiting: &[u32], slot: usize) -> u32
+    requires { ⌜ (entryAt slot + entryWidth ≤ length (now waiting)) × (entryAt slot ≤ waitingWords) ⌝ }
+    ensures { λ r. ⌜ r ≡ entry (now (waiting .entry)) slot .identity ⌝ }
 {
-    let mut slot: usize = 0;
+    waiting[entry_at(slot) + IDENTITY_AT]
+}
+
+// Whether one of four entries, from a slot on, has an identity.
+fn four_have(waiting: &[u32], identity: u32, slot: usize) -> bool
+    requires { ⌜ (entryAt (slot + 4) ≤ length (now waiting)) × (entryAt (slot + 4) ≤ waitingWords) ⌝ }
+    ensures { λ r. ⌜ r ≡ anyHolds (hasIdentity (now (waiting .entry)) identity slot ∷ hasIdentity (now (waiting .entry)) identity (slot + 1)
+        ∷ hasIdentity (now (waiting .entry)) identity (slot + 2) ∷ hasIdentity (now (waiting .entry)) identity (slot + 3) ∷ []) ⌝ }
+{
+    (identity_in(waiting, slot) == identity)
+        | (identity_in(waiting, slot + 1) == identity)
+        | (identity_in(waiting, slot + 2) == identity)
+        | (identity_in(waiting, slot + 3) == identity)
+}
+
+// The slot of the first entry of an identity from a slot on, or the count where there is none.
+fn find_from(waiting: &[u32], identity: u32, start: usize, count: usize) -> usize
+    requires { ⌜ (start ≤ count) × (entryAt count ≤ length (now waiting)) × (entryAt count ≤ waitingWords) ⌝ }
+    ensures { λ r. ⌜ (((k : ℕ) → k < start → entry (now (waiting .entry)) k .identity ≡ identity → ⊥) →
+        Found (now (waiting .entry)) identity count r) ⌝ }
+{
+    let mut slot = start;
     while slot < count {
-        if waiting[entry_at(slot) + IDENTITY_AT] == identity {
+        if identity_in(waiting, slot) == identity {
             return slot;
         }
         slot += 1;
     }
     slot
+}
+
+// The slot of the first entry of an identity, or the count where there is none: four entries a turn, and from the first four that have it
+// one by one.
+pub fn find(waiting: &[u32], identity: u32, count: usize) -> usize
+    requires { ⌜ (entryAt count ≤ length (now waiting)) × (entryAt count ≤ waitingWords) ⌝ }
+    ensures { λ r. ⌜ Found (now (waiting .entry)) identity count r ⌝ }
+{
+    let mut slot: usize = 0;
+    while slot + 4 <= count {
+        if four_have(waiting, identity, slot) {
+            return find_from(waiting, identity, slot, count);
+        }
+        slot += 4;
+    }
+    find_from(waiting, identity, slot, count)
 }
 
 // Writes an entry into a slot.

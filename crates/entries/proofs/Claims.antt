@@ -7,6 +7,7 @@ use Rattle.entries.proofs.Histories.{ask-is-pass, calls-answer-by-histo
 use Rattle.entries.proofs.Histories.{pallets-waiting-bounded}
 use Rattle.entries.proofs.Ledgers.{ledger-answers-pass}
 use Rattle.entries.proofs.cases.Table.{waiting-cases-hold}
+use Rattle.entries.proofs.cases.Day.{day-told, events-hold}
 
 pub claimed : Claims
 claimed =
@@ -26,4 +27,6 @@ claimed =
       waitingNumbersListed = waiting-numbers-listed;
       palletsWaitingBounded = pallets-waiting-bounded;
       waitingCasesHold = waiting-cases-hold;
+      dayTold = day-told;
+      eventsHold = events-hold;
     }

@@ -54,6 +54,9 @@ waiting-lowest-wins s =
       matches = λ movements i identity place number w.
           lowest-of-first s (matchRule s movements i identity place) (matchNeeds s movements i identity place)
           (matchFit s movements i identity place) refl refl w;
+      before = λ movements i identity place some.
+          returned s (matchRule s movements i identity place)
+          ∙ refused-first (matchNeeds s movements i identity place) (matchFit s movements i identity place) some;
       fits = λ movements i identity place pass number w.
           let fit = matchFit s movements i identity place in
           let least = lowest-refusal fit wrongCertificate refl w in

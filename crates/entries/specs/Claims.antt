@@ -4,6 +4,7 @@ use Rattle.entries.specs.Theorems.{OnlyNamedWaitingChange, WaitingLowest
 use Rattle.entries.specs.Theorems.{CallsAnswerByHistory, LedgerAnswersPass, NeverMoreWait, PlaceTakesOutOne, WaitingNumbersListed}
 use Rattle.entries.specs.Theorems.{PalletsWaitingBounded}
 use Rattle.entries.specs.cases.Table.{WaitingCasesHold}
+use Rattle.entries.specs.cases.Day.{DayTold, EventsHold}
 
 pub record Claims : Type 0 where
   -- a refused call returns the number of a need that fails and two zeros, and changes no word
@@ -37,3 +38,7 @@ pub record Claims : Type 0 where
   pub palletsWaitingBounded : PalletsWaitingBounded
   -- worked cases: openings, the form, each call's limits and order, the words left, and a day
   pub waitingCasesHold : WaitingCasesHold
+  -- the events that the calls and answers of that day tell
+  pub dayTold : DayTold
+  -- what a pass over these gives
+  pub eventsHold : EventsHold

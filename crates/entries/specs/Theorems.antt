@@ -84,7 +84,7 @@ OnlyNamedWaitingChange = (s : Lent) (call : WaitingCall) → OnlyNamed s call
 -- line or was used before returns 5."
 
 -- Where a need fails the call is refused, with a number that is not above that of the need. Of a Match that is said of all but its last
--- needs, which decide where all others hold.
+-- needs: where one of the others fails, it is the first of these that is returned, and the last decide where all others hold.
 pub record WaitingOrder (s : Lent) : Type 0 where
   pub enters : (e : Entry) (number : ℕ) → List·Memᴰ (false else number) (waitingRule s (Enter e) .needs)
       → Lowest (waitingStep s (Enter e)) number
@@ -93,6 +93,8 @@ pub record WaitingOrder (s : Lent) : Type 0 where
   pub matches : (movements : List ℕ) (i identity place number : ℕ)
       → List·Memᴰ (false else number) (matchNeeds s movements i identity place)
       → Lowest (waitingStep s (Match movements i identity place)) number
+  pub before : (movements : List ℕ) (i identity place : ℕ) → (firstRefusal (matchNeeds s movements i identity place) ≡ 0 → ⊥)
+      → waitingStep s (Match movements i identity place) .answer .number ≡ firstRefusal (matchNeeds s movements i identity place)
   pub fits : (movements : List ℕ) (i identity place : ℕ) → firstRefusal (matchNeeds s movements i identity place) ≡ 0
       → (number : ℕ) → List·Memᴰ (false else number) (matchFit s movements i identity place)
       → waitingStep s (Match movements i identity place) .answer .number ≡ wrongCertificate

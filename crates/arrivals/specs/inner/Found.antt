@@ -1,7 +1,7 @@
 -- What finding an entry tells, and what a taker's words may be written from.
 use Prim.Native.Nat.{ℕ, _+_, _-_, _≤_, _<_}
 use mathlib.Core.Path.{_≡_}
-use mathlib.Core.Bool.{cond}
+use mathlib.Core.Bool.{Bool, cond}
 use mathlib.Core.List.{List, _++_}
 use lib.ListN.{length}
 use lib.Dec.{eqb}
@@ -15,6 +15,9 @@ pub record Found (w : List ℕ) (identity count slot : ℕ) : Type 0 where
   pub within : slot ≤ count
   pub before : (k : ℕ) → k < slot → entry w k .identity ≡ identity → ⊥
   pub there : slot < count → entry w slot .identity ≡ identity
+
+abbrev pub hasIdentity : List ℕ → ℕ → ℕ → Bool
+hasIdentity w identity k = eqb (entry w k .identity) identity
 
 -- A slot that has an entry; and the entries but that one.
 pub record Removable (w : List ℕ) (slot : ℕ) : Type 0 where

@@ -18,7 +18,6 @@ use Rattle.entries.specs.cases.Table.{WaitingCasesHold}
 use Rattle.protocol.proofs.cases.Rows.{_and_}
 use Rattle.entries.proofs.cases.Rows.{wrong, right, all-right}
 use Rattle.entries.proofs.cases.Crowds.{crowd-cases, many-cases}
-use Rattle.entries.proofs.cases.Day.{day-told, events-hold}
 
 opening-cases : EveryCaseHolds openingCases
 unfolding wrong EveryCaseHolds openingCases
@@ -119,4 +118,4 @@ worked-day = right day refl and tt
 pub waiting-cases-hold : WaitingCasesHold
 unfolding WaitingCasesHold
 waiting-cases-hold =
-    (opening-cases, length-cases, entry-form-cases, which-entries-cases, every-call-cases, entering-cases, withdrawing-cases, matching-cases, asking-cases, word-cases, crowd-cases, many-cases, past-the-most, worked-day, day-told, events-hold)
+    (opening-cases, length-cases, entry-form-cases, which-entries-cases, every-call-cases, entering-cases, withdrawing-cases, matching-cases, asking-cases, word-cases, crowd-cases, many-cases, past-the-most, worked-day)

@@ -9,7 +9,7 @@ use Rattle.entries.specs.cases.Matching.{matchingCases}
 use Rattle.entries.specs.cases.Asking.{askingCases}
 use Rattle.entries.specs.cases.Words.{wordCases}
 use Rattle.entries.specs.cases.Crowds.{crowdCases, manyCases, pastTheMost}
-use Rattle.entries.specs.cases.Day.{day, DayTold, EventsHold}
+use Rattle.entries.specs.cases.Day.{day}
 
 -- Every row's call gives the answer beside it and, where words stand there, leaves just these.
 unfoldable pub WaitingCasesHold : Type 0
@@ -28,5 +28,3 @@ WaitingCasesHold =
     × EveryCaseHolds manyCases
     × EveryCaseHolds pastTheMost
     × EveryCaseHolds (day ∷ [])
-    × DayTold
-    × EventsHold

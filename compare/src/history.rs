@@ -80,8 +80,8 @@ pub trait Keeper {
     fn wait(&mut self, memory: &mut Sample, step: &Step, movements: &[u32], off: isize) -> Outcome;
     /// The further slice's words.
     fn words(&self) -> Vec<u32>;
-    /// Begins again from other words of the further slice, as many as before.
-    fn restart(&mut self, words: &[u32]);
+    /// Writes words of the further slice, from an index on.
+    fn put(&mut self, at: usize, words: &[u32]);
 }
 
 /// The library with its own entries.
@@ -126,8 +126,10 @@ impl<R: Rules> Keeper for OwnKeeper<R> {
         words
     }
 
-    fn restart(&mut self, words: &[u32]) {
-        *self = OwnKeeper::new(self.rules, words);
+    fn put(&mut self, at: usize, words: &[u32]) {
+        let mut all = self.words();
+        all[at..at + words.len()].copy_from_slice(words);
+        *self = OwnKeeper::new(self.rules, &all);
     }
 }
 

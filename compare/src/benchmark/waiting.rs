@@ -18,6 +18,7 @@ use crate::netting::Movement;
 use crate::tell::words::thousands;
 use crate::waiting::Claim;
 use std::hint::black_box;
+use std::ops::Range;
 
 const COUNTS: [usize; 3] = [0, MAX_WAITING / 4, MAX_WAITING];
 /// Heights of the chain that a match goes up.
@@ -72,7 +73,6 @@ fn case(name: &'static str, waiting: usize, height: usize, step: impl Fn(Entry) 
 }
 
 const MATCH: &str = "Match";
-const ASK: &str = "Ask";
 
 /// The entry that leaves stands in the middle.
 fn cases() -> Vec<Case> {
@@ -91,7 +91,7 @@ fn cases() -> Vec<Case> {
         }
     }
     for count in COUNTS {
-        all.push(case(ASK, count, 1, |_| Step::Ask(1)));
+        all.push(case("Ask", count, 1, |_| Step::Ask(1)));
     }
     all
 }
@@ -118,8 +118,8 @@ pub fn section(firmware: Option<&dyn Checker>, calls: usize, runs: u64) -> Resul
     Ok(table)
 }
 
-/// Microseconds of one call by each checker: what it takes with its words put back before it, less what putting them back
-/// takes; an Ask changes none, so nothing is put back. All take turns.
+/// Microseconds of one call by each checker: what it takes with the words that it changes put back before it, less what
+/// putting them back takes. All take turns.
 fn times(checkers: &[Named], case: &Case, calls: usize, runs: u64) -> Result<Vec<f64>, String> {
     let History { memory, words, acts, lists, .. } = &case.history;
     let mut actions: Vec<Box<dyn FnMut() + '_>> = Vec::new();
@@ -128,21 +128,34 @@ fn times(checkers: &[Named], case: &Case, calls: usize, runs: u64) -> Result<Vec
         if !make(left.as_mut(), &mut memory, &acts[0].step, &lists[0]) {
             return Err(format!("{name}: {} with {} waiting is refused", case.name, case.waiting));
         }
-        let changes = case.name != ASK;
+        let changed = stretches(words, &left.words());
+        let again = changed.clone();
+        actions.push(Box::new(move || put_back(left.as_mut(), black_box(words), &again)));
         actions.push(Box::new(move || {
-            if changes {
-                left.restart(black_box(words))
-            }
-        }));
-        actions.push(Box::new(move || {
-            if changes {
-                right.restart(black_box(words));
-            }
+            put_back(right.as_mut(), black_box(words), &changed);
             black_box(make(right.as_mut(), &mut memory, black_box(&acts[0].step), black_box(&lists[0])));
         }));
     }
     let seconds = best_in_turn(&mut actions, calls, runs).map_err(|error| error.to_string())?;
     Ok(seconds.chunks_exact(2).map(|pair| (pair[1] - pair[0]) * 1e6 / calls as f64).collect())
+}
+
+/// Where two lists of words differ.
+fn stretches(before: &[u32], after: &[u32]) -> Vec<Range<usize>> {
+    let mut all: Vec<Range<usize>> = Vec::new();
+    for at in (0..before.len()).filter(|&at| before[at] != after[at]) {
+        match all.last_mut() {
+            Some(last) if last.end == at => last.end += 1,
+            _ => all.push(at..at + 1),
+        }
+    }
+    all
+}
+
+fn put_back(keeper: &mut dyn Keeper, words: &[u32], changed: &[Range<usize>]) {
+    for stretch in changed {
+        keeper.put(stretch.start, &words[stretch.clone()]);
+    }
 }
 
 fn make(keeper: &mut dyn Keeper, memory: &mut Sample, step: &Step, movements: &[u32]) -> bool {

@@ -81,8 +81,8 @@ impl Keeper for WordsKeeper {
         self.words[..self.own()].to_vec()
     }
 
-    fn restart(&mut self, words: &[u32]) {
-        self.words[..words.len()].copy_from_slice(words);
+    fn put(&mut self, at: usize, words: &[u32]) {
+        self.words[at..at + words.len()].copy_from_slice(words);
     }
 }
 

@@ -123,8 +123,8 @@ impl Keeper for FirmwareKeeper {
         self.words[..self.own()].to_vec()
     }
 
-    fn restart(&mut self, words: &[u32]) {
-        self.words[..words.len()].copy_from_slice(words);
+    fn put(&mut self, at: usize, words: &[u32]) {
+        self.words[at..at + words.len()].copy_from_slice(words);
     }
 }
 

@@ -1,14 +1,14 @@
 -- Rows of the table of cases, by computation: they hold where none of them is wrong.
 use Prim.Native.Nat.{ℕ, _+_}
 use mathlib.Core.Path.{_≡_, refl}
-use mathlib.Core.Bool.{Bool, true, false, cond, _&&_}
+use mathlib.Core.Bool.{Bool, true, cond, _&&_}
 use mathlib.Core.List.{List, [], _∷_}
 use lib.ListN.{length}
-use lib.Dec.{eqb}
 use Rattle.protocol.specs.Ancestry.{ancestorWithin}
 use Rattle.protocol.specs.Outcome.{Answer}
-use Rattle.protocol.proofs.logic.Booleans.{tests, and-true}
+use Rattle.protocol.proofs.logic.Booleans.{and-true}
 use Rattle.protocol.proofs.cases.Rows as Plain
+use Rattle.protocol.proofs.cases.Rows.{isAnswer, same-answer, areWords, same-words, isMemory, same-memory, none-here}
 use Rattle.movements.specs.Movements.{movementAllowed, isMovementList}
 use Rattle.entries.specs.Entries.{entriesFrom, entryAllowed, waitingFormed, isWaiting, entryOf, without, palletsFor, earliestFor}
 use Rattle.entries.specs.Entries.{holding, refreshed}
@@ -16,43 +16,10 @@ use Rattle.entries.specs.Waiting.{Lent, WaitingOutcome, openRule, enterR
 use Rattle.entries.specs.Arrivals.{ledgerStep, ledgerAfter}
 use Rattle.entries.specs.cases.Rows.{Row, _gives_, _gives_leaving_, Case, overwritten, callOf, RowHolds, RowsHold, EveryCaseHolds}
 
--- ---- equal answers, equal words
-
-isAnswer : Answer → Answer → Bool
-isAnswer a b = eqb (a .number) (b .number) && (eqb (a .first) (b .first) && eqb (a .second) (b .second))
-
-alike : {n n′ f f′ s s′ : ℕ} → n ≡ n′ → f ≡ f′ → s ≡ s′
-    → _≡_ {A = Answer} (record { number = n; first = f; second = s }) (record { number = n′; first = f′; second = s′ })
-alike n f s = rw (n, f, s) refl
-
-same-answer : (a b : Answer) → isAnswer a b ≡ true → a ≡ b
-unfolding isAnswer
-same-answer a b e =
-    let number = and-true (eqb (a .number) (b .number)) _ e in
-    let values = and-true (eqb (a .first) (b .first)) _ (number .1) in
-    alike (omega tests) (omega tests) (omega tests)
-
-areWords : List ℕ → List ℕ → Bool
-areWords [] [] = true
-areWords [] (w ∷ wanted) = false
-areWords (v ∷ given) [] = false
-areWords (v ∷ given) (w ∷ wanted) = eqb v w && areWords given wanted
-
-same-words : (given wanted : List ℕ) → areWords given wanted ≡ true → given ≡ wanted
-unfolding areWords
-same-words [] [] e = refl
-same-words [] (w ∷ wanted) e = cc
-same-words (v ∷ given) [] e = cc
-same-words (v ∷ given) (w ∷ wanted) e =
-    let both = and-true (eqb v w) (areWords given wanted) e in
-    let same : v ≡ w = omega tests in
-    rw (same, same-words given wanted (both .1)) refl
+-- ---- equal outcomes
 
 isLent : Lent → Lent → Bool
-isLent s s′ =
-    areWords (s .waiting) (s′ .waiting)
-    && (areWords (s .memory .table) (s′ .memory .table)
-    && (areWords (s .memory .log) (s′ .memory .log) && areWords (s .memory .blocks) (s′ .memory .blocks)))
+isLent s s′ = areWords (s .waiting) (s′ .waiting) && isMemory (s .memory) (s′ .memory)
 
 isOutcome : WaitingOutcome → Answer → Lent → Bool
 isOutcome o a s = isAnswer (o .answer) a && isLent (o .state) s
@@ -61,15 +28,11 @@ same-outcome : (o : WaitingOutcome) (a : Answer) (s : Lent) → isOutcome o a s 
 unfolding isLent isOutcome
 same-outcome o a s e =
     let both = and-true (isAnswer (o .answer) a) _ e in
-    let waiting = and-true (areWords (o .state .waiting) (s .waiting)) _ (both .1) in
-    let table = and-true (areWords (o .state .memory .table) (s .memory .table)) _ (waiting .1) in
-    let others = and-true (areWords (o .state .memory .log) (s .memory .log)) _ (table .1) in
+    let slices = and-true (areWords (o .state .waiting) (s .waiting)) _ (both .1) in
     rw (
       same-answer (o .answer) a (both .0),
-      same-words (o .state .waiting) (s .waiting) (waiting .0),
-      same-words (o .state .memory .table) (s .memory .table) (table .0),
-      same-words (o .state .memory .log) (s .memory .log) (others .0),
-      same-words (o .state .memory .blocks) (s .memory .blocks) (others .1),
+      same-words (o .state .waiting) (s .waiting) (slices .0),
+      same-memory (o .state .memory) (s .memory) (slices .1),
     ) refl
 
 -- ---- rows
@@ -95,10 +58,6 @@ wrongFrom n [] = []
 wrongFrom n (c ∷ cs) = wrongRows n (c .start) (c .rows) (wrongFrom (n + length (c .rows)) cs)
 
 -- Where none is wrong, every row holds.
-none-here : (t : Bool) (n : ℕ) (rest : List ℕ) → cond t rest (n ∷ rest) ≡ [] → (t ≡ true) × (rest ≡ [])
-none-here true n rest e = (refl, e)
-none-here false n rest e = (cc, cc)
-
 rows-hold : (n : ℕ) (s : Lent) (rs : List Row) (later : List ℕ) → wrongRows n s rs later ≡ [] → RowsHold s rs × (later ≡ [])
 unfolding wrongRows RowsHold
 rows-hold n s [] later e = (tt, e)
@@ -120,7 +79,7 @@ cases-hold-from n (c ∷ cs) e =
 unfoldable pub wrong : List Case → List ℕ
 unfolding Plain.wrong ancestorWithin movementAllowed isMovementList entriesFrom entryAllowed waitingFormed isWaiting entryOf without
     palletsFor earliestFor holding refreshed openRule enterRule withdrawRule matchRule askRule waitingRule waitingStep ledgerStep
-    ledgerAfter overwritten isAnswer areWords isLent isOutcome rowIsRight wrongRows wrongFrom
+    ledgerAfter overwritten isLent isOutcome rowIsRight wrongRows wrongFrom
 wrong cs = wrongFrom 1 cs
 
 pub all-right : (cs : List Case) → wrong cs ≡ [] → EveryCaseHolds cs

@@ -23,27 +23,27 @@ use Rattle.protocol.proofs.logic.Booleans.{tests, and-true}
 
 -- ---- equal answers, equal memories
 
-isAnswer : Answer → Answer → Bool
+unfoldable pub isAnswer : Answer → Answer → Bool
 isAnswer a b = eqb (a .number) (b .number) && (eqb (a .first) (b .first) && eqb (a .second) (b .second))
 
 alike : {n n′ f f′ s s′ : ℕ} → n ≡ n′ → f ≡ f′ → s ≡ s′
     → _≡_ {A = Answer} (record { number = n; first = f; second = s }) (record { number = n′; first = f′; second = s′ })
 alike n f s = rw (n, f, s) refl
 
-same-answer : (a b : Answer) → isAnswer a b ≡ true → a ≡ b
+pub same-answer : (a b : Answer) → isAnswer a b ≡ true → a ≡ b
 unfolding isAnswer
 same-answer a b e =
     let number = and-true (eqb (a .number) (b .number)) _ e in
     let values = and-true (eqb (a .first) (b .first)) _ (number .1) in
     alike (omega tests) (omega tests) (omega tests)
 
-areWords : List ℕ → List ℕ → Bool
+unfoldable pub areWords : List ℕ → List ℕ → Bool
 areWords [] [] = true
 areWords [] (w ∷ wanted) = false
 areWords (v ∷ given) [] = false
 areWords (v ∷ given) (w ∷ wanted) = eqb v w && areWords given wanted
 
-same-words : (given wanted : List ℕ) → areWords given wanted ≡ true → given ≡ wanted
+pub same-words : (given wanted : List ℕ) → areWords given wanted ≡ true → given ≡ wanted
 unfolding areWords
 same-words [] [] e = refl
 same-words [] (w ∷ wanted) e = cc
@@ -53,24 +53,28 @@ same-words (v ∷ given) (w ∷ wanted) e =
     let same : v ≡ w = omega tests in
     rw (same, same-words given wanted (both .1)) refl
 
-isMemory : Memory → Memory → Bool
+unfoldable pub isMemory : Memory → Memory → Bool
 isMemory m m′ = areWords (m .table) (m′ .table) && (areWords (m .log) (m′ .log) && areWords (m .blocks) (m′ .blocks))
+
+pub same-memory : (m m′ : Memory) → isMemory m m′ ≡ true → m ≡ m′
+unfolding isMemory
+same-memory m m′ e =
+    let table = and-true (areWords (m .table) (m′ .table)) _ e in
+    let others = and-true (areWords (m .log) (m′ .log)) _ (table .1) in
+    rw (
+      same-words (m .table) (m′ .table) (table .0),
+      same-words (m .log) (m′ .log) (others .0),
+      same-words (m .blocks) (m′ .blocks) (others .1),
+    ) refl
 
 isOutcome : Outcome → Answer → Memory → Bool
 isOutcome o a m = isAnswer (o .answer) a && isMemory (o .state) m
 
 same-outcome : (o : Outcome) (a : Answer) (m : Memory) → isOutcome o a m ≡ true → o ≡ record { answer = a; state = m }
-unfolding isMemory isOutcome
+unfolding isOutcome
 same-outcome o a m e =
     let both = and-true (isAnswer (o .answer) a) _ e in
-    let table = and-true (areWords (o .state .table) (m .table)) _ (both .1) in
-    let others = and-true (areWords (o .state .log) (m .log)) _ (table .1) in
-    rw (
-      same-answer (o .answer) a (both .0),
-      same-words (o .state .table) (m .table) (table .0),
-      same-words (o .state .log) (m .log) (others .0),
-      same-words (o .state .blocks) (m .blocks) (others .1),
-    ) refl
+    rw (same-answer (o .answer) a (both .0), same-memory (o .state) m (both .1)) refl
 
 -- ---- rows
 
@@ -95,7 +99,7 @@ wrongFrom n [] = []
 wrongFrom n (c ∷ cs) = wrongRows n (c .start) (c .rows) (wrongFrom (n + length (c .rows)) cs)
 
 -- Where none is wrong, every row holds.
-none-here : (t : Bool) (n : ℕ) (rest : List ℕ) → cond t rest (n ∷ rest) ≡ [] → (t ≡ true) × (rest ≡ [])
+pub none-here : (t : Bool) (n : ℕ) (rest : List ℕ) → cond t rest (n ∷ rest) ≡ [] → (t ≡ true) × (rest ≡ [])
 none-here true n rest e = (refl, e)
 none-here false n rest e = (cc, cc)
 

@@ -318,9 +318,10 @@ uint32_t yard_match(const uint32_t *table, size_t table_length, const uint32_t *
                     size_t blocks_length, uint32_t *waiting, size_t waiting_length, const uint32_t *movements, size_t movements_length,
                     uint32_t replica, uint32_t identity, uint32_t place);
 
-/* What waits for a taker: the pallets of its entries, at most YARD_MAX_WAITING * YARD_MAX_PALLETS, and the identity of the earliest of them
- * to arrive, 0 if there is none. Two words are read for it beside the form test. YARD_ACCEPTED; or YARD_REFUSED_FORM or YARD_REFUSED_RANGE.
- * Both are always written, as 0 and 0 where it is refused. */
+/* What waits for a taker: the pallets of its entries, and the identity of the earliest of them to arrive, 0 if there is none. They are the
+ * two words that are kept of the taker, handed out as they stand: where the slice is changed by these five alone, the pallets are at most
+ * YARD_MAX_WAITING * YARD_MAX_PALLETS. YARD_ACCEPTED; or YARD_REFUSED_FORM or YARD_REFUSED_RANGE. Both are always written, as 0 and 0 where
+ * it is refused. */
 uint32_t yard_ask(const uint32_t *table, size_t table_length, const uint32_t *log, size_t log_length, const uint32_t *blocks,
                   size_t blocks_length, const uint32_t *waiting, size_t waiting_length, uint32_t taker, uint32_t *pallets,
                   uint32_t *earliest);

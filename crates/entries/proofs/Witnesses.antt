@@ -1,10 +1,13 @@
 -- Statements with premises, used at worked instances: the premises hold there by computation.
 use Prim.Native.Nat.{ℕ}
 use mathlib.Core.Path.{_≡_, refl, sym, _∙_}
-use mathlib.Core.Bool.{true, false}
-use mathlib.Core.List.{List, [], _∷_, _++_, map, List·Memᴰ·head, List·Memᴰ·tail}
+use mathlib.Core.Bool.{true, false, not}
+use mathlib.Core.List.{List, [], _∷_, _++_, map, List·Memᴰ, List·Memᴰ·head, List·Memᴰ·tail, List·Memᴰ·cases-cons, List·Memᴰ·not-nil}
+use mathlib.Core.Logic.{⊎-elim}
 use native.Mathlib.Omega.{arith}
-use lib.ListN.{replicate, length-replicate}
+use lib.Dec.{eqb}
+use lib.ListN.{getD, replicate, length-replicate}
+use borrow.Author.Tests.{eqb-false, not-true}
 use Rattle.protocol.specs.declared.Call.{Call}
 use Rattle.protocol.specs.declared.Call.the-variants as Plain
 use Rattle.protocol.specs.Memory.{Memory, memory, _becomes_, tableLength, decidedViewAt, decidedBlockAt, blockAt, update, appendBlock}
@@ -15,7 +18,9 @@ use Rattle.protocol.specs.Counter.{stepsFrom, stepsAllowed}
 use Rattle.protocol.specs.Outcome.{_else_, wrongCertificate, firstRefusal, answered, follow}
 use Rattle.protocol.specs.Calls.{freshReplicas, opening, block}
 use Rattle.protocol.specs.Runs.{Invocation, ruleOf, step, run}
+use Rattle.protocol.specs.Quorum.{every}
 use Rattle.protocol.specs.Theorems.{Accepted}
+use Rattle.protocol.proofs.logic.Booleans.{and-true}
 use Rattle.movements.specs.Movements.{movementAllowed, isMovementList}
 use Rattle.entries.specs.declared.Entry.{Entry}
 use Rattle.entries.specs.Entries.{waitingWords, entriesFrom, entryAllowed, waitingFormed, isWaiting, entryOf, without, palletsFor}
@@ -25,7 +30,8 @@ use Rattle.entries.specs.Waiting.{withdrawRule, matchRule, askRule, matc
 use Rattle.entries.specs.Arrivals.{Event, opened, entered, matched, eventsOf, leaves, stillWaiting, palletsBy, earliestBy}
 use Rattle.entries.specs.Arrivals.{replicasBy, opensAmong, usedBy, sliceAfter, history, SliceRun, sliceEnd, sliceTold}
 use Rattle.entries.specs.Arrivals.{plain, onEntries, ledgerStep, ledgerAfter, ledgerHistory, LedgerRun, ledgerEnd, ledgerTold}
-use Rattle.entries.specs.Theorems.{RefusedWaitingChangesNothing, FormLeft, AcceptedWaitingLeavesForm, WaitingLowestWins}
+use Rattle.entries.specs.Theorems.{RefusedWaitingChangesNothing, FormLeft, AcceptedWaitingLeavesForm, WaitingLeavesLedger}
+use Rattle.entries.specs.Theorems.{namedWaiting, OnlyNamedWaitingChange, WaitingLowestWins}
 use Rattle.entries.specs.Theorems.{OpenWaitingOrder, OpenReadsNoEntry, AskIsPass, CallsAnswerByHistory, LedgerAnswersPass}
 use Rattle.entries.specs.Theorems.{PlaceTakesOutOne}
 use Rattle.entries.proofs.Slices.{cleared, cleared-length}
@@ -143,7 +149,30 @@ calls-answer-by-history-used statement =
     let all = statement again shown used-formed in
     (all .matches moved 0 7 0 ∙ refl, (all .enters seven ∙ refl, all .withdraws 8 ∙ refl))
 
+-- Numbers that are not in a list.
+absent : (k : ℕ) (ns : List ℕ) → every (λ n. not (eqb k n)) ns ≡ true → List·Memᴰ k ns → ⊥
+unfolding every
+absent k [] e w = List·Memᴰ·not-nil w
+absent k (n ∷ ns) e w =
+    let both = and-true (not (eqb k n)) _ e in
+    ⊎-elim (λ q. eqb-false k n (not-true (eqb k n) (both .0)) q) (λ v. absent k ns (both .1) v) (List·Memᴰ·cases-cons w)
+
+-- The words of taker 2, the second of them word 6, are none of those named for a withdrawal of entry 8, whose taker is 1.
+others-words : every (λ n. not (eqb 6 n)) (namedWaiting (sliceEnd back) (Withdraw 8)) ≡ true
+unfolding computed every namedWaiting
+others-words = refl
+
+pub only-named-waiting-change-used : OnlyNamedWaitingChange
+    → getD (waitingStep (lent shown (sliceEnd back)) (Withdraw 8) .state .waiting) 6 0 ≡ getD (sliceEnd back) 6 0
+unfolding OnlyNamedWaitingChange
+only-named-waiting-change-used statement = statement (lent shown (sliceEnd back)) (Withdraw 8) .words 6 (absent 6 _ others-words)
+
 -- ---- opening
+
+pub waiting-leaves-ledger-used : WaitingLeavesLedger
+    → waitingStep start (Open 1 []) .state .memory ≡ step unopened (Plain.Open 1) [] .state
+unfolding WaitingLeavesLedger
+waiting-leaves-ledger-used statement = statement start .opens 1 [] opens
 
 pub accepted-waiting-leaves-form-used : AcceptedWaitingLeavesForm → FormLeft (waitingStep start (Open 1 []) .state)
 unfolding AcceptedWaitingLeavesForm

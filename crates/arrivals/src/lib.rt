@@ -1,11 +1,12 @@
 // The further slice's words (document 02, #108): its form; finding an entry, appending one and taking one out; the two words of a taker.
 ghost use mathlib.Core.Path.{_≡_};
 ghost use mathlib.Core.List.{[], _∷_, _++_};
-ghost use Prim.Native.Nat.{ℕ, _+_, _-_, _≤_, _<_};
+ghost use Prim.Native.Nat.{ℕ, _+_, _-_, _*_, _≤_, _<_};
 ghost use lib.ListN.{length, drop, replicate};
 ghost use lib.Seq.{sets, paste};
 ghost use Rattle.protocol.specs.Form.{allBelow};
 ghost use Rattle.protocol.specs.inner.Groups.{anyHolds};
+ghost use Rattle.movements.specs.Movements.{maxPallets};
 ghost use Rattle.entries.specs.Entries.{
   maxWaiting,
   waitingWords,
@@ -217,7 +218,7 @@ struct TakerTally {
 
 // The same with the entry before them.
 fn with_entry(later: TakerTally, e: Entry, taker: u32) -> TakerTally
-    requires { ⌜ later .pallets + e .pallets < 2147483648 ⌝ }
+    requires { ⌜ later .pallets + e .pallets ≤ maxWaiting * maxPallets ⌝ }
     ensures { λ r. ⌜ r ≡ tallied later e taker ⌝ }
 {
     if e.taker == taker {

@@ -58,13 +58,17 @@ departureNeeds es identity = isWaiting identity es else wrongIdentity ∷ []
 
 -- "A movement is named and known by its place, from 0, in the list of #101, whatever list is lent (matching tests all of it as #101 does)".
 -- "A place past the movement list returns 3."
-abbrev pub namingNeeds : Memory → List Entry → List ℕ → ℕ → ℕ → ℕ → List Need
-namingNeeds m es movements i identity place =
+abbrev pub placeNeeds : Memory → List ℕ → ℕ → ℕ → List Need
+placeNeeds m movements i place =
     isReplica m i else outOfRange
     ∷ ltb place (movementCount movements) else unknownNumber
     ∷ allBelow (movementCount movements) (λ k. movementAllowed (replicaCount (faultBound m)) (blockCount m) (movement movements k))
     else wrongMovement
-    ∷ departureNeeds es identity
+    ∷ []
+
+-- Then the identity.
+abbrev pub namingNeeds : Memory → List Entry → List ℕ → ℕ → ℕ → ℕ → List Need
+namingNeeds m es movements i identity place = placeNeeds m movements i place ++ departureNeeds es identity
 
 -- Giver, taker and pallets are the entry's.
 abbrev pub isOfEntry : Movement → Entry → Bool

@@ -4,19 +4,17 @@ use mathlib.Core.Path.{_≡_}
 use mathlib.Core.Bool.{Bool, not, _&&_}
 use mathlib.Core.List.{List, [], _∷_, _++_}
 use lib.ListN.{length}
-use lib.Dec.{ltb}
-use Rattle.protocol.specs.Memory.{memory, rowAt, replicaWords, replicaCount, faultBound, blockCount, replica}
+use Rattle.protocol.specs.Memory.{memory, rowAt, replicaWords, replicaCount, faultBound, replica}
 use Rattle.protocol.specs.Ancestry.{isAncestorBy}
-use Rattle.protocol.specs.Form.{allHold, allBelow, wellFormed}
-use Rattle.protocol.specs.Outcome.{Need, _else_, wrongForm, outOfRange, unknownNumber, wrongMovement}
-use Rattle.protocol.specs.FirstNeeds.{isReplica}
+use Rattle.protocol.specs.Form.{allHold, wellFormed}
+use Rattle.protocol.specs.Outcome.{Need, _else_, wrongForm}
 use Rattle.movements.specs.declared.Movement.{Movement}
-use Rattle.movements.specs.Movements.{maxPallets, maxMovements, movement, movementCount, movementAllowed, isMovementList}
+use Rattle.movements.specs.Movements.{maxPallets, maxMovements, isMovementList}
 use Rattle.blocks.specs.inner.Records.{parentIn}
 use Rattle.ancestry.specs.inner.AncestryFits.{AncestryFits}
 use Rattle.entries.specs.Entries.{maxWaiting, maxReplicas, entryWidth, entryAt, waitingWords, waitingCount, entry, isUsed, waitingFormed, holding}
 use Rattle.entries.specs.Entries.{refreshed}
-use Rattle.entries.specs.Waiting.{Lent, formNeeds, isOfEntry}
+use Rattle.entries.specs.Waiting.{Lent, formNeeds, placeNeeds, isOfEntry}
 use Rattle.arrivals.specs.inner.Found.{closedUp}
 
 abbrev pub decidedIn : List ℕ → ℕ → ℕ
@@ -27,15 +25,7 @@ isReady s = wellFormed (s .memory) && waitingFormed (replicaCount (faultBound (s
 
 -- The needs of a match before its identity.
 abbrev pub listedNeeds : Lent → List ℕ → ℕ → ℕ → List Need
-listedNeeds s movements i place =
-    isMovementList movements else wrongForm
-    ∷ (formNeeds s
-    ++ (isReplica (s .memory) i else outOfRange
-    ∷ ltb place (movementCount movements) else unknownNumber
-    ∷ allBelow (movementCount movements)
-    (λ k. movementAllowed (replicaCount (faultBound (s .memory))) (blockCount (s .memory)) (movement movements k))
-    else wrongMovement
-    ∷ []))
+listedNeeds s movements i place = isMovementList movements else wrongForm ∷ (formNeeds s ++ placeNeeds (s .memory) movements i place)
 
 -- A slot whose entry may leave; and what is left then.
 pub record Leavable (w : List ℕ) (slot : ℕ) : Type 0 where

@@ -1,4 +1,6 @@
 // Accumulate makes an ACC of a quorum of NEWVIEWs; decide makes a decision of a quorum of COMMITs.
+#![tactic(auto)]
+
 ghost use Rattle.std.specs.Prelude.{◌≡◌};
 ghost use Rattle.protocol.specs.Outcome.{outcome, outcome_by};
 ghost use Rattle.protocol.specs.Calls.{accumulate as accumulate_rule, decide as decide_rule};

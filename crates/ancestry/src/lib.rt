@@ -1,4 +1,6 @@
 // Lines of parents: which blocks are in a block's line.
+#![tactic(auto)]
+
 ghost use Rattle.std.specs.Prelude.{◌≡◌};
 ghost use Rattle.protocol.specs.Ancestry.{is_ancestor_by};
 ghost use Rattle.blocks.specs.inner.Records.{parent_in};

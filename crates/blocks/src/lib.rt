@@ -1,5 +1,7 @@
 // The blocks (document 02, #105): their numbers, where a block's record stands, how it is read and written, and the form of all that are
 // added.
+#![tactic(auto)]
+
 ghost use Rattle.std.specs.Prelude.{◌≡◌, [], ◌∷◌, ◌+◌, ◌≤◌, length};
 ghost use Rattle.std.proofs.lemmas.List.Edits.{sets};
 ghost use Rattle.protocol.specs.Memory.{block_words, parent_at, height_at, block_at as block_at_rule, block_record, max_blocks};

@@ -1,4 +1,6 @@
 // Filing a certificate in the log: an equal one is found, or a new one appended, or there is no room for it.
+#![tactic(auto)]
+
 ghost use Rattle.std.specs.Prelude.{◌≡◌, List, [], ◌∷◌, ℕ, ◌+◌, ◌≤◌, length};
 ghost use Rattle.protocol.specs.Memory.{memory, certificate_at, certificate_words, words, append_certificate};
 ghost use Rattle.protocol.specs.Certificates.{first_below, found, appended};

@@ -1,4 +1,6 @@
 // The checker of a replica: what it signs, and the words that it keeps so as never to sign against itself.
+#![tactic(auto)]
+
 ghost use Rattle.std.specs.Prelude.{◌≡◌, cond, ◌≤◌};
 ghost use Rattle.protocol.specs.Memory.{max_fault_bound, lowered};
 ghost use Rattle.protocol.specs.Outcome.{outcome, outcome_by};

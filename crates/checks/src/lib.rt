@@ -1,4 +1,6 @@
 // What the calls share: their answers, what a test answers, and the tests that most of them begin with.
+#![tactic(auto)]
+
 ghost use Rattle.std.specs.Prelude.{◌≡◌, List, [], ℕ, ◌<◌, length};
 ghost use Rattle.protocol.specs.Memory.{memory, certificate_count_at};
 ghost use Rattle.protocol.specs.Outcome.{◌else◌};

@@ -1,4 +1,6 @@
 // Call codes, as script lines and the C interface have them: a code, a replica, a number and a list give a call, or are refused.
+#![tactic(auto)]
+
 ghost use Rattle.std.specs.Prelude.{◌≡◌, [], get_or};
 ghost use Rattle.protocol.specs.Memory.{memory, view_at, proposed_block_at};
 ghost use Rattle.codes.specs.Codes.{is_plain, is_short as is_short_rule, claimed_word, when, coded_call as coded_call_rule};

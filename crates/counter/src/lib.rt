@@ -1,4 +1,6 @@
 // The steps of the monotonic counter (document 01: the meter): those of document 01 or a pool's own, kept in the table.
+#![tactic(auto)]
+
 ghost use Rattle.std.specs.Prelude.{◌≡◌, true, List, ℕ, ◌+◌, ◌≤◌, length, get_or};
 ghost use Rattle.std.proofs.lemmas.List.Edits.{sets};
 ghost use Rattle.protocol.specs.Memory.{memory, step_count, step_at, row_start};

@@ -1,5 +1,7 @@
 // Entries that wait (document 02, #108): movements of pallets that dispatchers enter before any block has them. Their numbers; the
 // definitions and what holds of them are in specs/.
+#![tactic(auto)]
+
 ghost use Rattle.std.specs.Prelude.{◌≡◌, [], ◌∷◌};
 ghost use Rattle.entries.specs.Entries.{
   max_waiting,

@@ -1,4 +1,6 @@
 // The eight-column number: reading and writing one field (document 01, "Script program").
+#![tactic(auto)]
+
 ghost use Rattle.std.specs.Prelude.{◌≤◌, ◌<◌, ◌≡◌, length, drop, replicate};
 ghost use Rattle.field.specs.Digits.{digit_count as digit_count_rule};
 ghost use Rattle.field.specs.Field.{

@@ -1,4 +1,6 @@
 // The form that every call but opening tests (document 01, "Memory", the paragraph "Form"). In a full memory it is most of a call's time.
+#![tactic(auto)]
+
 ghost use Rattle.std.specs.Prelude.{◌≡◌, ◌+◌, ◌≤◌, length};
 ghost use Rattle.protocol.specs.Memory.{
   memory,

@@ -1,4 +1,6 @@
 // The leader of a view: the one place that says which replica it is.
+#![tactic(auto)]
+
 ghost use Rattle.std.specs.Prelude.{◌≡◌, ◌≤◌};
 ghost use Rattle.protocol.specs.Memory.{max_fault_bound};
 ghost use Rattle.protocol.specs.Leader.{leads as leads_rule};

@@ -1,5 +1,7 @@
 // The certificate log: its numbers and kinds, where a certificate stands, how it is read, and the form of all that are issued. In a full
 // memory that is the longest part of the form test.
+#![tactic(auto)]
+
 ghost use Rattle.std.specs.Prelude.{◌≡◌, [], ◌∷◌, ◌+◌, ◌≤◌, ◌<◌, length, get_or};
 ghost use Rattle.protocol.specs.Memory.{
   memory,

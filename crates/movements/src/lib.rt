@@ -1,4 +1,6 @@
 // Movements of pallets (document 02, #101): their numbers, how one is read from the words lent, and which are allowed.
+#![tactic(auto)]
+
 ghost use Rattle.std.specs.Prelude.{◌≡◌, true, [], ◌∷◌, ◌+◌, ◌≤◌, length};
 ghost use Rattle.protocol.specs.Form.{all_below};
 ghost use Rattle.movements.specs.Movements.{

@@ -1,4 +1,6 @@
 // Netting of movements: a firm's balance of pallets at a chosen block (document 02, #101).
+#![tactic(auto)]
+
 ghost use Rattle.std.specs.Prelude.{◌≡◌, cond, ◌<◌, length, get_or, set, pos, ◌+ℤ◌, ◌-ℤ◌};
 ghost use Rattle.protocol.specs.Memory.{memory};
 ghost use Rattle.netting.specs.Netting.{balance_told, netting_outcome, netting};

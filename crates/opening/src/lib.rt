@@ -1,4 +1,6 @@
 // The two calls that no replica makes: opening a ledger, and adding a block.
+#![tactic(auto)]
+
 ghost use Rattle.std.specs.Prelude.{◌≡◌, List, ℕ, ◌+◌, ◌≤◌, ◌<◌, length};
 ghost use Rattle.protocol.specs.Memory.{memory, row_start, row_at, replica_words, block_at as block_at_rule, assign};
 ghost use Rattle.protocol.specs.Outcome.{outcome, outcome_by};

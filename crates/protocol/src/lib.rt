@@ -1,4 +1,5 @@
 // What the code and the definitions share: a call, the answer to it with its refusals, and what lets a leader propose.
+#![tactic(auto)]
 
 ghost use Rattle.std.specs.Prelude.{◌≡◌, [], ◌∷◌};
 ghost use Rattle.protocol.specs.Outcome as Refusals;

@@ -1,4 +1,6 @@
 // Quorums: what the calls with a list of certificate numbers ask of it, each in one pass over the list (document 01, "Calls").
+#![tactic(auto)]
+
 ghost use Rattle.std.specs.Prelude.{◌^◌, ◌<◌, ◌≡◌, ltb, length};
 ghost use Rattle.std.specs.Int.Bits.{bit_or};
 ghost use Rattle.protocol.specs.Quorum.{every, is_quorum as is_quorum_rule, is_commit_quorum as is_commit_quorum_rule, is_new_view_quorum as is_new_view_quorum_rule, is_reply_quorum as is_reply_quorum_rule};

@@ -1,4 +1,6 @@
 // The line reader: the bytes of a line and the column reached (document 01, "Script program").
+#![tactic(auto)]
+
 ghost use Rattle.std.specs.Prelude.{◌≡◌};
 ghost use Rattle.field.specs.Field.{number_from};
 ghost use Rattle.reader.specs.inner.Reading.{column_after, moved_on, read_of, field_at, read_refusal};

@@ -1,4 +1,6 @@
 // Replicas read whole, as records, so that each word is read once; and words of a replica set together.
+#![tactic(auto)]
+
 ghost use Rattle.std.specs.Prelude.{◌≡◌, [], ◌+◌, ◌≤◌, length};
 ghost use Rattle.protocol.specs.Memory.{
   memory,

@@ -1,4 +1,6 @@
 // The calls of a restarted replica and of those that help it (document 01, "Calls"): request, reply, recover.
+#![tactic(auto)]
+
 ghost use Rattle.std.specs.Prelude.{◌≡◌, max};
 ghost use Rattle.protocol.specs.Certificates.{req_of, reply_of};
 ghost use Rattle.protocol.specs.Outcome.{outcome, outcome_by};

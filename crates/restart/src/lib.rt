@@ -1,4 +1,6 @@
 // The two calls that move a replica's counter on (document 01, "Calls"): reboot and reserve.
+#![tactic(auto)]
+
 ghost use Rattle.std.specs.Prelude.{◌≡◌};
 ghost use Rattle.protocol.specs.Outcome.{outcome, outcome_by};
 ghost use Rattle.protocol.specs.Calls.{

@@ -1,4 +1,6 @@
 // A script line and its answer: the line's numbers, their call on the script's ledger, the answer's text (document 01, "Script program").
+#![tactic(auto)]
+
 ghost use Rattle.std.specs.Prelude.{◌+◌, ◌≤◌, ◌≡◌, true, ◌++◌, length, take};
 ghost use Rattle.protocol.specs.Memory.{memory};
 ghost use Rattle.protocol.specs.Outcome.{told, outcome};

@@ -1,4 +1,6 @@
 // Bytes to lines to answers (document 01, "Script program").
+#![tactic(auto)]
+
 ghost use Rattle.std.specs.Prelude.{ℕ, ◌+◌, ◌≤◌, min, ◌≡◌, ltb, length, drop, List};
 ghost use Rattle.stream.specs.Stream.{end_line, fed, finished, stream_of};
 ghost use Rattle.stream.specs.inner.Progress.{with_held, begun, Room, OneMore, Ready, Within};

@@ -2,6 +2,8 @@
 // names of protocol/specs/, in upper case, and so have those of the log, the blocks, the counter and filing, each beside what it describes;
 // the movements' those of movements/specs/. A function for each group, that nothing calls, holds them to the definitions: where a number
 // differs, the check names it there, before it looks at any crate above.
+#![tactic(auto)]
+
 ghost use Rattle.std.specs.Prelude.{◌≡◌, [], ◌∷◌, ◌+◌, ◌≤◌, ◌<◌, length, get_or, set};
 ghost use Rattle.protocol.specs.Memory.{
   max_fault_bound,

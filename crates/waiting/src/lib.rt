@@ -1,4 +1,6 @@
 // Movements that wait (document 02, #108): dispatchers enter movements before any block has them, and strike them out.
+#![tactic(auto)]
+
 ghost use Rattle.std.specs.Prelude.{◌≡◌};
 ghost use Rattle.protocol.specs.Memory.{memory};
 ghost use Rattle.checks.specs.inner.Verdicts.{tested};

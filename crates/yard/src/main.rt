@@ -1,4 +1,6 @@
 // yard: reads a script from standard input, and writes the answers to standard output (document 01, "Script program").
+#![tactic(auto)]
+
 ghost use Rattle.std.specs.Prelude.{◌≡◌, ◌≤◌, length, take};
 ghost use Rattle.io.specs.Counts.{clamp_len};
 ghost use Rattle.stream.specs.Stream.{new_stream, stream_of};

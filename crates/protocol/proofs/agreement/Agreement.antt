@@ -105,7 +105,9 @@ pub kept : {e : Event} {past : List Event} (m : Memory) (calls : List Invocation
     → Memᴰ e (history past m calls)
 unfolding history
 kept m [] w = w
-kept m (q ∷ qs) w = kept (step m q.call q.list).state qs (Memᴰ.tail w)
+kept {e = e} {past = past} m (q ∷ qs) w =
+    let o = step m q.call q.list in
+    kept {e = e} {past = event_of q.call o.answer ∷ past} o.state qs (Memᴰ.tail w)
 
 -- The history may begin anywhere: only that no opening is in it is asked.
 pub runs : (f : ℕ) (past since : List Event) (m : Memory) (calls : List Invocation) → Reached f past m

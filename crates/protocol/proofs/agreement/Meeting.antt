@@ -1,6 +1,6 @@
 -- Quorums meet, for every f: two lists of f+1 different numbers below 2f+1 share a member.
 use Prim.Native.Nat.{ℕ, zero, suc, ◌+◌, ◌≤◌, ◌<◌}
-use mathlib.Core.Path.{◌≡◌, refl, ap}
+use mathlib.Core.Path.{◌≡◌, refl, ap, sym, subst}
 use mathlib.Core.Bool.{true, false, cond, not, or-true}
 use mathlib.Core.Logic.{◌⊎◌, inl, inr, ⊎_elim}
 use mathlib.Core.List.{List, [], ◌∷◌, ◌++◌}
@@ -49,8 +49,9 @@ without_length x (y ∷ ys) d =
     by-test (eqb x y)
     (λ e.
     let q : x ≡ y = omega tests in
-    let same = without_same y ys a.0 in
-    rw e (rw q (omega arith)))
+    let here : contains x ys ≡ false = subst (λ z. contains z ys ≡ false) (sym q) a.0 in
+    let same = without_same x ys here in
+    rw e (omega arith))
     (λ e. let shorter = without_length x ys a.1 in rw e (omega arith))
 
 without_absent : (z x : ℕ) (l : List ℕ) → contains z l ≡ false → contains z (without x l) ≡ false

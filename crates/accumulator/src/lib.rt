@@ -7,7 +7,7 @@ ghost use Rattle.protocol.specs.Calls.{accumulate as accumulate_rule, decide as 
 
 use checks::{FoundReplica, Tested, accepted, need, refused};
 use issuing::issue;
-use log::{ACC, Certificate, VIEW_AT, certificate_in, certificate_word};
+use certificate_log::{ACC, Certificate, VIEW_AT, certificate_in, certificate_word};
 use protocol::{Answer, WRONG_CERTIFICATE, WRONG_STATUS};
 use table::{DECIDED_BLOCK_AT, DECIDED_VIEW_AT, LIVE};
 

@@ -9,8 +9,8 @@ use lib.Dec.{eqb}
 use borrow.Author.Tests.{not-true}
 use Rattle.protocol.specs.Memory.{words, view_at, certificate_at}
 use Rattle.protocol.proofs.logic.Booleans.{tests, by-test, at_below}
-use Rattle.log.specs.declared.Certificate.{Certificate}
-use Rattle.log.specs.inner.Certificates.{certificate_of}
+use Rattle.certificate_log.specs.declared.Certificate.{Certificate}
+use Rattle.certificate_log.specs.inner.Certificates.{certificate_of}
 use Rattle.certificates.specs.inner.Filing.{equal_from, is_equal, is_of_other_view}
 
 pub of_other_view : (log : List ℕ) (c : Certificate) (number : ℕ) → is_of_other_view log c.view number ≡ true

@@ -13,7 +13,7 @@ use Rattle.protocol.specs.Outcome.{no_room}
 use Rattle.protocol.proofs.logic.Booleans.{tests, by-test}
 use Rattle.protocol.proofs.memory.Words.{stored, stored_all}
 use Rattle.certificates.specs.declared.Filed.TheVariants.{At, Refused}
-use Rattle.log.specs.inner.LogFits.{count_in}
+use Rattle.certificate_log.specs.inner.LogFits.{count_in}
 use Rattle.certificates.specs.inner.Filing.{equal_from, is_equal, filed_at, leaves, filing}
 
 -- ---- what filing gives, from the number that the search gives

@@ -5,8 +5,8 @@ ghost use Rattle.std.specs.Prelude.{◌≡◌, List, [], ◌∷◌, ℕ, ◌+◌
 ghost use Rattle.protocol.specs.Memory.{memory, certificate_at, certificate_words, words, append_certificate};
 ghost use Rattle.protocol.specs.Certificates.{first_below, found, appended};
 ghost use Rattle.protocol.specs.inner.Groups.{four_ok};
-ghost use Rattle.log.specs.inner.Certificates.{certificate_of};
-ghost use Rattle.log.specs.inner.LogFits.{LogFits};
+ghost use Rattle.certificate_log.specs.inner.Certificates.{certificate_of};
+ghost use Rattle.certificate_log.specs.inner.LogFits.{LogFits};
 ghost use Rattle.certificates.specs.inner.Filing.{
   LogHasRoom,
   equal_from,
@@ -17,7 +17,7 @@ ghost use Rattle.certificates.specs.inner.Filing.{
   filing_refusal,
 };
 
-use log::{
+use certificate_log::{
     CERTIFICATE_WORDS, Certificate, KIND_AT, OF_VIEW_AT, PROPOSED_BLOCK_AT, SIGNER_AT,
     SIGNER_BOOT_AT, SUBJECT_AT, SUBJECT_BOOT_AT, VIEW_AT,
 };

@@ -13,7 +13,7 @@ ghost use Rattle.protocol.specs.Calls.{
   store as store_rule,
   view as view_rule,
 };
-ghost use Rattle.log.specs.inner.Certificates.{certificate_of};
+ghost use Rattle.certificate_log.specs.inner.Certificates.{certificate_of};
 ghost use Rattle.records.specs.inner.Replicas.{replica_of};
 ghost use Rattle.checks.specs.inner.Verdicts.{tested};
 
@@ -22,7 +22,7 @@ use blocks::ROOT;
 use checks::{FoundCertificate, FoundReplica, Tested, need, refused};
 use issuing::issue;
 use leader::FIRST_VIEW;
-use log::{COMMIT, Certificate, NEWVIEW, PROP};
+use certificate_log::{COMMIT, Certificate, NEWVIEW, PROP};
 use protocol::{
     Answer, COUNTER_LIMIT, Justification, OUT_OF_RANGE, UNKNOWN_NUMBER, WRONG_BLOCK,
     WRONG_CERTIFICATE, WRONG_STATUS, WRONG_VIEW,

@@ -13,9 +13,9 @@ use Rattle.protocol.proofs.calls.Goals as Needs
 use Rattle.protocol.proofs.calls.Goals.{Holds, positive, all_needs, refused_first, all_pass}
 use Rattle.quorum.specs.inner.Lists.{Listed}
 use Rattle.quorum.proofs.Accepted.{first-of}
-use Rattle.log.specs.declared.Certificate.{Certificate}
+use Rattle.certificate_log.specs.declared.Certificate.{Certificate}
 use Rattle.records.specs.declared.Replica.{Replica}
-use Rattle.log.specs.inner.Certificates.{certificate_from}
+use Rattle.certificate_log.specs.inner.Certificates.{certificate_from}
 use Rattle.records.specs.inner.Replicas.{replica_from}
 use Rattle.checks.specs.declared.Tested.{Tested}
 use Rattle.checks.specs.declared.Tested.TheVariants as Test

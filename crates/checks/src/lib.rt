@@ -5,7 +5,7 @@ ghost use Rattle.std.specs.Prelude.{◌≡◌, List, [], ℕ, ◌<◌, length};
 ghost use Rattle.protocol.specs.Memory.{memory, certificate_count_at};
 ghost use Rattle.protocol.specs.Outcome.{◌else◌};
 ghost use Rattle.protocol.specs.FirstNeeds.{list_needs};
-ghost use Rattle.log.specs.inner.LogFits.{LogFits};
+ghost use Rattle.certificate_log.specs.inner.LogFits.{LogFits};
 ghost use Rattle.checks.specs.inner.Verdicts.{
   next,
   tested,
@@ -16,7 +16,7 @@ ghost use Rattle.checks.specs.inner.Verdicts.{
   certificate_refusal,
 };
 
-use log::Certificate;
+use certificate_log::Certificate;
 use protocol::{ACCEPTED, Answer, OUT_OF_RANGE, UNKNOWN_NUMBER, WRONG_FORM};
 use records::Replica;
 use table::{CERTIFICATE_COUNT_AT, FAULT_BOUND_AT};
@@ -128,7 +128,7 @@ pub fn find_certificate(table: &[u32], log: &[u32], number: u32) -> FoundCertifi
     ensures { (b : List ℕ) → result ≡ certificate_found (memory table.now log.now b) number }
 {
     if number < table[CERTIFICATE_COUNT_AT] {
-        return FoundCertificate::Found(log::certificate_in(log, number));
+        return FoundCertificate::Found(certificate_log::certificate_in(log, number));
     }
     FoundCertificate::Refused(UNKNOWN_NUMBER)
 }

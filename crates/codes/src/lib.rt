@@ -6,7 +6,7 @@ ghost use Rattle.protocol.specs.Memory.{memory, view_at, proposed_block_at};
 ghost use Rattle.codes.specs.Codes.{is_plain, is_short as is_short_rule, claimed_word, when, coded_call as coded_call_rule};
 ghost use Rattle.codes.specs.inner.Refusals.{code_refusal};
 
-use log::{PROPOSED_BLOCK_AT, VIEW_AT};
+use certificate_log::{PROPOSED_BLOCK_AT, VIEW_AT};
 use protocol::{ACCEPTED, Call, Justification, UNREADABLE};
 use table::CERTIFICATE_COUNT_AT;
 
@@ -89,7 +89,7 @@ fn claimed(table: &[u32], log: &[u32], list: &[u32]) -> Claim
     if table[CERTIFICATE_COUNT_AT] <= number {
         return none;
     }
-    let start = log::certificate_at(number);
+    let start = certificate_log::certificate_at(number);
     let view = word_at(log, start + VIEW_AT);
     let block = word_at(log, start + PROPOSED_BLOCK_AT);
     Claim { view, block }

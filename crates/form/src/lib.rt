@@ -14,7 +14,7 @@ ghost use Rattle.protocol.proofs.memory.Formed.{Sizes};
 ghost use Rattle.form.specs.inner.Parts.{replica_ok, words_ok};
 
 use blocks::{BLOCK_WORDS, MAX_BLOCKS};
-use log::{CERTIFICATE_WORDS, MAX_CERTIFICATES};
+use certificate_log::{CERTIFICATE_WORDS, MAX_CERTIFICATES};
 use table::{
     BLOCK_COUNT_AT, BOOT_AT, CEILING, CERTIFICATE_COUNT_AT, DECIDED_BLOCK_AT, DECIDED_VIEW_AT,
     FAULT_BOUND_AT, FLAG_AT, MAX_FAULT_BOUND, MIN_VIEW_AT, RAISED, RETIRED, ROW_START, STATUS_AT,
@@ -35,7 +35,7 @@ pub fn lengths_fit(table: &[u32], log: &[u32], blocks: &[u32], f: u32) -> bool
 {
     (table.len() == table::row_at(table::replica_count(f)))
         & (log.len() % CERTIFICATE_WORDS == 0)
-        & (log.len() <= log::certificate_at(MAX_CERTIFICATES))
+        & (log.len() <= certificate_log::certificate_at(MAX_CERTIFICATES))
         & (blocks.len() % BLOCK_WORDS == 0)
         & (blocks::block_at(1) <= blocks.len())
         & (blocks.len() <= blocks::block_at(MAX_BLOCKS))
@@ -46,7 +46,7 @@ fn counts_fit(table: &[u32], log: &[u32], blocks: &[u32]) -> bool
     requires { row_start ≤ length table.now }
     ensures { result ≡ counts_fit_rule (memory table.now log.now blocks.now) }
 {
-    (log::certificate_at(table[CERTIFICATE_COUNT_AT]) <= log.len())
+    (certificate_log::certificate_at(table[CERTIFICATE_COUNT_AT]) <= log.len())
         & (blocks::block_at(table[BLOCK_COUNT_AT]) <= blocks.len())
         & (1 <= table[BLOCK_COUNT_AT])
 }
@@ -95,7 +95,7 @@ fn words_formed(table: &[u32], log: &[u32], blocks: &[u32]) -> bool
     counter::steps_formed(table, STEPS_AT)
         & blocks::blocks_formed(blocks, added)
         & replicas_formed(table, replicas, added)
-        & log::certificates_formed(log, table[CERTIFICATE_COUNT_AT], replicas, added)
+        & certificate_log::certificates_formed(log, table[CERTIFICATE_COUNT_AT], replicas, added)
 }
 
 // The form, whole.

@@ -6,7 +6,7 @@ use Rattle.protocol.specs.Memory.{Memory, Certificate, Assignment, words}
 use Rattle.protocol.specs.Certificates.{can_file}
 use Rattle.protocol.specs.Outcome.{Outcome, Need, ◌else◌, Rule, first_refusal, answered, follow, no_room}
 use Rattle.protocol.specs.Calls.{issuing}
-use Rattle.log.proofs.Fits.{log_fits}
+use Rattle.certificate_log.proofs.Fits.{log_fits}
 use Rattle.checks.proofs.Ready.{Ready, row_within}
 use Rattle.checks.proofs.Passing.{At}
 use Rattle.issuing.specs.inner.Issuable.{Issuable}

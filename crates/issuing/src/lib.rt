@@ -4,13 +4,13 @@
 ghost use Rattle.std.specs.Prelude.{◌≡◌, List, [], ℕ};
 ghost use Rattle.protocol.specs.Outcome.{outcome, outcome_by};
 ghost use Rattle.protocol.specs.Calls.{issuing};
-ghost use Rattle.log.specs.inner.Certificates.{certificate_of};
+ghost use Rattle.certificate_log.specs.inner.Certificates.{certificate_of};
 ghost use Rattle.records.specs.inner.Replicas.{assignments, Settable};
 ghost use Rattle.issuing.specs.inner.Issuable.{Issuable};
 
 use certificates::Filed;
 use checks::{accepted, refused};
-use log::Certificate;
+use certificate_log::Certificate;
 use protocol::Answer;
 
 // The answer of a call that issues, once its other needs hold: the certificate's number, and whether it was found or appended; or the

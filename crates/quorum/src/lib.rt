@@ -15,7 +15,7 @@ ghost use Rattle.quorum.specs.inner.Lists.{
 };
 ghost use Rattle.quorum.specs.inner.Signers.{holds};
 
-use log::{
+use certificate_log::{
     COMMIT, KIND_AT, NEWVIEW, OF_VIEW_AT, PROPOSED_BLOCK_AT, REPLY, SIGNER_AT, SUBJECT_AT,
     SUBJECT_BOOT_AT, VIEW_AT, certificate_word,
 };

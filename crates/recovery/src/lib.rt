@@ -10,13 +10,13 @@ ghost use Rattle.protocol.specs.Calls.{
   reply as reply_rule,
   recover as recover_rule,
 };
-ghost use Rattle.log.specs.inner.Certificates.{certificate_of};
+ghost use Rattle.certificate_log.specs.inner.Certificates.{certificate_of};
 ghost use Rattle.records.specs.inner.Replicas.{replica_of};
 ghost use Rattle.checks.specs.inner.Verdicts.{tested};
 
 use checks::{FoundCertificate, FoundReplica, Tested, accepted, need, refused};
 use issuing::issue;
-use log::{Certificate, REPLY, REQ};
+use certificate_log::{Certificate, REPLY, REQ};
 use protocol::{Answer, COUNTER_LIMIT, WRONG_CERTIFICATE, WRONG_STATUS};
 use records::Replica;
 use table::{
@@ -141,7 +141,7 @@ pub fn recover(
         return refused(listed.refusal());
     };
     let best = quorum::greatest(log, list);
-    let c = log::certificate_in(log, list[best]);
+    let c = certificate_log::certificate_in(log, list[best]);
     let min_view = larger(r.min_view, c.of_view + 1);
     let replied = quorum::is_reply_quorum(log, list, replica, r.boot, r.min_view);
     let tested = need(Tested::Passed, r.status == RECOVERING, WRONG_STATUS);

@@ -26,7 +26,7 @@ const BLOCKS: usize = 1024;
 // The words that are lent.
 const TABLE_WORDS: usize = table::ROW_START + table::MAX_REPLICAS * table::REPLICA_WORDS;
 
-const LOG_WORDS: usize = CERTIFICATES * log::CERTIFICATE_WORDS;
+const LOG_WORDS: usize = CERTIFICATES * certificate_log::CERTIFICATE_WORDS;
 
 const BLOCKS_WORDS: usize = BLOCKS * blocks::BLOCK_WORDS;
 

@@ -11,7 +11,7 @@ use Rattle.protocol.specs.Outcome.{Need}
 use Rattle.protocol.specs.FirstNeeds.{list_needs}
 use Rattle.protocol.specs.Calls.{accumulate_needs, accumulate as accumulate_rule}
 use Rattle.protocol.proofs.logic.Booleans.{tests}
-use Rattle.log.specs.inner.Certificates.{certificate_from}
+use Rattle.certificate_log.specs.inner.Certificates.{certificate_from}
 use Rattle.checks.specs.inner.Verdicts.{tested}
 use Rattle.checks.proofs.Verdicts.{first_need, then_need}
 use Rattle.checks.proofs.Passing.{ReplicaFound, no_replica, found_replica, ListFound, found_list, failed, passed}

@@ -9,7 +9,7 @@ use Rattle.protocol.specs.Memory.{Memory, memory, replica, update}
 use Rattle.protocol.specs.Quorum.{every, certificates_of, first_of}
 use Rattle.protocol.specs.FirstNeeds.{list_needs}
 use Rattle.protocol.specs.Calls.{decide_needs, decide as decide_rule}
-use Rattle.log.specs.inner.Certificates.{certificate_from}
+use Rattle.certificate_log.specs.inner.Certificates.{certificate_from}
 use Rattle.checks.specs.inner.Verdicts.{tested}
 use Rattle.checks.proofs.Ready.{row_within}
 use Rattle.checks.proofs.Verdicts.{first_need}

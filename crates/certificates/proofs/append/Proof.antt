@@ -3,7 +3,7 @@ use native.Mathlib.Omega.{arith}
 use borrow.Author.Rules.{rules}
 use lib.ListN.{length-set}
 use Rattle.protocol.specs.Memory.{words}
-use Rattle.log.specs.inner.Certificates.{certificate_of}
+use Rattle.certificate_log.specs.inner.Certificates.{certificate_of}
 use Rattle.certificates.proofs.Filing.{written}
 use Rattle.certificates.proofs.append.Statement.{statement}
 use Rattle.certificates.proofs.append.Tie as tie

@@ -6,7 +6,7 @@ use borrow.Author.Rules.{rules}
 use Rattle.protocol.specs.Memory.{words}
 use Rattle.protocol.specs.Certificates.{first_below}
 use Rattle.protocol.proofs.logic.Joined.{granted}
-use Rattle.log.specs.inner.Certificates.{certificate_of}
+use Rattle.certificate_log.specs.inner.Certificates.{certificate_of}
 use Rattle.certificates.specs.inner.Filing.{is_equal}
 use Rattle.certificates.proofs.Equal.{of_other_view}
 use Rattle.certificates.proofs.Search.{none_yet, none_of_four, found, none}

@@ -4,7 +4,7 @@ use Rattle.protocol.specs.Memory.{Memory, memory, certificate_words, certificate
 use Rattle.protocol.specs.Form.{all_below}
 use Rattle.protocol.specs.Certificates.{number_for, found_or_appended, can_file, file}
 use Rattle.protocol.specs.Outcome.{no_room}
-use Rattle.log.specs.inner.LogFits.{count_in, LogFits}
+use Rattle.certificate_log.specs.inner.LogFits.{count_in, LogFits}
 use Rattle.certificates.specs.declared.Filed.{Filed}
 use Rattle.certificates.specs.declared.Filed.TheVariants.{At, Refused}
 

@@ -3,7 +3,7 @@ use Rattle.std.specs.Prelude.{ℕ, zero, suc, cond, List, [], ◌∷◌}
 use Rattle.protocol.specs.Memory.{Memory, replica, certificate}
 use Rattle.protocol.specs.Outcome.{Need, ◌else◌, first_refusal}
 use Rattle.protocol.specs.FirstNeeds.{replica_needs, number_needs}
-use Rattle.log.specs.inner.Certificates.{certificate_from}
+use Rattle.certificate_log.specs.inner.Certificates.{certificate_from}
 use Rattle.records.specs.inner.Replicas.{replica_from}
 use Rattle.checks.specs.declared.Tested.{Tested}
 use Rattle.checks.specs.declared.Tested.TheVariants as Test

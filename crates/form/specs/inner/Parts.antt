@@ -4,7 +4,7 @@ use Rattle.protocol.specs.Memory.{Memory, memory, replica_count, fault_bound, ce
 use Rattle.protocol.specs.Form.{all_hold, all_below, steps_formed, replica_formed}
 use Rattle.blocks.specs.inner.Records.{block_ok}
 use Rattle.counter.specs.inner.Rising.{step_in}
-use Rattle.log.specs.inner.Records.{certificate_ok}
+use Rattle.certificate_log.specs.inner.Records.{certificate_ok}
 
 -- The test of one replica, where so many blocks are added.
 abbrev pub replica_ok : List ℕ → ℕ → ℕ → Bool

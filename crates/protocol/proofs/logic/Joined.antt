@@ -44,11 +44,11 @@ any_none (t ∷ ts) h = go t ts h
     go t (u ∷ us) h = go (t || u) us (rw (h.0, h.1.0) refl, h.1.1)
 
 -- What `if !f(..)` tells, where f's result is a test.
-pub denied : {r t : Bool} → r ≡ t → not r ≡ true → t ≡ false
-denied {r} e n = sym e ∙ not-true r n
+pub denied : {r t : Bool} → r ≡ t → r ≡ false → t ≡ false
+denied e n = sym e ∙ n
 
-pub granted : {r t : Bool} → r ≡ t → not r ≡ false → t ≡ true
-granted {r} e n = sym e ∙ not-false r n
+pub granted : {r t : Bool} → r ≡ t → r ≡ true → t ≡ true
+granted e n = sym e ∙ n
 
 -- Two tests that show each other are equal.
 pub same_test : (a b : Bool) → (a ≡ true → b ≡ true) → (b ≡ true → a ≡ true) → a ≡ b

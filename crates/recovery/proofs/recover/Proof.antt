@@ -8,7 +8,7 @@ use Rattle.protocol.specs.Memory.{Memory, Replica, Certificate, memory, replica,
 use Rattle.protocol.specs.Quorum.{every, certificates_of, greatest}
 use Rattle.protocol.specs.FirstNeeds.{list_needs}
 use Rattle.protocol.specs.Calls.{recover_needs, recover as rule}
-use Rattle.log.specs.inner.Certificates.{certificate_from}
+use Rattle.certificate_log.specs.inner.Certificates.{certificate_from}
 use Rattle.checks.specs.inner.Verdicts.{tested}
 use Rattle.checks.proofs.Ready.{Ready, ReadyList, row_within, all_listed, some_there, listed_there}
 use Rattle.checks.proofs.Passing.{At, start, accepts, ReplicaFound, no_replica, found_replica, failed, passed, list_known}

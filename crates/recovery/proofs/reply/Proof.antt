@@ -10,7 +10,7 @@ use Rattle.protocol.specs.Quorum.{every}
 use Rattle.protocol.specs.Outcome.{Need}
 use Rattle.protocol.specs.FirstNeeds.{number_needs}
 use Rattle.protocol.specs.Calls.{reply_needs, reply as rule}
-use Rattle.log.proofs.Fits.{log_fits}
+use Rattle.certificate_log.proofs.Fits.{log_fits}
 use Rattle.checks.proofs.Passing.{ReplicaFound, no_replica, found_replica, CertificateFound, no_certificate, found_certificate}
 use Rattle.checks.proofs.Passing.{failed, passed}
 use Rattle.issuing.proofs.Issues.{issuable, slot, start, issues}

@@ -1,0 +1,16 @@
+use native.Mathlib.Nat.{add-zero}
+use Rattle.certificate_log.specs.inner.Records.{some_below, group_exceeds}
+use Rattle.certificate_log.proofs.group_exceeds.Reads as reads
+use Rattle.certificate_log.proofs.group_exceeds.Lts as lts
+use Rattle.certificate_log.proofs.exceeds.Reads as exceeds-reads
+use Rattle.certificate_log.proofs.group_exceeds.Goals as goal
+
+pub returns : goal.returns
+unfolding group_exceeds some_below
+returns c =
+    let d = c in
+    rw (d.exceeds.ensures, d.exceeds-2.ensures)
+    (rw (d.exceeds-3.ensures, d.exceeds-4.ensures)
+    (rw (c.exceeds-5.ensures, c.exceeds-6.ensures)
+    (rw (c.exceeds-7.ensures, c.exceeds-8.ensures) (simp add-zero))))
+

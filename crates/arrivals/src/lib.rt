@@ -203,7 +203,7 @@ pub fn take_out(waiting: &mut [u32], slot: usize)
 }
 
 // What some entries, up to the last, tell of a taker: the pallets waiting, and the identity of the earliest arrival.
-#[derive(Drop)]
+#[derive(Clone, Copy)]
 struct TakerTally {
     pallets: u32,
     earliest: u32,

@@ -91,7 +91,7 @@ pub fn kinds() -> [u32; 7]
     [PROP, COMMIT, NEWVIEW, ACC, REQ, REPLY, LAST_KIND]
 }
 
-#[derive(Drop)]
+#[derive(Clone, Copy)]
 pub struct Certificate {
     pub kind: u32,
     pub signer: u32,

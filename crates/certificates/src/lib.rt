@@ -37,7 +37,7 @@ pub fn filings() -> [u32; 2]
 }
 
 // Where a certificate is filed, or the refusal.
-#[derive(Drop)]
+#[derive(Clone, Copy)]
 pub enum Filed {
     // its number in the log, and which: FOUND or APPENDED
     At(u32, u32),

@@ -12,14 +12,14 @@ use protocol::{ACCEPTED, Justification, UNKNOWN_NUMBER, WRONG_CERTIFICATE};
 use table::CERTIFICATE_COUNT_AT;
 
 // What a justification that holds gives: the view to propose in, and the block to build on.
-#[derive(Drop)]
+#[derive(Clone, Copy)]
 pub struct Justified {
     pub view: u32,
     pub block: u32,
 }
 
 // What a justification gives, or the refusal.
-#[derive(Drop)]
+#[derive(Clone, Copy)]
 pub enum Judgement {
     By(Justified),
     Refused(u32),

@@ -42,21 +42,21 @@ pub fn refused(number: u32) -> Answer
 }
 
 // What a test answers: that it passed, or the refusal.
-#[derive(Drop)]
+#[derive(Clone, Copy)]
 pub enum Tested {
     Passed,
     Refused(u32),
 }
 
 // The replica that was looked for, or the refusal.
-#[derive(Drop)]
+#[derive(Clone, Copy)]
 pub enum FoundReplica {
     Found(Replica),
     Refused(u32),
 }
 
 // The certificate that was looked for, or the refusal.
-#[derive(Drop)]
+#[derive(Clone, Copy)]
 pub enum FoundCertificate {
     Found(Certificate),
     Refused(u32),

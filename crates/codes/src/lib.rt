@@ -14,7 +14,7 @@ use table::CERTIFICATE_COUNT_AT;
 const MAX_LIST: usize = 31;
 
 // The call of a code, or the refusal that a caller hands up.
-#[derive(Drop)]
+#[derive(Clone, Copy)]
 pub enum Coded {
     Of(Call),
     Refused(u32),
@@ -57,7 +57,7 @@ fn coded_when(test: bool, call: Call) -> Coded
 }
 
 // The view and the block that a prepare on commits claims.
-#[derive(Drop)]
+#[derive(Clone, Copy)]
 struct Claim {
     view: u32,
     block: u32,

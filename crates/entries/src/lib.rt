@@ -19,7 +19,7 @@ ghost use Rattle.entries.specs.Entries.{
 };
 
 // The identity that its dispatcher gave it, the replica whose firm gives, the one whose firm takes, how many.
-#[derive(Drop)]
+#[derive(Clone, Copy)]
 pub struct Entry {
     pub identity: u32,
     pub giver: u32,

@@ -19,7 +19,7 @@ ghost use Rattle.movements.specs.Movements.{
 };
 
 // The block that it stands in, the replica whose firm gave, the one whose firm took, how many.
-#[derive(Drop)]
+#[derive(Clone, Copy)]
 pub struct Movement {
     pub block: u32,
     pub giver: u32,

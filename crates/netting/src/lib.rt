@@ -20,7 +20,7 @@ use protocol::{ACCEPTED, UNKNOWN_NUMBER, WRONG_FORM, WRONG_MOVEMENT};
 use table::{BLOCK_COUNT_AT, FAULT_BOUND_AT, MAX_REPLICAS};
 
 // The number that a netting returns, 0 where it is accepted, and its two values: a balance and 0.
-#[derive(Drop)]
+#[derive(Clone, Copy)]
 pub struct Netted {
     pub number: u32,
     pub balance: i32,

@@ -5,7 +5,7 @@ ghost use Rattle.std.specs.Prelude.{◌≡◌, [], ◌∷◌};
 ghost use Rattle.protocol.specs.Outcome as Refusals;
 
 // The number that a call returns, 0 where it is accepted, and its two values.
-#[derive(Drop)]
+#[derive(Clone, Copy)]
 pub struct Answer {
     pub number: u32,
     pub first: u32,
@@ -75,7 +75,7 @@ pub fn refusals() -> [u32; 14]
 
 // What lets a leader propose (document 01: the ground of a proposal): the number of an ACC, or the view and the block of a
 // commit quorum, whose numbers are the list beside the call.
-#[derive(Drop)]
+#[derive(Clone, Copy)]
 pub enum Justification {
     Acc(u32),
     Commits(u32, u32),
@@ -84,7 +84,7 @@ pub enum Justification {
 // The twelve calls of document 01. A replica comes first, where the call has one. The list that some calls have stands beside the call: a
 // pool's own steps at an Open, certificate numbers at a Prepare on commits, Accumulate, Decide and Recover. Any other call, and a Prepare
 // on an ACC, passes over what stands there.
-#[derive(Drop)]
+#[derive(Clone, Copy)]
 pub enum Call {
     // f
     Open(u32),

@@ -126,12 +126,12 @@ module _ (log list : List ℕ) where
 
     pub best_taken : (v : ℕ) → i < length list → v ≡ (certificate_in log (get_or list i 0)).of_view → view < v
         → Best log list (i + 1) i v
-    best_taken v h e l = let q = b.view-is in record { within = h; view_is = e; rest = step h true (omega tests) }
+    best_taken v h e l = let q = b.view_is in record { within = h; view_is = e; rest = step h true (omega tests) }
 
     pub best_kept : (v : ℕ) → i < length list → v ≡ (certificate_in log (get_or list i 0)).of_view → v ≤ view
         → Best log list (i + 1) best view
     best_kept v h e l =
-        let q = b.view-is in
+        let q = b.view_is in
         record { within = b.within; view_is = q; rest = step h false (omega tests) }
 
     pub best_end : length list ≤ i → Greatest log list best

@@ -21,7 +21,7 @@ use certificate_log::{
 };
 
 // What each certificate of a quorum has to be.
-#[derive(Drop)]
+#[derive(Clone, Copy)]
 enum Wanted {
     // view, block
     Commit(u32, u32),

@@ -15,7 +15,7 @@ pub struct Reader<'a> {
 }
 
 // What reading gives: the column reached, or the refusal that a caller hands up.
-#[derive(Drop)]
+#[derive(Clone, Copy)]
 pub enum Read {
     To(usize),
     Refused(u32),

@@ -13,7 +13,7 @@ ghost use Rattle.records.specs.inner.Replicas.{replica_from, assignments, Settab
 
 use table::{replica_word, set_replica_word};
 
-#[derive(Drop)]
+#[derive(Clone, Copy)]
 pub struct Replica {
     pub status: u32,
     pub boot: u32,

@@ -18,7 +18,7 @@ pub const HELD_PLACES: usize = field::COLUMNS * script::MAX_FIELDS + 1;
 pub const MAX_LINES: u32 = field::MAX_NUMBER;
 
 // Where a stream stands: the f in use, how many lines were answered, how many bytes of a line are held, how many are to be written.
-#[derive(Drop)]
+#[derive(Clone, Copy)]
 pub struct Progress {
     pub fault_bound: u32,
     pub lines: u32,

@@ -87,7 +87,7 @@ fn write_text(text: &[u8]) -> bool {
 }
 
 // Where a stream stands once its text is written.
-#[derive(Drop)]
+#[derive(Clone, Copy)]
 enum Written {
     All(Progress),
     Failed,

@@ -1,0 +1,9 @@
+-- `append` meets its contract.
+use Rattle.protocol.specs.Memory.{words}
+use Rattle.certificate_log.specs.inner.Certificates.{certificate_of}
+use Rattle.certificates.proofs.Filing.{written}
+use Rattle.certificates.proofs.append.Goals as goal
+
+pub returns : goal.returns
+returns c b = let start = c in written start.args.table.now _ b (words (certificate_of start.args.c))
+

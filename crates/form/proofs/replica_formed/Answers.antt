@@ -1,0 +1,10 @@
+use Rattle.protocol.specs.Form.{replica_formed}
+use Rattle.form.proofs.Order.{replica_order}
+use Rattle.form.proofs.replica_formed.Goals as goal
+
+pub returns : goal.returns
+unfolding replica_formed
+returns c =
+    let b = c in
+    rw b.row_at-row.ensures (replica_order _ _ _ _ _ _ _ _ _ _)
+

@@ -17,8 +17,8 @@ use Rattle.field.proofs.Counts.{next_power}
 
 -- ---- one byte
 
-pub is_digit : (b : ℕ) → digit_zero ≤ b → b ≤ digit_nine → is_digit b ≡ true
-is_digit b l h =
+pub digit_is : (b : ℕ) → digit_zero ≤ b → b ≤ digit_nine → is_digit b ≡ true
+digit_is b l h =
     let p : leb digit_zero b ≡ true = omega tests in let q : leb b digit_nine ≡ true = omega tests in rw (p, q)
 
 pub by-digit {ℓ} : {C : Type ℓ} (b : ℕ) → (digit_zero ≤ b → b ≤ digit_nine → C) → (is_digit b ≡ false → C) → C
@@ -30,7 +30,7 @@ by-digit b hit miss =
 pub continued_digit : (v b : ℕ) (bs : List ℕ) → digit_zero ≤ b → b ≤ digit_nine
     → continued v (b ∷ bs) ≡ continued (10 * v + (b - digit_zero)) bs
 unfolding continued
-continued_digit v b bs l h = rw (is_digit b l h)
+continued_digit v b bs l h = rw (digit_is b l h)
 
 -- ---- digits that were written
 

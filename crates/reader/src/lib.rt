@@ -8,7 +8,7 @@ ghost use Rattle.reader.specs.inner.Reading.{column_after, moved_on, read_of, fi
 use field::{COLUMNS, MAX_NUMBER};
 use protocol::{ACCEPTED, UNREADABLE};
 
-#[derive(Drop)]
+#[derive(Clone, Copy)]
 pub struct Reader<'a> {
     pub line: &'a [u8],
     pub column: usize,
@@ -69,7 +69,7 @@ fn read_of(from: usize, to: usize) -> Read
     }
 }
 
-// Reads the field at a column of a line. The proof of a function that makes a reader is written by hand, so callers use this one.
+// Reads the field at a column of a line, for callers that keep no reader of their own.
 pub fn read_field(line: &[u8], column: usize, number: &mut u32) -> Read
     ensures { (result ≡ field_at line.now column) × (number.new ≡ number_from line.now column) }
 {

@@ -18,7 +18,7 @@ use Rattle.protocol.specs.Theorems.{Accepted, RefusedChangesNothing, LengthsStay
 use Rattle.protocol.specs.History.{Event, reopened, other, accepted_event, event_of, history}
 use Rattle.protocol.specs.Agreement.{Agreement}
 use Rattle.protocol.proofs.logic.Booleans.{tests, by-test, by_cond, each}
-use Rattle.protocol.proofs.calls.Goals.{no_refusal}
+use Rattle.protocol.proofs.calls.Needs.{no_refusal}
 use Rattle.protocol.proofs.calls.Rules.{needs_hold, refused-changes-nothing}
 use Rattle.protocol.proofs.calls.Frame.{lengths-stay}
 use Rattle.protocol.proofs.agreement.Agreement.{agreement}
@@ -163,7 +163,8 @@ kept : {e : Event} {past : List Event} (s : Session) (lines : List (List ℕ)) �
     → Memᴰ e (line_history past s lines)
 unfolding line_history
 kept s [] w = w
-kept s (line ∷ lines) w = kept (answer_line s line).session lines (Memᴰ.tail w)
+kept {e = e} {past = past} s (line ∷ lines) w =
+    let x = answer_line s line in kept {e = e} {past = line_event line x.answer ∷ past} x.session lines (Memᴰ.tail w)
 
 -- Calls on the ledger that tell what the lines tell, and leave what they leave.
 record Runs (past : List Event) (s : Session) (lines : List (List ℕ)) : Type 0 where

@@ -21,7 +21,7 @@ use Rattle.protocol.specs.Theorems.{Accepted, is_opening}
 use Rattle.protocol.specs.WayOn.{can_decide, way_on, is_accepted, Numbered, WayOnNumbered}
 use Rattle.protocol.proofs.logic.Booleans.{tests, by-test, and-true, each, all-hold}
 use Rattle.protocol.proofs.memory.Formed.{formed, form, sizes}
-use Rattle.protocol.proofs.calls.Goals.{Holds, no_refusal}
+use Rattle.protocol.proofs.calls.Needs.{Holds, no_refusal}
 use Rattle.protocol.proofs.calls.Rules.{no_form, needs_hold}
 use Rattle.protocol.proofs.agreement.Agreement.{reached_by}
 use Rattle.protocol.proofs.progress.WayOn.{way-on-numbered}

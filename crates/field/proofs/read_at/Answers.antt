@@ -1,5 +1,4 @@
 -- Fewer than eight columns are no field; else the part is read.
-use Prim.Native.Nat.{◌-◌}
 use native.Mathlib.Omega.{arith}
 use Rattle.field.proofs.Reading.{too_short}
 use Rattle.field.proofs.read_at.Goals as goal
@@ -11,4 +10,3 @@ returns-then-bytes-lt-COLUMNS c =
 pub returns-then-bytes-at : goal.returns-then-bytes-at
 returns-then-bytes-at c =
     let a = c.args in too_short a.bytes.now a.at (omega arith)
-

@@ -10,4 +10,3 @@ invariant-loop-i l = (l.i ≤ columns) × (l.number < 10 ^ l.i) × (continued l.
 
 abbrev pub decreases-loop-i : goal.decreases-loop-i
 decreases-loop-i l = columns - l.i
-

@@ -1,4 +1,3 @@
-use Prim.Native.Nat.{◌-◌}
 use mathlib.Core.Path.{sym, ◌∙◌}
 use native.Mathlib.Omega.{arith}
 use Rattle.field.proofs.Reading.{not_eight, eight_columns, skips_blank, after_last_blank, only_blanks}
@@ -27,4 +26,3 @@ pub returns : goal.returns
 returns c =
     let l = c.loop-i in
     sym (only_blanks c.args.bytes.now l.i (omega arith)) ∙ l.invariant.2
-

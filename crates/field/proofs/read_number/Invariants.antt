@@ -10,4 +10,3 @@ invariant-loop-i l = (l.i ≤ columns) × (length l.bytes ≡ columns) × (align
 
 abbrev pub decreases-loop-i : goal.decreases-loop-i
 decreases-loop-i l = columns - l.i
-

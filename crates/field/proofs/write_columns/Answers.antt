@@ -1,33 +1,38 @@
-use Prim.Native.Nat.{◌-◌}
-use mathlib.Core.Path.{◌≡◌, sym, ◌∙◌}
+use mathlib.Core.Path.{◌≡◌, refl, sym, ◌∙◌}
 use native.Mathlib.Omega.{arith}
-use lib.ListN.{length-set}
+use lib.ListN.{length, length-set}
 use lib.Seq.{take_all}
-use Rattle.field.specs.Digits.{digit_count}
 use Rattle.field.specs.Field.{columns}
-use Rattle.field.proofs.Counts.{count_fits}
+use Rattle.field.proofs.Counts.{count_fits, digit_of_count}
 use Rattle.field.proofs.Writing.{digit_written, blanks_left, one_digit, starts, all_stand}
 use Rattle.field.proofs.write_columns.Goals as goal
 
-is_one : (c : goal.Then-count-eq1 invariant-loop decreases-loop) → digit_count c.args.number ≡ 1
-is_one c = sym c.digit_count-count.ensures ∙ c.if-count-eq1.true
+pub overflow_cast-bytes : goal.overflow_cast-bytes
+overflow_cast-bytes c =
+    let small = digit_of_count c.args.number (sym c.digit_count-count.ensures ∙ c.if-count-eq1.true) in omega arith
+
+pub overflow_add-bytes : goal.overflow_add-bytes
+overflow_add-bytes c =
+    let small = digit_of_count c.args.number (sym c.digit_count-count.ensures ∙ c.if-count-eq1.true) in omega arith
 
 pub returns-then-count-eq1 : goal.returns-then-count-eq1
-returns-then-count-eq1 c = one_digit _ (is_one c) c.write_blanks.ensures
+returns-then-count-eq1 c = one_digit _ (sym c.digit_count-count.ensures ∙ c.if-count-eq1.true) c.write_blanks.ensures
+
+pub overflow_sub-first : goal.overflow_sub-first
+overflow_sub-first c = omega (arith, c.digit_count-count.ensures, count_fits c.args.number c.requires.small)
 
 pub loop-at-init : goal.loop-at-init
 loop-at-init c =
-    let blanked = c in
-    let start = blanked in
     let e = c.digit_count-count.ensures in
-    let u = count_fits start.args.number start.requires.small in
-    let long = c.bytes-1.given ∙ start.requires.eight in (
+    let u = count_fits c.args.number c.requires.small in
+    let b = c.write_blanks.new.bytes in
+    let long : length b ≡ columns = rw c.write_blanks.ensures refl in (
       omega (arith, e, u),
       omega arith,
       long,
       omega (arith, e, u),
-      starts blanked.write_blanks.new.0 _ _ long e (omega (arith, e, u)),
-      take_all columns blanked.write_blanks.new.0 (omega (arith, long)) ∙ blanked.write_blanks.ensures,
+      starts b _ _ long e (omega (arith, e, u)),
+      take_all columns b (omega (arith, long)) ∙ c.write_blanks.ensures,
     )
 
 pub loop-at-preserved : goal.loop-at-preserved
@@ -37,12 +42,11 @@ loop-at-preserved c =
       omega arith,
       simp length-set l.invariant.2,
       l.invariant.3,
-      digit_written l.bytes-1 _ l.at l.rest c.loop-at-test.true (omega arith) ∙ l.invariant.4,
-      blanks_left l.bytes-1 l.at _ (omega arith) l.invariant.5,
+      digit_written l.bytes _ l.at l.rest c.loop-at-test.true (omega arith) ∙ l.invariant.4,
+      blanks_left l.bytes l.at _ (omega arith) l.invariant.5,
     )
 
 pub returns : goal.returns
 returns c =
     let l = c.loop-at in
-    all_stand l.bytes-1 _ _ l.at l.rest (omega arith) l.invariant.3 l.invariant.5 l.invariant.4
-
+    all_stand l.bytes _ _ l.at l.rest (omega arith) l.invariant.3 l.invariant.5 l.invariant.4

@@ -14,4 +14,3 @@ invariant-loop-at l = (l.first ≤ l.at) × (l.at ≤ columns) × (length l.byte
 
 abbrev pub decreases-loop-at : goal.decreases-loop-at
 decreases-loop-at l = l.at
-

@@ -5,14 +5,13 @@ use Rattle.field.proofs.write_number.Goals as goal
 
 pub returns-then-bytes-ne-COLUMNS : goal.returns-then-bytes-ne-COLUMNS
 returns-then-bytes-ne-COLUMNS c =
-    let a = c.args in wrong_length a.number a.bytes-1.now (omega arith)
+    let a = c.args in wrong_length a.number a.bytes.now (omega arith)
 
 pub returns-then-number-gt-MAX_NUMBER : goal.returns-then-number-gt-MAX_NUMBER
 returns-then-number-gt-MAX_NUMBER c =
-    let a = c.args in too_great a.number a.bytes-1.now (omega arith)
+    let a = c.args in too_great a.number a.bytes.now (omega arith)
 
 pub returns : goal.returns
 returns c =
     let a = c.args in
-    is_written a.number a.bytes-1.now _ (omega arith) (omega arith) c.write_columns.ensures
-
+    is_written a.number a.bytes.now _ (omega arith) (omega arith) c.write_columns.ensures

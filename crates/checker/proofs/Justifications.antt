@@ -15,7 +15,7 @@ use Rattle.protocol.specs.FirstNeeds.{is_block, replica_needs}
 use Rattle.protocol.specs.Calls.{has_status, numbers_of, is_sized, justification_needs, proposal_needs, prepare}
 use Rattle.protocol.proofs.logic.Booleans.{tests}
 use Rattle.protocol.proofs.memory.Lists.{every_at}
-use Rattle.protocol.proofs.calls.Goals.{Holds}
+use Rattle.protocol.proofs.calls.Needs.{Holds}
 use Rattle.protocol.proofs.memory.Formed.{Formed}
 use Rattle.form.proofs.Within.{certificate_bounds}
 use Rattle.quorum.specs.inner.Lists.{certificates_in}

@@ -9,8 +9,8 @@ use Rattle.protocol.specs.Memory.{Memory, replica, certificate, certificate_at, 
 use Rattle.protocol.specs.Quorum.{is_issued, certificates_of, first_of}
 use Rattle.protocol.specs.Outcome.{Need, RuleOf, Rule, first_refusal, acceptance, refusal_of, follow, told}
 use Rattle.protocol.specs.FirstNeeds.{replica_needs, number_needs, list_needs}
-use Rattle.protocol.proofs.calls.Goals as Needs
-use Rattle.protocol.proofs.calls.Goals.{Holds, positive, all_needs, refused_first, all_pass}
+use Rattle.protocol.proofs.calls.Needs as Needs
+use Rattle.protocol.proofs.calls.Needs.{Holds, positive, all_needs, refused_first, all_pass}
 use Rattle.quorum.specs.inner.Lists.{Listed}
 use Rattle.quorum.proofs.Accepted.{first-of}
 use Rattle.certificate_log.specs.declared.Certificate.{Certificate}

@@ -13,7 +13,7 @@ use Rattle.protocol.specs.Outcome.{first_refusal}
 use Rattle.protocol.specs.FirstNeeds.{is_replica, replica_needs}
 use Rattle.protocol.proofs.logic.Booleans.{tests, by-test}
 use Rattle.protocol.proofs.memory.Lists.{every_at}
-use Rattle.protocol.proofs.calls.Goals.{all_needs}
+use Rattle.protocol.proofs.calls.Needs.{all_needs}
 use Rattle.protocol.proofs.memory.Formed.{Formed, formed, Sizes, sizes}
 use Rattle.quorum.specs.inner.Lists.{Listed}
 use Rattle.quorum.proofs.Accepted.{listed, some_listed}

@@ -6,7 +6,7 @@ use mathlib.Core.List.{List, [], ◌∷◌, ◌++◌}
 use native.Mathlib.Omega.{arith}
 use Rattle.protocol.specs.Outcome.{Need, ◌else◌, first_refusal}
 use Rattle.protocol.proofs.logic.Booleans.{tests, and-true}
-use Rattle.protocol.proofs.calls.Goals.{positive}
+use Rattle.protocol.proofs.calls.Needs.{positive}
 use lib.Dec.{leb}
 use Rattle.checks.specs.declared.Tested.{Tested}
 use Rattle.checks.specs.declared.Tested.TheVariants.{Passed, Refused}

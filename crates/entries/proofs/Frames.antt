@@ -9,7 +9,7 @@ use Rattle.protocol.specs.Outcome.{first_refusal}
 use Rattle.protocol.specs.Theorems.{below}
 use Rattle.protocol.proofs.logic.Booleans.{tests}
 use Rattle.protocol.proofs.memory.Words.{sets_elsewhere}
-use Rattle.protocol.proofs.calls.Goals.{all_needs, outcome_state}
+use Rattle.protocol.proofs.calls.Needs.{all_needs, outcome_state}
 use Rattle.entries.specs.declared.Entry.{Entry}
 use Rattle.entries.specs.Entries.{entry_width, entry_at, place_at, waiting_words, waiting_count, entries, entry_of, without, words_of}
 use Rattle.entries.specs.Entries.{holding}

@@ -10,7 +10,7 @@ use Rattle.protocol.specs.Memory.{Memory}
 use Rattle.protocol.specs.Outcome.{Answer, first_refusal}
 use Rattle.protocol.specs.Theorems.{Accepted}
 use Rattle.protocol.proofs.logic.Booleans.{tests, by-test}
-use Rattle.protocol.proofs.calls.Goals.{outcome_cases, returned, no_refusal, accepts, accepted_after}
+use Rattle.protocol.proofs.calls.Needs.{outcome_cases, returned, no_refusal, accepts, accepted_after}
 use Rattle.movements.specs.Movements.{max_pallets}
 use Rattle.entries.specs.declared.Entry.{Entry}
 use Rattle.entries.specs.Entries.{max_replicas, place_at, is_used, entry_of, without}

@@ -16,7 +16,7 @@ use Rattle.protocol.proofs.logic.Booleans.{tests, by-test}
 use Rattle.protocol.proofs.memory.Formed.{sizes}
 use Rattle.protocol.proofs.memory.Formed as Memory
 use Rattle.protocol.proofs.memory.Opened as Opening
-use Rattle.protocol.proofs.calls.Goals.{all_needs, none_refuses, outcome_cases, outcome_state, no_refusal, accepted_after, accepted_first}
+use Rattle.protocol.proofs.calls.Needs.{all_needs, none_refuses, outcome_cases, outcome_state, no_refusal, accepted_after, accepted_first}
 use Rattle.protocol.proofs.calls.Rules.{refused-changes-nothing}
 use Rattle.protocol.proofs.calls.LeavesForm.{accepted-leaves-form}
 use Rattle.protocol.proofs.calls.Frame.{lengths-stay}

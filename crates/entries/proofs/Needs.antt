@@ -10,7 +10,7 @@ use Rattle.protocol.specs.Outcome.{first_refusal}
 use Rattle.protocol.proofs.logic.Booleans.{tests}
 use Rattle.protocol.proofs.memory.Formed.{sizes}
 use Rattle.protocol.proofs.memory.Formed as Memory
-use Rattle.protocol.proofs.calls.Goals.{all_needs}
+use Rattle.protocol.proofs.calls.Needs.{all_needs}
 use Rattle.movements.specs.Movements.{max_movements}
 use Rattle.movements.proofs.Allowed.{list_short}
 use Rattle.entries.specs.declared.Entry.{Entry}

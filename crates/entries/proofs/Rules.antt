@@ -14,9 +14,9 @@ use Rattle.protocol.specs.Runs.{rule_of, step}
 use Rattle.protocol.proofs.logic.Booleans.{tests, by-test}
 use Rattle.protocol.proofs.memory.Formed as Memory
 use Rattle.protocol.proofs.calls.LeavesForm.{opening_leaves}
-use Rattle.protocol.proofs.calls.Goals.{all_needs, outcome_state, returned, no_refusal, refuses, accepts, accepted_after, refused, lowest}
-use Rattle.protocol.proofs.calls.Goals.{lowest_of_first, lowest_refusal, refusal_allowed, first_pass, refused_first, all_pass, fails}
-use Rattle.protocol.proofs.calls.Goals.{holds, all_allowed}
+use Rattle.protocol.proofs.calls.Needs.{all_needs, outcome_state, returned, no_refusal, refuses, accepts, accepted_after, refused, lowest}
+use Rattle.protocol.proofs.calls.Needs.{lowest_of_first, lowest_refusal, refusal_allowed, first_pass, refused_first, all_pass, fails}
+use Rattle.protocol.proofs.calls.Needs.{holds, all_allowed}
 use Rattle.entries.specs.Entries.{waiting_words}
 use Rattle.entries.specs.Waiting.{Lent, lent, WaitingRule, WaitingCall, Open, Enter, Withdraw, Match, Ask, match_needs, match_fit}
 use Rattle.entries.specs.Waiting.{open_rule, enter_rule, withdraw_rule, match_rule, ask_rule, waiting_rule, waiting_step, departed}

@@ -9,7 +9,7 @@ use mir.Val.{of_z, to_z}
 use mir.Facts.{to_z-of_z}
 use Rattle.protocol.specs.Memory.{Memory}
 use Rattle.protocol.specs.Outcome.{OutcomeOf}
-use Rattle.protocol.proofs.calls.Goals.{outcome_cases}
+use Rattle.protocol.proofs.calls.Needs.{outcome_cases}
 use Rattle.netting.specs.Netting.{Lent, lent, netting_rule, netting}
 use Rattle.netting.specs.Theorems.{BalancesBounded}
 use Rattle.netting.proofs.Moving.{small_fits}

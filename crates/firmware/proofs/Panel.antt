@@ -3,7 +3,7 @@ use Prim.Native.Nat.{ℕ}
 use mathlib.Core.Path.{◌≡◌, refl, ap, ◌∙◌}
 use Rattle.protocol.specs.Memory.{Memory}
 use Rattle.protocol.specs.Outcome.{Answer}
-use Rattle.protocol.proofs.calls.Goals.{outcome_cases}
+use Rattle.protocol.proofs.calls.Needs.{outcome_cases}
 use Rattle.panel.specs.Panel.{panel_rule, panel_answer}
 
 abbrev valued : Answer → Answer

@@ -3,7 +3,7 @@ use Prim.Native.Nat.{ℕ}
 use mathlib.Core.Path.{◌≡◌, refl, ap, ◌∙◌}
 use mathlib.Core.List.{List}
 use Rattle.protocol.specs.Calls.{opening}
-use Rattle.protocol.proofs.calls.Goals.{outcome_cases}
+use Rattle.protocol.proofs.calls.Needs.{outcome_cases}
 use Rattle.entries.specs.declared.Entry.{Entry}
 use Rattle.entries.specs.Waiting.{Lent, WaitingOutcome, Open, Enter, Withdraw, Match, open_rule, enter_rule, withdraw_rule, match_rule}
 use Rattle.entries.specs.Waiting.{waiting_rule, waiting_step, MatchOutcome, matching}

@@ -10,7 +10,7 @@ use Rattle.protocol.specs.Memory.{Memory, memory}
 use Rattle.protocol.specs.Form.{well_formed}
 use Rattle.protocol.specs.Outcome.{Outcome, outcome, refusal, wrong_form, unreadable}
 use Rattle.protocol.specs.Runs.{step}
-use Rattle.protocol.proofs.calls.Goals.{refuses}
+use Rattle.protocol.proofs.calls.Needs.{refuses}
 use Rattle.protocol.proofs.calls.Rules.{no_form}
 use Rattle.codes.specs.declared.Coded.{Coded}
 use Rattle.codes.specs.declared.Coded.TheVariants.{Of, Refused}

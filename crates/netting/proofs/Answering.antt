@@ -16,7 +16,7 @@ use Rattle.movements.specs.Movements.{movement, movement_count}
 use Rattle.movements.proofs.Allowed.{is-allowed, list_short}
 use Rattle.movements.specs.declared.Movement.{Movement}
 use Rattle.protocol.proofs.logic.Booleans.{tests, by-test, at_below}
-use Rattle.protocol.proofs.calls.Goals.{refuses, accepts, fails, holds}
+use Rattle.protocol.proofs.calls.Needs.{refuses, accepts, fails, holds}
 use Rattle.blocks.specs.inner.Records.{parent_in}
 use Rattle.ancestry.specs.inner.AncestryFits.{AncestorsMarked}
 use Rattle.netting.specs.declared.Netted.{Netted}

@@ -14,7 +14,7 @@ use Rattle.protocol.specs.FirstNeeds.{is_replica, is_block}
 use Rattle.protocol.specs.Theorems.{Accepted}
 use Rattle.movements.specs.Movements.{movement, movement_count, movement_allowed, is_movement_list, max_pallets, max_movements}
 use Rattle.protocol.proofs.logic.Booleans.{by_cond, at_below, all-below}
-use Rattle.protocol.proofs.calls.Goals.{all_needs, holds_accepted, no_refusal, accepted_first}
+use Rattle.protocol.proofs.calls.Needs.{all_needs, holds_accepted, no_refusal, accepted_first}
 use Rattle.netting.specs.Netting.{pallets_of, balance_after, balance_by, lent, netting_rule, netting}
 use Rattle.netting.specs.Theorems.{max_balance}
 use Rattle.netting.proofs.Signed.{less_small}

@@ -10,7 +10,7 @@ use Rattle.protocol.specs.Form.{lengths_fit}
 use Rattle.protocol.specs.Outcome.{Need, ◌else◌, first_refusal, RuleOf, follow, wrong_form, unknown_number}
 use Rattle.protocol.specs.FirstNeeds.{is_block, replica_needs}
 use Rattle.protocol.proofs.logic.Booleans.{tests, each}
-use Rattle.protocol.proofs.calls.Goals.{outcome_cases, refuses, accepts, none_refuses, fails}
+use Rattle.protocol.proofs.calls.Needs.{outcome_cases, refuses, accepts, none_refuses, fails}
 use Rattle.protocol.proofs.memory.Formed.{form}
 use Rattle.movements.specs.Movements.{is_movement_list}
 use Rattle.ancestry.proofs.Fitting.{ancestry_fits}

@@ -13,7 +13,7 @@ use Rattle.protocol.specs.Theorems.{Accepted, Alike}
 use Rattle.protocol.specs.History.{decided, given_parent}
 use Rattle.protocol.specs.Agreement.{Execution, events_of, end_of, Agreement}
 use Rattle.protocol.proofs.logic.Booleans.{tests}
-use Rattle.protocol.proofs.calls.Goals.{outcome_cases, outcome_state, refused, lowest}
+use Rattle.protocol.proofs.calls.Needs.{outcome_cases, outcome_state, refused, lowest}
 use Rattle.protocol.proofs.memory.Formed.{formed, form, falls}
 use Rattle.protocol.proofs.memory.Alike.{twin, parent_same, form_same}
 use Rattle.protocol.proofs.agreement.Reached.{Reached, given_falls, chosen_known}

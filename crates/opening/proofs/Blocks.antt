@@ -14,7 +14,7 @@ use Rattle.protocol.specs.Calls.{block}
 use Rattle.protocol.proofs.logic.Booleans.{tests}
 use Rattle.protocol.proofs.memory.Formed.{formed, sizes}
 use Rattle.form.proofs.Within.{height_below}
-use Rattle.protocol.proofs.calls.Goals.{refuses, accepts, fails, holds}
+use Rattle.protocol.proofs.calls.Needs.{refuses, accepts, fails, holds}
 
 module _ (m : Memory) (p : ℕ) where
   pub no_form : well_formed m ≡ false → refusal wrong_form m ≡ follow m (block m p)

@@ -10,7 +10,7 @@ use Rattle.protocol.specs.Counter.{steps_from, steps_allowed}
 use Rattle.protocol.specs.Outcome.{first_refusal, acceptance, follow, refusal, out_of_range, wrong_form, wrong_steps}
 use Rattle.protocol.specs.Calls.{fresh_replica, fresh_replicas, fresh_header, keep_steps, opening}
 use Rattle.protocol.proofs.logic.Booleans.{tests, each}
-use Rattle.protocol.proofs.calls.Goals.{refuses, accepts, fails, holds}
+use Rattle.protocol.proofs.calls.Needs.{refuses, accepts, fails, holds}
 use Rattle.opening.specs.inner.Fresh.{fresh_rows}
 
 -- The rows by the table alone are those of the memory.

@@ -8,7 +8,7 @@ use Rattle.protocol.specs.Form.{well_formed}
 use Rattle.protocol.specs.Outcome.{Answer, Outcome, first_refusal, out_of_range}
 use Rattle.protocol.specs.FirstNeeds.{is_replica}
 use Rattle.protocol.proofs.logic.Booleans.{tests}
-use Rattle.protocol.proofs.calls.Goals.{accepts, refuses, fails, holds}
+use Rattle.protocol.proofs.calls.Needs.{accepts, refuses, fails, holds}
 use Rattle.panel.specs.Panel.{panel_rule, panel_answer}
 
 abbrev pub shown : ℕ → Answer

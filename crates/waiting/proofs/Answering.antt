@@ -3,7 +3,7 @@ use Prim.Native.Nat.{ℕ}
 use mathlib.Core.Path.{◌≡◌, refl, sym}
 use Rattle.protocol.specs.declared.Answer.{Answer}
 use Rattle.protocol.specs.Outcome.{first_refusal, told}
-use Rattle.protocol.proofs.calls.Goals.{refuses, accepts}
+use Rattle.protocol.proofs.calls.Needs.{refuses, accepts}
 use Rattle.entries.specs.Waiting.{Lent, WaitingCall, waiting_rule, waiting_step}
 
 module _ (s : Lent) (call : WaitingCall) where

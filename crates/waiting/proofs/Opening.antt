@@ -11,7 +11,7 @@ use Rattle.protocol.specs.Counter.{steps_allowed}
 use Rattle.protocol.specs.Outcome.{Outcome, Need, ◌else◌, first_refusal, follow, wrong_form, out_of_range, wrong_steps}
 use Rattle.protocol.specs.Calls.{opening}
 use Rattle.protocol.proofs.logic.Booleans.{tests, by-test}
-use Rattle.protocol.proofs.calls.Goals.{returned, accepts, refuses, both_pass, refused_first}
+use Rattle.protocol.proofs.calls.Needs.{returned, accepts, refuses, both_pass, refused_first}
 use Rattle.entries.specs.Entries.{waiting_words}
 use Rattle.entries.specs.Waiting.{Lent, lent, Open, open_rule, waiting_rule, waiting_step}
 

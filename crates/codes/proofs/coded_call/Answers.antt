@@ -3,67 +3,68 @@ use mathlib.Core.Path.{refl}
 use borrow.Author.Tests.{eq-eqb, ne_eqb}
 use Rattle.codes.specs.Codes.{when, code_table}
 use Rattle.codes.proofs.Commits.{unknown_code}
+use borrow.Author.Rules.{rules}
 use Rattle.codes.proofs.coded_call.Goals as goal
 
 pub returns-in-0 : goal.returns-in-0
 unfolding code_table
-returns-in-0 c = rw c.in_default.keys1 (rw c.is_short.ensures at c.coded_when.ensures)
+returns-in-0 c = rw c.in-0.is (rw c.is_short.ensures at c.coded_when.ensures)
 
 pub returns-in-1 : goal.returns-in-1
 unfolding code_table
-returns-in-1 c = rw c.in_default.keys2 (rw c.is_plain.ensures at c.coded_when-in-1.ensures)
+returns-in-1 c = rw c.in-1.is (rw c.is_plain.ensures at c.coded_when-in-1.ensures)
 
 pub returns-then-list-eq1 : goal.returns-then-list-eq1
 unfolding code_table when
-returns-then-list-eq1 c = rw c.in_default.keys3 (let e = eq-eqb _ _ c.if-list-eq1.true in rw e refl)
+returns-then-list-eq1 c = rw c.in-2.is (let e = eq-eqb _ _ c.if-list-eq1.true in rw e refl)
 
 pub returns-else-list-eq1 : goal.returns-else-list-eq1
 unfolding code_table when
-returns-else-list-eq1 c = rw c.in_default.keys3 (let e = ne_eqb _ _ c.if-list-eq1.false in rw e refl)
+returns-else-list-eq1 c = rw c.in-2.is (let e = ne_eqb _ _ c.if-list-eq1.false in rw e refl)
 
 pub returns-in-3 : goal.returns-in-3
 unfolding code_table
 returns-in-3 c =
     let claim = c in
-    rw claim.in_default.keys4
+    rw claim.in-3.is
     (rw (c.is_short-in-3.ensures, claim.claimed-c.ensures.0, claim.claimed-c.ensures.1) at c.coded_when-in-3.ensures)
 
 pub returns-in-4 : goal.returns-in-4
 unfolding code_table
-returns-in-4 c = rw c.in_default.keys5 (rw c.is_plain-in-4.ensures at c.coded_when-in-4.ensures)
+returns-in-4 c = rw c.in-4.is (rw c.is_plain-in-4.ensures at c.coded_when-in-4.ensures)
 
 pub returns-in-5 : goal.returns-in-5
 unfolding code_table
-returns-in-5 c = rw c.in_default.keys6 (rw c.is_plain-in-5.ensures at c.coded_when-in-5.ensures)
+returns-in-5 c = rw c.in-5.is (rw c.is_plain-in-5.ensures at c.coded_when-in-5.ensures)
 
 pub returns-in-6 : goal.returns-in-6
 unfolding code_table
-returns-in-6 c = rw c.in_default.keys7 (rw c.is_short-in-6.ensures at c.coded_when-in-6.ensures)
+returns-in-6 c = rw c.in-6.is (rw c.is_short-in-6.ensures at c.coded_when-in-6.ensures)
 
 pub returns-in-7 : goal.returns-in-7
 unfolding code_table
-returns-in-7 c = rw c.in_default.keys8 (rw c.is_short-in-7.ensures at c.coded_when-in-7.ensures)
+returns-in-7 c = rw c.in-7.is (rw c.is_short-in-7.ensures at c.coded_when-in-7.ensures)
 
 pub returns-in-8 : goal.returns-in-8
 unfolding code_table
-returns-in-8 c = rw c.in_default.keys9 (rw c.is_plain-in-8.ensures at c.coded_when-in-8.ensures)
+returns-in-8 c = rw c.in-8.is (rw c.is_plain-in-8.ensures at c.coded_when-in-8.ensures)
 
 pub returns-in-9 : goal.returns-in-9
 unfolding code_table
-returns-in-9 c = rw c.in_default.keys10 (rw c.is_plain-in-9.ensures at c.coded_when-in-9.ensures)
+returns-in-9 c = rw c.in-9.is (rw c.is_plain-in-9.ensures at c.coded_when-in-9.ensures)
 
 pub returns-in-10 : goal.returns-in-10
 unfolding code_table
-returns-in-10 c = rw c.in_default.keys11 (rw c.is_plain-in-10.ensures at c.coded_when-in-10.ensures)
+returns-in-10 c = rw c.in-10.is (rw c.is_plain-in-10.ensures at c.coded_when-in-10.ensures)
 
 pub returns-in-11 : goal.returns-in-11
 unfolding code_table
-returns-in-11 c = rw c.in_default.keys12 (rw c.is_plain-in-11.ensures at c.coded_when-in-11.ensures)
+returns-in-11 c = rw c.in-11.is (rw c.is_plain-in-11.ensures at c.coded_when-in-11.ensures)
 
 pub returns-in-12 : goal.returns-in-12
 unfolding code_table
-returns-in-12 c = rw c.in_default.keys13 (rw c.is_short-in-12.ensures at c.coded_when-in-12.ensures)
+returns-in-12 c = rw c.in-12.is (rw c.is_short-in-12.ensures at c.coded_when-in-12.ensures)
 
 pub returns-in_default : goal.returns-in_default
-returns-in_default c = unknown_code _ _ _ _ _ c.in_default.rest
+returns-in_default c = unknown_code _ _ _ _ _ (search rules)
 

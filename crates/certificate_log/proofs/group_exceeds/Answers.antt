@@ -8,9 +8,8 @@ use Rattle.certificate_log.proofs.group_exceeds.Goals as goal
 pub returns : goal.returns
 unfolding group_exceeds some_below
 returns c =
-    let d = c in
-    rw (d.exceeds.ensures, d.exceeds-2.ensures)
-    (rw (d.exceeds-3.ensures, d.exceeds-4.ensures)
+    rw (c.exceeds.ensures, c.exceeds-2.ensures)
+    (rw (c.exceeds-3.ensures, c.exceeds-4.ensures)
     (rw (c.exceeds-5.ensures, c.exceeds-6.ensures)
     (rw (c.exceeds-7.ensures, c.exceeds-8.ensures) (simp add-zero))))
 

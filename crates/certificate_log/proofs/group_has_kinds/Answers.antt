@@ -9,9 +9,8 @@ use Rattle.certificate_log.proofs.group_has_kinds.Goals as goal
 pub returns : goal.returns
 unfolding group_has_kinds all_below
 returns c =
-    let d = c in
-    rw (d.has_kind.ensures, d.has_kind-2.ensures)
-    (rw (d.has_kind-3.ensures, d.has_kind-4.ensures)
+    rw (c.has_kind.ensures, c.has_kind-2.ensures)
+    (rw (c.has_kind-3.ensures, c.has_kind-4.ensures)
     (rw (c.has_kind-5.ensures, c.has_kind-6.ensures)
     (rw (c.has_kind-7.ensures, c.has_kind-8.ensures) (simp add-zero))))
 

@@ -5,5 +5,5 @@ use Rattle.certificates.proofs.Filing.{written}
 use Rattle.certificates.proofs.append.Goals as goal
 
 pub returns : goal.returns
-returns c b = let start = c in written start.args.table.now _ b (words (certificate_of start.args.c))
+returns c b = written c.args.table.now _ b (words (certificate_of c.args.c))
 

@@ -7,10 +7,8 @@ returns-then-number-count c b = files_found _ _ _ _ c.find-number.ensures b c.if
 
 pub returns-then-count-log : goal.returns-then-count-log
 returns-then-count-log c b =
-    let added = c in
-    let tested = added in
-    files_appended _ _ _ _ tested.find-number.ensures b tested.if-number-count.false tested.if-count-log.true
-    (added.append.ensures b)
+    files_appended _ _ _ _ c.find-number.ensures b c.if-number-count.false c.if-count-log.true
+    (c.append.ensures b)
 
 pub returns : goal.returns
 returns c b = files_none _ _ _ _ c.find-number.ensures b c.if-number-count.false c.if-count-log.false

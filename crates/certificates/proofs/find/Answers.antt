@@ -14,16 +14,13 @@ loop-number-init c = (omega arith, refl)
 
 pub loop-number-preserved : goal.loop-number-preserved
 loop-number-preserved c =
-    let looped = c in
-    let start = looped in
     let four = granted c.four_of_other_views.ensures c.if-not-four_of_other_views.false in
-    (omega arith, none_of_four _ _ (of_other_view start.args.log.now start.args.c) _ looped.loop-number.invariant.1 four)
+    (omega arith, none_of_four _ _ (of_other_view c.args.log.now c.args.c) _ c.loop-number.invariant.1 four)
 
 pub returns-then-is_equal : goal.returns-then-is_equal
 returns-then-is_equal c =
-    let turn = c in
-    let inv = turn.loop-number-2.invariant in
-    sym (found _ _ _ inv.1 (sym c.is_equal.ensures ∙ c.if-is_equal.true) turn.loop-number-2-test.true)
+    let inv = c.loop-number-2.invariant in
+    sym (found _ _ _ inv.1 (sym c.is_equal.ensures ∙ c.if-is_equal.true) c.loop-number-2-test.true)
 
 pub loop-number-2-preserved : goal.loop-number-2-preserved
 loop-number-2-preserved c =

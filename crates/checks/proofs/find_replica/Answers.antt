@@ -19,24 +19,20 @@ replica_count-requires c =
 
 pub replica_in-requires : goal.replica_in-requires
 replica_in-requires c =
-    let form = c in
-    let z = sizes _ (formed _ (sym form.is_well_formed.ensures ∙ form.if-is_well_formed.true)) in
+    let z = sizes _ (formed _ (sym c.is_well_formed.ensures ∙ c.if-is_well_formed.true)) in
     omega (tests, z, c.if-replica-replica_count.true, c.replica_count.ensures)
 
 pub returns-then-replica-replica_count : goal.returns-then-replica-replica_count
 unfolding replica_found
 returns-then-replica-replica_count c =
-    let own = c in
-    let form = own in
     rw c.replica_in.ensures
-    (holds _ _ _ _ (sym form.is_well_formed.ensures ∙ form.if-is_well_formed.true)
-    (last _ _ _ (omega (tests, own.if-replica-replica_count.true, own.replica_count.ensures))))
+    (holds _ _ _ _ (sym c.is_well_formed.ensures ∙ c.if-is_well_formed.true)
+    (last _ _ _ (omega (tests, c.if-replica-replica_count.true, c.replica_count.ensures))))
 
 pub returns-then-is_well_formed : goal.returns-then-is_well_formed
 unfolding replica_found
 returns-then-is_well_formed c =
-    let form = c in
-    holds _ _ _ _ (sym form.is_well_formed.ensures ∙ form.if-is_well_formed.true)
+    holds _ _ _ _ (sym c.is_well_formed.ensures ∙ c.if-is_well_formed.true)
     (fails _ _ _ (omega (tests, c.if-replica-replica_count.false, c.replica_count.ensures)))
 
 pub returns : goal.returns

@@ -14,12 +14,10 @@ returns-then-table-number c = (not_issued _ _ _ (omega (tests, c.if-table-number
 
 pub returns : goal.returns
 returns c =
-    let placed = c in
-    let tested = placed in
-    let listed = tested in (
-      rw (c.word_at-view.ensures, placed.certificate_at-start.ensures)
-          (claimed _ _ _ listed.if-list-eq0.false (omega (tests, tested.if-table-number.false))),
-      rw (c.word_at-block.ensures, placed.certificate_at-start.ensures)
-          (claimed _ _ _ listed.if-list-eq0.false (omega (tests, tested.if-table-number.false))),
+    (
+      rw (c.word_at-view.ensures, c.certificate_at-start.ensures)
+          (claimed _ _ _ c.if-list-eq0.false (omega (tests, c.if-table-number.false))),
+      rw (c.word_at-block.ensures, c.certificate_at-start.ensures)
+          (claimed _ _ _ c.if-list-eq0.false (omega (tests, c.if-table-number.false))),
     )
 

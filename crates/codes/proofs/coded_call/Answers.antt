@@ -25,9 +25,8 @@ returns-else-list-eq1 c = rw c.in-2.is (let e = ne_eqb _ _ c.if-list-eq1.false i
 pub returns-in-3 : goal.returns-in-3
 unfolding code_table
 returns-in-3 c =
-    let claim = c in
-    rw claim.in-3.is
-    (rw (c.is_short-in-3.ensures, claim.claimed-c.ensures.0, claim.claimed-c.ensures.1) at c.coded_when-in-3.ensures)
+    rw c.in-3.is
+    (rw (c.is_short-in-3.ensures, c.claimed-c.ensures.0, c.claimed-c.ensures.1) at c.coded_when-in-3.ensures)
 
 pub returns-in-4 : goal.returns-in-4
 unfolding code_table

@@ -4,17 +4,11 @@ use Rattle.counter.proofs.Steps.{default_from, given_from, allowed_eight}
 use Rattle.counter.proofs.open_steps.Goals as goal
 
 pub returns-then-list-eq0 : goal.returns-then-list-eq0
-returns-then-list-eq0 c =
-    let none = c in
-    rw (default_from _ none.if-list-eq0.true) (c.write_steps.ensures, refl)
+returns-then-list-eq0 c = rw (default_from _ c.if-list-eq0.true) (c.write_steps.ensures, refl)
 
 pub write_steps-requires-2 : goal.write_steps-requires-2
-write_steps-requires-2 c =
-    let start = c in
-    (start.requires.0, allowed_eight _ start.requires.1 c.if-list-eq0.false)
+write_steps-requires-2 c = (c.requires.0, allowed_eight _ c.requires.1 c.if-list-eq0.false)
 
 pub returns : goal.returns
-returns c =
-    let some = c in
-    rw (given_from _ some.if-list-eq0.false) (c.write_steps-2.ensures, refl)
+returns c = rw (given_from _ c.if-list-eq0.false) (c.write_steps-2.ensures, refl)
 

@@ -15,16 +15,14 @@ lengths_fit-requires c = bounded _ (granted c.is_fault_bound.ensures c.if-not-is
 
 pub words_formed-requires : goal.words_formed-requires
 words_formed-requires c =
-    let b = c in
-    enough _ (granted b.is_fault_bound.ensures b.if-not-is_fault_bound.false)
+    enough _ (granted c.is_fault_bound.ensures c.if-not-is_fault_bound.false)
     (rw (c.lengths_fit.ensures, c.counts_fit.ensures) at c.if-lengths_fit-counts_fit.true)
 
 pub returns-then-lengths_fit-counts_fit : goal.returns-then-lengths_fit-counts_fit
 returns-then-lengths_fit-counts_fit c =
-    let b = c in
     c.words_formed.ensures
-    ∙ by_words _ (granted b.is_fault_bound.ensures b.if-not-is_fault_bound.false)
-    (rw (b.lengths_fit.ensures, c.counts_fit.ensures) at c.if-lengths_fit-counts_fit.true)
+    ∙ by_words _ (granted c.is_fault_bound.ensures c.if-not-is_fault_bound.false)
+    (rw (c.lengths_fit.ensures, c.counts_fit.ensures) at c.if-lengths_fit-counts_fit.true)
 
 pub returns-else-lengths_fit-counts_fit : goal.returns-else-lengths_fit-counts_fit
 returns-else-lengths_fit-counts_fit c = no_sizes _ (rw (c.lengths_fit.ensures, c.counts_fit.ensures) at c.if-lengths_fit-counts_fit.false)

@@ -6,8 +6,7 @@ use Rattle.form.proofs.lengths_fit.Goals as goal
 pub returns : goal.returns
 unfolding lengths_fit
 returns c =
-    let b = c in
-    rw (b.row_at.ensures, b.replica_count.ensures, b.certificate_at.ensures)
+    rw (c.row_at.ensures, c.replica_count.ensures, c.certificate_at.ensures)
     (rw (c.block_at.ensures, c.block_at-2.ensures)
     (joined_all _ (_ ∷ _ ∷ _ ∷ _ ∷ _ ∷ [])))
 

@@ -4,7 +4,5 @@ use Rattle.form.proofs.replica_formed.Goals as goal
 
 pub returns : goal.returns
 unfolding replica_formed
-returns c =
-    let b = c in
-    rw b.row_at-row.ensures (replica_order _ _ _ _ _ _ _ _ _ _)
+returns c = rw c.row_at-row.ensures (replica_order _ _ _ _ _ _ _ _ _ _)
 

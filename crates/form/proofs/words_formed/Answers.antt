@@ -4,9 +4,6 @@ use Rattle.form.proofs.words_formed.Goals as goal
 
 pub returns : goal.returns
 returns c =
-    let replicas = c in
-    let blocks = replicas in
-    let steps = blocks in
-    rw (c.certificates_formed.ensures, replicas.replicas_formed.ensures, blocks.blocks_formed.ensures)
-    (rw (steps.steps_formed.ensures, steps.replica_count-replicas.ensures) (joined_all _ (_ ∷ _ ∷ _ ∷ [])))
+    rw (c.certificates_formed.ensures, c.replicas_formed.ensures, c.blocks_formed.ensures)
+    (rw (c.steps_formed.ensures, c.replica_count-replicas.ensures) (joined_all _ (_ ∷ _ ∷ _ ∷ [])))
 

@@ -14,18 +14,15 @@ loop-place-init c = (omega arith, refl)
 
 pub returns-then-not-is_allowed : goal.returns-then-not-is_allowed
 returns-then-not-is_allowed c =
-    let read = c in
     let a = c.args in
-    refuted_one (test a.movements.now a.replicas a.added) read.loop-place.place _ read.loop-place-test.true
-    (rw read.movement_in.ensures at (denied c.is_allowed.ensures c.if-not-is_allowed.true))
+    refuted_one (test a.movements.now a.replicas a.added) c.loop-place.place _ c.loop-place-test.true
+    (rw c.movement_in.ensures at (denied c.is_allowed.ensures c.if-not-is_allowed.true))
 
 pub loop-place-preserved : goal.loop-place-preserved
 loop-place-preserved c =
-    let read = c in
-    let looped = read in
-    let a = looped.args in (
-      omega (arith, read.loop-place-test.true),
-      next (test a.movements.now a.replicas a.added) looped.loop-place.place looped.loop-place.invariant.1
-          (rw read.movement_in.ensures at (granted c.is_allowed.ensures c.if-not-is_allowed.false)),
+    let a = c.args in (
+      omega (arith, c.loop-place-test.true),
+      next (test a.movements.now a.replicas a.added) c.loop-place.place c.loop-place.invariant.1
+          (rw c.movement_in.ensures at (granted c.is_allowed.ensures c.if-not-is_allowed.false)),
     )
 

@@ -6,18 +6,15 @@ use Rattle.quorum.proofs.greatest.Goals.{then-best_view-of_view, else-best_view-
 
 pub loop-i-init : goal.loop-i-init
 loop-i-init c =
-    let entry = c in
-    (search rules, best_start _ _ _ entry.requires.1 c.certificate_word-best_view.ensures)
+    (search rules, best_start _ _ _ c.requires.1 c.certificate_word-best_view.ensures)
 
 pub loop-i-preserved : goal.loop-i-preserved
 loop-i-preserved c =
-    let at-certificate-word2 = c in
-    let turn = at-certificate-word2 in
-    let read = at-certificate-word2.certificate_word-of_view.ensures in
-    let l = turn.loop-i in
+    let read = c.certificate_word-of_view.ensures in
+    let l = c.loop-i in
     let b = l.invariant.1 in (
       search rules,
-      (elim c.if-best_view-of_view.branch [ then-best_view-of_view w ↦ rw (w.best-is, w.best_view-is) (best_taken _ _ l.i l.best l.best_view b _ turn.loop-i-test.true read w.if-best_view-of_view.true) | else-best_view-of_view w ↦ rw (w.best-is, w.best_view-is) (best_kept _ _ l.i l.best l.best_view b _ turn.loop-i-test.true read w.if-best_view-of_view.false) ]),
+      (elim c.if-best_view-of_view.branch [ then-best_view-of_view w ↦ rw (w.best-is, w.best_view-is) (best_taken _ _ l.i l.best l.best_view b _ c.loop-i-test.true read w.if-best_view-of_view.true) | else-best_view-of_view w ↦ rw (w.best-is, w.best_view-is) (best_kept _ _ l.i l.best l.best_view b _ c.loop-i-test.true read w.if-best_view-of_view.false) ]),
     )
 
 pub returns : goal.returns

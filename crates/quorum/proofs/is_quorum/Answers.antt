@@ -10,13 +10,11 @@ loop-i-init c = (search rules, passes_quorum _ _)
 
 pub loop-i-preserved : goal.loop-i-preserved
 loop-i-preserved c =
-    let read = c in
-    let turn = read in
-    let l = turn.loop-i in
-    let a = turn.args in (
+    let l = c.loop-i in
+    let a = c.args in (
       search rules,
-      rw (c.is_wanted.ensures, c.is_seen.ensures, c.with_signer-seen.ensures, read.certificate_word-signer.ensures)
-          (passes_step (wants a.wanted) a.log.now a.list.now l.i l.seen l.ok turn.loop-i-test.true)
+      rw (c.is_wanted.ensures, c.is_seen.ensures, c.with_signer-seen.ensures, c.certificate_word-signer.ensures)
+          (passes_step (wants a.wanted) a.log.now a.list.now l.i l.seen l.ok c.loop-i-test.true)
           ∙ l.invariant.1,
     )
 

@@ -6,12 +6,10 @@ use Rattle.quorum.proofs.is_wanted.Goals as goal
 pub returns-in-Commit : goal.returns-in-Commit
 unfolding all_hold
 returns-in-Commit c =
-    let case = c in
-    let read = case in
     simp (
       c.in-Commit.is,
-      read.certificate_word-kind.ensures,
-      read.certificate_word-in_view.ensures,
+      c.certificate_word-kind.ensures,
+      c.certificate_word-in_view.ensures,
       c.certificate_word.ensures,
       and_assoc,
       and-true,
@@ -20,22 +18,18 @@ returns-in-Commit c =
 pub returns-in-NewView : goal.returns-in-NewView
 unfolding all_hold
 returns-in-NewView c =
-    let case = c in
-    let read = case in
-    simp (c.in-NewView.is, read.certificate_word-kind.ensures, read.certificate_word-in_view.ensures, and-true)
+    simp (c.in-NewView.is, c.certificate_word-kind.ensures, c.certificate_word-in_view.ensures, and-true)
 
 pub returns-in-Reply : goal.returns-in-Reply
 unfolding all_hold
 returns-in-Reply c =
-    let case = c in
-    let read = case in
     let subject = c.certificate_word-in-Reply.ensures in
     let boot = c.certificate_word-in-Reply-2.ensures in
     let signer = c.certificate_word-in-Reply-3.ensures in
     simp (
       c.in-Reply.is,
-      read.certificate_word-kind.ensures,
-      read.certificate_word-in_view.ensures,
+      c.certificate_word-kind.ensures,
+      c.certificate_word-in_view.ensures,
       subject,
       boot,
       signer,

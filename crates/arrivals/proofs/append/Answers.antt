@@ -3,5 +3,4 @@ use Rattle.arrivals.proofs.append.Goals as goal
 
 pub returns : goal.returns
 returns c =
-    let start = c in
-    rw c.set_entry.ensures (appended start.args.waiting.now start.args.e)
+    rw c.set_entry.ensures (appended c.args.waiting.now c.args.e)

@@ -11,11 +11,8 @@ loop-slot-init c = (omega arith, refl)
 
 pub loop-slot-preserved : goal.loop-slot-preserved
 loop-slot-preserved c =
-    let tested = c in
-    let read = tested in
-    let looped = read in
-    let a = looped.args in (
-      omega (arith, read.loop-slot-test.true),
-      rw (tested.is_allowed-formed.ensures, read.entry_in.ensures, looped.loop-slot.invariant.1)
-          (one_more (test a.waiting.now a.replicas) looped.loop-slot.slot),
+    let a = c.args in (
+      omega (arith, c.loop-slot-test.true),
+      rw (c.is_allowed-formed.ensures, c.entry_in.ensures, c.loop-slot.invariant.1)
+          (one_more (test a.waiting.now a.replicas) c.loop-slot.slot),
     )

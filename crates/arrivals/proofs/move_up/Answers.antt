@@ -5,14 +5,13 @@ use Rattle.arrivals.proofs.move_up.Goals as goal
 
 pub loop-at-preserved : goal.loop-at-preserved
 loop-at-preserved c =
-    let looped = c.loop-at in
-    let start = c in (
+    let looped = c.loop-at in (
       omega arith,
       (
         omega (arith, c.loop-at-test.true),
         (
-          moved_one start.args.waiting.now looped.waiting start.args.start looped.at looped.invariant.0
-              (omega (arith, c.loop-at-test.true, start.requires)) looped.invariant.1.1.0,
+          moved_one c.args.waiting.now looped.waiting c.args.start looped.at looped.invariant.0
+              (omega (arith, c.loop-at-test.true, c.requires)) looped.invariant.1.1.0,
           simp length-set looped.invariant.1.1.1,
         ),
       ),

@@ -11,24 +11,19 @@ loop-slot-init c =
 
 pub with_entry-so_far-requires : goal.with_entry-so_far-requires
 with_entry-so_far-requires c =
-    let looped = c in
-    let start = looped in
-    let h = start.requires in
-    let w = start.args.waiting.now in
-    let slot = looped.loop-slot.slot in
-    let own = h.pallets (slot - 1) (omega (arith, c.loop-slot-test.true, looped.loop-slot.invariant.0)) in
-    let rest = few_pallets w start.args.taker (waiting_count w - slot) slot (λ k l. h.pallets k (omega (arith, l, looped.loop-slot.invariant.0))) in
-    rw (c.entry_in.ensures, looped.loop-slot.invariant.1) (omega (arith, own, rest, h.few))
+    let h = c.requires in
+    let w = c.args.waiting.now in
+    let slot = c.loop-slot.slot in
+    let own = h.pallets (slot - 1) (omega (arith, c.loop-slot-test.true, c.loop-slot.invariant.0)) in
+    let rest = few_pallets w c.args.taker (waiting_count w - slot) slot (λ k l. h.pallets k (omega (arith, l, c.loop-slot.invariant.0))) in
+    rw (c.entry_in.ensures, c.loop-slot.invariant.1) (omega (arith, own, rest, h.few))
 
 pub loop-slot-preserved : goal.loop-slot-preserved
 loop-slot-preserved c =
-    let read = c in
-    let looped = read in
-    let start = looped in
-    let w = start.args.waiting.now in
-    let slot = looped.loop-slot.slot in
-    let some = read.loop-slot-test.true in (
-      omega (arith, some, looped.loop-slot.invariant.0),
-      rw (c.with_entry-so_far.ensures, read.entry_in.ensures, looped.loop-slot.invariant.1)
-          (one_tallied w start.args.taker (waiting_count w) slot some looped.loop-slot.invariant.0),
+    let w = c.args.waiting.now in
+    let slot = c.loop-slot.slot in
+    let some = c.loop-slot-test.true in (
+      omega (arith, some, c.loop-slot.invariant.0),
+      rw (c.with_entry-so_far.ensures, c.entry_in.ensures, c.loop-slot.invariant.1)
+          (one_tallied w c.args.taker (waiting_count w) slot some c.loop-slot.invariant.0),
     )

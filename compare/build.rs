@@ -21,9 +21,13 @@ fn main() {
             format!("{root}/target/staticlib")
         }
     };
-    for source in [format!("{root}/crates"), format!("{root}/crates.txt"), format!("{directory}/libfirmware.a")] {
-        println!("cargo:rerun-if-changed={source}");
+    let mut sources = vec![format!("{root}/crates.txt"), format!("{directory}/libfirmware.a")];
+    // A crate's folder out/ changes with every check.
+    for entry in std::fs::read_dir(format!("{root}/crates")).into_iter().flatten().flatten() {
+        let parts = ["src", "specs", "proofs"].map(|part| entry.path().join(part));
+        sources.extend(parts.iter().filter(|part| part.exists()).map(|part| part.display().to_string()));
     }
+    sources.iter().for_each(|source| println!("cargo:rerun-if-changed={source}"));
     println!("cargo:rustc-link-search=native={directory}");
     println!("cargo:rustc-link-lib=static=firmware");
 }

@@ -1,6 +1,6 @@
 -- What a call answers, by the first need that fails, or by its rule where none does.
 use Prim.Native.Nat.{ℕ}
-use mathlib.Core.Path.{◌≡◌, refl, sym}
+use mathlib.Core.Path.{◌≡◌, sym}
 use Rattle.protocol.specs.declared.Answer.{Answer}
 use Rattle.protocol.specs.Outcome.{first_refusal, told}
 use Rattle.protocol.proofs.calls.Needs.{refuses, accepts}

@@ -1,19 +1,18 @@
 -- What is known once the form of the four slices is tested.
-use Prim.Native.Nat.{ℕ, ◌+◌, ◌≤◌, ◌<◌}
-use mathlib.Core.Path.{◌≡◌, refl}
-use mathlib.Core.Bool.{true, false, ◌&&◌}
-use mathlib.Core.List.{List}
+use Prim.Native.Nat.{ℕ, ◌≤◌, ◌<◌}
+use mathlib.Core.Path.{◌≡◌}
+use mathlib.Core.Bool.{true}
 use native.Mathlib.Omega.{arith}
 use lib.ListN.{length}
 use Rattle.protocol.specs.Memory.{replica_count, fault_bound}
 use Rattle.protocol.specs.Form.{well_formed}
-use Rattle.protocol.proofs.logic.Booleans.{tests, by-test, and-true}
+use Rattle.protocol.proofs.logic.Booleans.{and-true}
 use Rattle.protocol.proofs.memory.Formed as Memory
 use Rattle.protocol.proofs.memory.Formed.{Sizes, sizes}
 use Rattle.movements.specs.Movements.{max_pallets}
-use Rattle.entries.specs.Entries.{max_waiting, max_replicas, entry_at, waiting_words, waiting_count, entry, entries, entry_allowed, waiting_formed}
+use Rattle.entries.specs.Entries.{max_waiting, max_replicas, waiting_words, waiting_count, entry, entry_allowed, waiting_formed}
 use Rattle.entries.specs.Waiting.{Lent}
-use Rattle.entries.proofs.Lists.{All, from_all}
+use Rattle.entries.proofs.Lists.{from_all}
 use Rattle.entries.proofs.Slices as Slices
 use Rattle.entries.proofs.Slices.{is-allowed}
 use Rattle.waiting.specs.inner.Parts.{is_ready}

@@ -1,14 +1,14 @@
 -- What a match answers, once its first needs are tested and the slot of its identity is found.
-use Prim.Native.Nat.{ℕ, ◌+◌, ◌≤◌, ◌<◌}
-use mathlib.Core.Path.{◌≡◌, refl, sym, ap, ◌∙◌}
+use Prim.Native.Nat.{ℕ, ◌<◌}
+use mathlib.Core.Path.{◌≡◌, refl, sym, ◌∙◌}
 use mathlib.Core.Bool.{Bool, true, false}
-use mathlib.Core.List.{List, [], ◌∷◌, ◌++◌}
+use mathlib.Core.List.{List, [], ◌∷◌}
 use native.Mathlib.Omega.{arith}
 use lib.Dec.{ltb}
 use Rattle.protocol.specs.declared.Answer.{Answer}
-use Rattle.protocol.specs.Memory.{memory, replica_count, fault_bound, block_count, replica}
+use Rattle.protocol.specs.Memory.{replica_count, fault_bound, block_count}
 use Rattle.protocol.specs.Form.{all_hold, all_below}
-use Rattle.protocol.specs.Outcome.{Need, ◌else◌, first_refusal, told, wrong_identity, wrong_certificate}
+use Rattle.protocol.specs.Outcome.{◌else◌, first_refusal, told, wrong_identity, wrong_certificate}
 use Rattle.protocol.specs.FirstNeeds.{is_replica}
 use Rattle.protocol.proofs.logic.Booleans.{tests}
 use Rattle.form.proofs.Within.{replica_bounds}
@@ -17,16 +17,15 @@ use Rattle.checks.specs.declared.Tested.TheVariants as Test
 use Rattle.checks.specs.inner.Verdicts.{tested, test_refusal}
 use Rattle.checks.proofs.Verdicts.{was_refused, tested_is}
 use Rattle.checks.proofs.Passing.{start, stops_at, held}
-use Rattle.movements.specs.Movements.{max_movements, movement, movement_count, movement_allowed, is_movement_list}
+use Rattle.movements.specs.Movements.{movement, movement_count, movement_allowed, is_movement_list}
 use Rattle.movements.proofs.Allowed.{list_short}
 use Rattle.ancestry.proofs.Fitting.{ancestry_fits}
-use Rattle.entries.specs.Entries.{place_at, waiting_words, waiting_count, entry, entries, is_waiting, entry_of}
-use Rattle.entries.specs.Waiting.{Lent, lent, Match, departed, match_rule, waiting_rule, waiting_step}
+use Rattle.entries.specs.Entries.{waiting_count, entries, is_waiting}
+use Rattle.entries.specs.Waiting.{Lent, Match, match_rule, waiting_rule, waiting_step}
 use Rattle.arrivals.specs.inner.Found.{Found}
-use Rattle.arrivals.proofs.Finding.{not_found, found, found_entry}
-use Rattle.waiting.specs.inner.Parts.{listed_needs, left_by, Fitting, movement_fits}
+use Rattle.arrivals.proofs.Finding.{found, found_entry}
+use Rattle.waiting.specs.inner.Parts.{listed_needs, Fitting, movement_fits}
 use Rattle.waiting.proofs.Known.{Known, known}
-use Rattle.waiting.proofs.Leaving.{left_departed}
 
 -- Three tests with one number.
 three_fail : (a b c : Bool) (n : ℕ) → all_hold (a ∷ b ∷ c ∷ []) ≡ false → first_refusal (a else n ∷ b else n ∷ c else n ∷ []) ≡ n

@@ -7,7 +7,6 @@ use mathlib.Core.List.{List, [], ◌∷◌, ◌++◌}
 use native.Mathlib.Omega.{arith}
 use lib.ListN.{length, get_or, replicate, get_or-append}
 use lib.Seq.{get_or-append-add}
-use Rattle.protocol.specs.Memory.{replica_count, fault_bound, block_count}
 use Rattle.protocol.specs.Form.{all_hold, all_below}
 use Rattle.protocol.specs.Outcome.{Answer, unknown_number, wrong_movement, wrong_identity, wrong_certificate, waiting_full, accepted, refused}
 use Rattle.protocol.proofs.logic.Booleans.{all-hold, all-below}

@@ -1,8 +1,8 @@
 -- Asks: "asking for a taker returns these two as its values"; "asking for a taker that is no box returns 2."
-use Rattle.std.specs.Prelude.{ℕ, List, [], ◌∷◌, ◌++◌, replicate}
+use Rattle.std.specs.Prelude.{List, [], ◌∷◌, replicate}
 use Rattle.protocol.specs.Outcome.{out_of_range, wrong_movement, accepted, refused}
 use Rattle.entries.specs.Waiting.{lent}
-use Rattle.entries.specs.cases.Rows.{enters, withdraws, asks, Row, ◌gives◌, ◌gives◌leaving◌, ◌holds◌, Case}
+use Rattle.entries.specs.cases.Rows.{enters, asks, ◌gives◌, ◌gives◌leaving◌, ◌holds◌, Case}
 use Rattle.entries.specs.cases.Starts.{sixty_one, nothing, on}
 
 -- The words of each taker stand beside those of the next: 0, 1 and 2 of replicas 0 to 2.

@@ -2,7 +2,7 @@
 use Rattle.std.specs.Prelude.{ℕ, List, [], ◌∷◌, ◌++◌, replicate}
 use Rattle.std.proofs.lemmas.List.Edits.{sets}
 use Rattle.protocol.specs.Outcome.{wrong_form, unknown_number, wrong_movement, wrong_identity, wrong_certificate, waiting_full, accepted, refused}
-use Rattle.entries.specs.cases.Rows.{enters, withdraws, matches, asks, Row, ◌gives◌, Case}
+use Rattle.entries.specs.cases.Rows.{enters, withdraws, matches, asks, ◌gives◌, Case}
 use Rattle.entries.specs.cases.Starts.{repeated, moves, waits, by_hand, on}
 
 -- ---- entries

@@ -1,8 +1,7 @@
 -- A worked day: firms 0, 1 and 2 open a ledger with entries that wait, and decide one block. After each step that could change them stand the
 -- pallets waiting for a taker and the earliest identity, as an Ask returns them; and what a full pass over the day's events gives.
-use Rattle.std.specs.Prelude.{ℕ, ◌≡◌, Bool, true, false, List, [], ◌∷◌, ◌++◌, map, take, replicate}
+use Rattle.std.specs.Prelude.{ℕ, ◌≡◌, true, false, List, [], ◌∷◌, ◌++◌, map, take, replicate}
 use Rattle.protocol.specs.declared.Call.TheVariants.{Block, Prepare, Store, View, Accumulate, Decide}
-use Rattle.protocol.specs.declared.Call.TheVariants as Plain
 use Rattle.protocol.specs.declared.Justification.TheVariants.{Acc}
 use Rattle.protocol.specs.Outcome.{Answer, wrong_movement, wrong_identity, wrong_certificate, accepted, refused}
 use Rattle.protocol.specs.Runs.{plain, ◌on◌}

@@ -1,7 +1,7 @@
 -- Entries that are entered: "Entering returns 11 for an identity of 0 or a breach of those rules"; "13 for an identity already waiting".
 use Rattle.std.specs.Prelude.{List, [], ◌∷◌, ◌++◌}
 use Rattle.protocol.specs.Outcome.{wrong_movement, wrong_identity, accepted, refused}
-use Rattle.entries.specs.cases.Rows.{enters, asks, Row, ◌gives◌, ◌gives◌leaving◌, Case}
+use Rattle.entries.specs.cases.Rows.{enters, asks, ◌gives◌, ◌gives◌leaving◌, Case}
 use Rattle.entries.specs.cases.Starts.{nothing, waits, by_hand, on}
 
 -- Each limit of an entry passed by one, and then met.

@@ -1,9 +1,9 @@
 -- The form of the further slice: each test met, and passed by one. "A further slice of the ledger [..] holds all this; 1 covers its form."
 use Rattle.std.specs.Prelude.{ℕ, List, [], ◌∷◌, ◌++◌, replicate}
-use Rattle.protocol.specs.Outcome.{Answer, wrong_form, accepted, refused}
+use Rattle.protocol.specs.Outcome.{wrong_form, accepted, refused}
 use Rattle.entries.specs.Waiting.{lent}
 use Rattle.entries.specs.cases.Rows.{enters, withdraws, matches, asks, Row, ◌gives◌, ◌gives◌leaving◌, Case}
-use Rattle.entries.specs.cases.Starts.{forked, broken_ledger, moves, waits, by_hand, on}
+use Rattle.entries.specs.cases.Starts.{broken_ledger, moves, waits, by_hand, on}
 
 -- The kept words are handed out as they are: 77, which no entry gives.
 abbrev formed : List ℕ → Case

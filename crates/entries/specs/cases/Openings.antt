@@ -1,6 +1,6 @@
 -- Openings that are lent the further slice: "An accepted opening empties the entries and these places."
 use Rattle.std.specs.Prelude.{ℕ, List, [], ◌∷◌, replicate}
-use Rattle.protocol.specs.Memory.{Memory, memory}
+use Rattle.protocol.specs.Memory.{memory}
 use Rattle.protocol.specs.Outcome.{wrong_form, out_of_range, wrong_certificate, wrong_steps, wrong_identity, accepted, refused}
 use Rattle.entries.specs.Waiting.{Lent, lent}
 use Rattle.entries.specs.Arrivals.{LedgerCall, ledger_step, ledger_after}

@@ -2,7 +2,7 @@
 use Rattle.std.specs.Prelude.{ℕ, zero, suc, List, [], ◌∷◌, ◌++◌, replicate}
 use Rattle.std.proofs.lemmas.List.Edits.{sets}
 use Rattle.protocol.specs.Memory.{Memory, memory}
-use Rattle.entries.specs.Waiting.{Lent, lent}
+use Rattle.entries.specs.Waiting.{lent}
 use Rattle.entries.specs.cases.Rows.{Row, Case}
 
 -- The words so many times, and the rest.

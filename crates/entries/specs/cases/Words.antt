@@ -2,13 +2,13 @@
 -- each of 61 takers, pallets and earliest identity, from word 1 on; 512 entries of four words, identity, giver, taker and pallets, from word
 -- 123 on; a word for each of 2,048 places, from word 2171 on: 4,219 in all. Each call is made where every word that it sets is another
 -- before.
-use Rattle.std.specs.Prelude.{ℕ, List, [], ◌∷◌, ◌++◌, replicate}
+use Rattle.std.specs.Prelude.{List, [], ◌∷◌, ◌++◌, replicate}
 use Rattle.protocol.specs.Memory.{memory}
 use Rattle.protocol.specs.Theorems.{table_word, block_word}
 use Rattle.protocol.specs.Outcome.{accepted}
 use Rattle.protocol.specs.cases.Rows.{◌reads◌}
 use Rattle.entries.specs.Waiting.{lent}
-use Rattle.entries.specs.cases.Rows.{opens, enters, withdraws, matches, asks, Row, ◌gives◌, ◌gives◌leaving◌, Stretch, ◌holds◌, ledger, Case}
+use Rattle.entries.specs.cases.Rows.{opens, enters, withdraws, matches, asks, Row, ◌gives◌, ◌gives◌leaving◌, ◌holds◌, ledger, Case}
 use Rattle.entries.specs.cases.Starts.{moves, waits, by_hand, on}
 
 -- Every word of the slice becomes 0; the ledger's are those of its own opening, with the pool's own steps too.

@@ -1,0 +1,7 @@
+use Rattle.arrivals.proofs.Holding.{closed}
+use Rattle.arrivals.proofs.take_out.Goals as goal
+
+pub returns : goal.returns
+returns c =
+    rw (c.move_up.ensures, c.entry_at-2.ensures, c.entry_at.ensures)
+    (closed c.args.waiting.now c.args.slot c.requires)

@@ -89,10 +89,10 @@ module _ (m : Memory) (i b : ℕ) (j : Justification) (list : List ℕ) where
   abbrev pub last_needs : List Need
   last_needs = proposal_needs (fault_bound m) i (replica m i) b (parent m b) given.view given.block
 
-  abbrev after_judging : List Need
+  abbrev pub after_judging : List Need
   after_judging = last_needs ++ slot m (prop_of i (replica m i).boot given.view b)
 
-  abbrev after_first : List Need
+  abbrev pub after_first : List Need
   after_first = judgement_needs i j (certificates_of m (numbers_of j list)) ++ after_judging
 
   pub prepare_at : At (prepare m i b j list) (replica_needs m i ++ (first_needs ++ after_first))

@@ -2,12 +2,11 @@
 #![tactic(auto)]
 
 ghost use Rattle.std.specs.Prelude.{◌≡◌, ◌≤◌, length, take};
-ghost use Rattle.io.specs.Counts.{clamp_len};
 ghost use Rattle.stream.specs.Stream.{new_stream, stream_of};
 ghost use Rattle.stream.specs.Turns.{taken, Ran};
 ghost use Rattle.yard.specs.inner.Writing.{chunk_bytes, InPlace, Flushed, Writes};
 
-use libc::{STDIN_FILENO, STDOUT_FILENO};
+use std::io::{Read, Stdin, Stdout, Write};
 use stream::{MAX_LINES, Progress};
 
 // How often a read, or a text's writes, may fail: a signal may have come in between.
@@ -30,17 +29,16 @@ const LOG_WORDS: usize = CERTIFICATES * certificate_log::CERTIFICATE_WORDS;
 
 const BLOCKS_WORDS: usize = BLOCKS * blocks::BLOCK_WORDS;
 
-// Reads once, and again where that fails. Gives how many bytes came, 0 at the end of the input, or -1.
-fn read_chunk(chunk: &mut [u8; CHUNK_BYTES]) -> isize {
+// Reads once, and again where that fails. Gives how many bytes came, 0 at the end of the input, or none where each read fails.
+fn read_chunk(mut input: Stdin, chunk: &mut [u8; CHUNK_BYTES]) -> Option<usize> {
     let mut tries = TRIES;
     while 0 < tries {
-        let got = libc::read(STDIN_FILENO, chunk);
-        if 0 <= got {
-            return got;
+        if let Ok(got) = input.read(chunk) {
+            return Some(got);
         }
         tries -= 1;
     }
-    -1
+    None
 }
 
 // Takes what a read gave: all bytes that came, or the end of the input. The text of the answers is then to be written.
@@ -51,16 +49,16 @@ fn take_read(
     line: &mut [u8; stream::HELD_PLACES],
     text: &mut [u8; TEXT_BYTES],
     chunk: &[u8],
-    got: isize,
+    got: usize,
     p: Progress,
 ) -> Progress
     requires { (length chunk.now ≡ chunk_bytes) × Flushed p }
     ensures text_after { stream_of result table.new log.new blocks.new line.new text.new
         ≡ taken (stream_of p table.old log.old blocks.old line.old text.old)
-        (take (clamp_len got (length chunk.now)) chunk.now) }
+        (take got chunk.now) }
     ensures in_place { InPlace result }
 {
-    let n = io::count(got, chunk);
+    let n = got.min(chunk.len());
     if n == 0 {
         return stream::finish(table, log, blocks, line, text, p);
     }
@@ -68,7 +66,7 @@ fn take_read(
 }
 
 // Writes a text, in several parts where need be. Gives whether all of it was written.
-fn write_text(text: &[u8]) -> bool {
+fn write_text(mut output: Stdout, text: &[u8]) -> bool {
     let mut sent = 0;
     let mut tries = TRIES;
     while 0 < tries {
@@ -76,7 +74,7 @@ fn write_text(text: &[u8]) -> bool {
             return true;
         }
         let rest = &text[sent..];
-        let put = io::count(libc::write(STDOUT_FILENO, rest), rest);
+        let put = output.write(rest).unwrap_or(0);
         if put == 0 {
             tries -= 1;
         } else {
@@ -94,12 +92,12 @@ enum Written {
 }
 
 // Writes the text that is to be written.
-fn write_pending(text: &[u8], p: Progress) -> Written
+fn write_pending(output: Stdout, text: &[u8], p: Progress) -> Written
     requires { p.pending ≤ length text.now }
     ensures { Writes p result }
 {
     let pending = p.pending;
-    if !write_text(&text[..pending]) {
+    if !write_text(output, &text[..pending]) {
         return Written::Failed;
     }
     Written::All(Progress {
@@ -113,6 +111,8 @@ fn write_pending(text: &[u8], p: Progress) -> Written
 // Reads, answers and writes, until the input ends, line 99,999,999 is answered, or a read or a write fails. A proved loop ends: it counts
 // its turns, from a number that no run uses up.
 fn run(
+    input: Stdin,
+    output: Stdout,
     table: &mut [u32; TABLE_WORDS],
     log: &mut [u32; LOG_WORDS],
     blocks: &mut [u32; BLOCKS_WORDS],
@@ -130,12 +130,11 @@ fn run(
     let mut turns = u64::MAX;
     while 0 < turns {
         turns -= 1;
-        let got = read_chunk(chunk);
-        if got < 0 {
+        let Some(got) = read_chunk(input, chunk) else {
             return p;
-        }
+        };
         let next = take_read(table, log, blocks, line, text, chunk, got, p);
-        let written = write_pending(text, next);
+        let written = write_pending(output, text, next);
         let Written::All(rest) = written else {
             return next;
         };
@@ -149,6 +148,8 @@ fn run(
 
 // Runs from what the program starts with: nothing is opened, read or held.
 fn starts(
+    input: Stdin,
+    output: Stdout,
     table: &mut [u32; TABLE_WORDS],
     log: &mut [u32; LOG_WORDS],
     blocks: &mut [u32; BLOCKS_WORDS],
@@ -161,10 +162,10 @@ fn starts(
     ensures { Ran new_stream
         (stream_of result table.new log.new blocks.new line.new text.new) }
 {
-    run(table, log, blocks, line, text, chunk, p)
+    run(input, output, table, log, blocks, line, text, chunk, p)
 }
 
-fn main() {
+fn main(rt: HostRuntime) {
     let mut table = [0u32; TABLE_WORDS];
     let mut log = [0u32; LOG_WORDS];
     let mut blocks = [0u32; BLOCKS_WORDS];
@@ -178,6 +179,8 @@ fn main() {
         pending: 0,
     };
     starts(
+        rt.stdin(),
+        rt.stdout(),
         &mut table,
         &mut log,
         &mut blocks,

@@ -1,0 +1,6 @@
+-- The balance is read back from its bits.
+use Rattle.firmware.proofs.Balance.{one_balance}
+use Rattle.firmware.proofs.yard_balance.Goals as goal
+
+pub returns : goal.returns
+returns c = one_balance _ _ _ _ _ c.net-answer.ensures

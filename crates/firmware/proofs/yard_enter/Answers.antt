@@ -1,0 +1,6 @@
+-- An enter has no value.
+use Rattle.firmware.proofs.Waiting.{entered_valueless}
+use Rattle.firmware.proofs.yard_enter.Goals as goal
+
+pub returns : goal.returns
+returns c = entered_valueless _ _ _ c.enter.ensures

@@ -1,0 +1,6 @@
+-- The panel has one value.
+use Rattle.firmware.proofs.Panel.{one_value}
+use Rattle.firmware.proofs.yard_panel.Goals as goal
+
+pub returns : goal.returns
+returns c = one_value _ _ _ c.panel-answer.ensures

@@ -1,0 +1,6 @@
+-- A withdrawal has no value.
+use Rattle.firmware.proofs.Waiting.{withdrawn_valueless}
+use Rattle.firmware.proofs.yard_withdraw.Goals as goal
+
+pub returns : goal.returns
+returns c = withdrawn_valueless _ _ _ c.withdraw.ensures

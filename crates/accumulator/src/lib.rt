@@ -5,9 +5,9 @@ ghost use Rattle.std.specs.Prelude.{◌≡◌};
 ghost use Rattle.protocol.specs.Outcome.{outcome, outcome_by};
 ghost use Rattle.protocol.specs.Calls.{accumulate as accumulate_rule, decide as decide_rule};
 
+use certificate_log::{ACC, Certificate, VIEW_AT, certificate_in, certificate_word};
 use checks::{FoundReplica, Tested, accepted, need, refused};
 use issuing::issue;
-use certificate_log::{ACC, Certificate, VIEW_AT, certificate_in, certificate_word};
 use protocol::{Answer, WRONG_CERTIFICATE, WRONG_STATUS};
 use table::{DECIDED_BLOCK_AT, DECIDED_VIEW_AT, LIVE};
 

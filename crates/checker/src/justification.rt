@@ -6,8 +6,8 @@ ghost use Rattle.quorum.specs.inner.Lists.{certificates_in};
 ghost use Rattle.checks.specs.inner.Verdicts.{tested};
 ghost use Rattle.checker.specs.inner.Justifications.{Justifying, judgement_of, judgement_refusal};
 
-use checks::{Tested, need};
 use certificate_log::ACC;
+use checks::{Tested, need};
 use protocol::{ACCEPTED, Justification, UNKNOWN_NUMBER, WRONG_CERTIFICATE};
 use table::CERTIFICATE_COUNT_AT;
 

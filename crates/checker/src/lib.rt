@@ -19,10 +19,10 @@ ghost use Rattle.checks.specs.inner.Verdicts.{tested};
 
 use self::justification::{Judgement, Justified};
 use blocks::ROOT;
+use certificate_log::{COMMIT, Certificate, NEWVIEW, PROP};
 use checks::{FoundCertificate, FoundReplica, Tested, need, refused};
 use issuing::issue;
 use leader::FIRST_VIEW;
-use certificate_log::{COMMIT, Certificate, NEWVIEW, PROP};
 use protocol::{
     Answer, COUNTER_LIMIT, Justification, OUT_OF_RANGE, UNKNOWN_NUMBER, WRONG_BLOCK,
     WRONG_CERTIFICATE, WRONG_STATUS, WRONG_VIEW,

@@ -8,9 +8,9 @@ ghost use Rattle.certificate_log.specs.inner.Certificates.{certificate_of};
 ghost use Rattle.records.specs.inner.Replicas.{assignments, Settable};
 ghost use Rattle.issuing.specs.inner.Issuable.{Issuable};
 
+use certificate_log::Certificate;
 use certificates::Filed;
 use checks::{accepted, refused};
-use certificate_log::Certificate;
 use protocol::Answer;
 
 // The answer of a call that issues, once its other needs hold: the certificate's number, and whether it was found or appended; or the

@@ -14,9 +14,9 @@ ghost use Rattle.certificate_log.specs.inner.Certificates.{certificate_of};
 ghost use Rattle.records.specs.inner.Replicas.{replica_of};
 ghost use Rattle.checks.specs.inner.Verdicts.{tested};
 
+use certificate_log::{Certificate, REPLY, REQ};
 use checks::{FoundCertificate, FoundReplica, Tested, accepted, need, refused};
 use issuing::issue;
-use certificate_log::{Certificate, REPLY, REQ};
 use protocol::{Answer, COUNTER_LIMIT, WRONG_CERTIFICATE, WRONG_STATUS};
 use records::Replica;
 use table::{

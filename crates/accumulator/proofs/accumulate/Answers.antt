@@ -131,4 +131,3 @@ certificate_in-c-requires c =
     let listed : Known = found_list found c.test_list-listed.ensures c.in-Passed.is in
     let known : Known = listed in
     known.there c.greatest-best.result
-

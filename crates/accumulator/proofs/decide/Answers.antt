@@ -121,4 +121,3 @@ is_commit_quorum-matching-requires c =
     let listed :
     (ListFound (memory c.args.table.now c.args.log.now c.args.blocks.now) c.args.replica c.args.list.now (decide_rule (memory c.args.table.now c.args.log.now c.args.blocks.now) c.args.replica c.args.list.now) (decide_needs (certificates_of (memory c.args.table.now c.args.log.now c.args.blocks.now) c.args.list.now)) c.in-Found.r) = found_list found c.test_list-listed.ensures c.in-Passed.is in
     listed.all
-

@@ -3,4 +3,3 @@ use Rattle.ancestry.proofs.mark_block.Goals as goal
 
 pub returns : goal.returns
 returns c = rw c.parent.ensures (block_marked _ _ _ c.requires)
-

@@ -18,4 +18,3 @@ overflow_add-result-3 c =
 
 pub returns : goal.returns
 returns c = by_height _ _ _ c.requires (below c)
-

@@ -37,4 +37,3 @@ pub loop-block-2-preserved : goal.loop-block-2-preserved
 loop-block-2-preserved c =
     let all = c.loop-block-2.invariant.1.1 in
     (search rules, (search rules, next _ _ all (granted c.block_formed.ensures c.if-not-block_formed.false)))
-

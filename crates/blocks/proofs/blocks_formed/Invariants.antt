@@ -17,4 +17,3 @@ invariant-loop-block-2 l = (1 ≤ l.block) × ((l.block ≤ l.added) × (all_bel
 
 abbrev pub decreases-loop-block-2 : goal.decreases-loop-block-2
 decreases-loop-block-2 l = l.added - l.block
-

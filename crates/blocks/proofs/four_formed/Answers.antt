@@ -17,4 +17,3 @@ two_formed-requires-2 c =
 pub returns : goal.returns
 returns c =
     rw (← two_twos _ _, granted c.two_formed.ensures c.if-not-two_formed.false) c.two_formed-2.ensures
-

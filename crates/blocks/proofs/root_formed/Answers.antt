@@ -6,4 +6,3 @@ use Rattle.blocks.proofs.root_formed.Goals as goal
 
 pub returns : goal.returns
 returns c = (λ d. eqb (c.parent-parent.ensures d) 0 && eqb (c.height-height.ensures d) 0) ∙ root_test _ _
-

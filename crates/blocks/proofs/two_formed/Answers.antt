@@ -9,4 +9,3 @@ pub block_formed-requires-2 : goal.block_formed-requires-2
 block_formed-requires-2 c =
     let t = c.requires in
     after _ _ _ t 1 1 (omega arith) (next _ _ t.before (granted c.block_formed.ensures c.if-not-block_formed.false))
-

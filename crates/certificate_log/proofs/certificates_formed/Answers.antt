@@ -1,6 +1,4 @@
-use Prim.Native.Nat.{◌-◌}
 use mathlib.Core.Path.{sym, ap, ◌∙◌}
-use mathlib.Core.Bool.{true}
 use borrow.Author.Rules.{rules}
 use native.Mathlib.Omega.{arith}
 use Rattle.protocol.specs.Form.{all_below}
@@ -56,4 +54,3 @@ loop-number-2-preserved c =
     let kind = granted c.has_kind.ensures c.if-not-has_kind.false in
     let limits = sym c.exceeds.ensures ∙ c.if-exceeds.false in
     (search rules, next _ _ loop.invariant.1 (formed _ _ _ pre.1 pre.2 loop.number kind limits))
-

@@ -18,4 +18,3 @@ invariant-loop-number-2 l = (l.number ≤ l.count) × (all_below l.number (certi
 
 abbrev pub decreases-loop-number-2 : goal.decreases-loop-number-2
 decreases-loop-number-2 l = l.count - l.number
-

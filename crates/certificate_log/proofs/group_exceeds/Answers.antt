@@ -1,8 +1,5 @@
 use native.Mathlib.Nat.{add-zero}
 use Rattle.certificate_log.specs.inner.Records.{some_below, group_exceeds}
-use Rattle.certificate_log.proofs.group_exceeds.Reads as reads
-use Rattle.certificate_log.proofs.group_exceeds.Lts as lts
-use Rattle.certificate_log.proofs.exceeds.Reads as exceeds-reads
 use Rattle.certificate_log.proofs.group_exceeds.Goals as goal
 
 pub returns : goal.returns
@@ -12,4 +9,3 @@ returns c =
     (rw (c.exceeds-3.ensures, c.exceeds-4.ensures)
     (rw (c.exceeds-5.ensures, c.exceeds-6.ensures)
     (rw (c.exceeds-7.ensures, c.exceeds-8.ensures) (simp add-zero))))
-

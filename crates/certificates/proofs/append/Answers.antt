@@ -6,4 +6,3 @@ use Rattle.certificates.proofs.append.Goals as goal
 
 pub returns : goal.returns
 returns c b = written c.args.table.now _ b (words (certificate_of c.args.c))
-

@@ -12,4 +12,3 @@ returns-then-count-log c b =
 
 pub returns : goal.returns
 returns c b = files_none _ _ _ _ c.find-number.ensures b c.if-number-count.false c.if-count-log.false
-

@@ -26,4 +26,3 @@ pub loop-number-2-preserved : goal.loop-number-2-preserved
 loop-number-2-preserved c =
     let inv = c.loop-number-2.invariant in
     (omega arith, none_yet _ _ inv.1 (sym c.is_equal.ensures ∙ c.if-is_equal.false))
-

@@ -18,4 +18,3 @@ invariant-loop-number-2 l = (l.number ≤ l.count) × (first_below l.number (is_
 
 abbrev pub decreases-loop-number-2 : goal.decreases-loop-number-2
 decreases-loop-number-2 l = l.count - l.number
-

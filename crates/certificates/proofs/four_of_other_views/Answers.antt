@@ -7,4 +7,3 @@ pub returns : goal.returns
 returns c =
     rw (c.is_of_other_view.ensures, c.is_of_other_view-2.ensures)
     (rw (c.is_of_other_view-3.ensures, c.is_of_other_view-4.ensures) (joined_all _ (_ ∷ _ ∷ _ ∷ [])))
-

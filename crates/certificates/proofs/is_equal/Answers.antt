@@ -7,4 +7,3 @@ use Rattle.certificates.proofs.is_equal.Goals as goal
 pub returns : goal.returns
 unfolding equal_from all_below
 returns c = refl
-

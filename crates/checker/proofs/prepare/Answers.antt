@@ -143,4 +143,3 @@ returns c =
     let proposal = c.of_kind-c.ensures in
     issues _ _ _ _ _ (passed (last_needs (memory c.args.table.now c.args.log.now c.args.blocks.now) c.args.replica c.args.block c.args.justification c.args.list.now) refl last_tested _ g.at told) refl
     (rw (proposal, g.given, r.read) refl) (c.issue.ensures _)
-

@@ -134,4 +134,3 @@ returns c =
     let commit = c.of_kind-c.ensures in
     issues _ _ _ _ _ (passed _ refl (rw (r.read, p.read) at c.test_store-tested.ensures) _ p.at told)
     (rw p.read refl) (rw (commit, p.read, r.read) refl) (c.issue.ensures _)
-

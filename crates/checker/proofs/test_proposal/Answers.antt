@@ -8,4 +8,3 @@ returns c =
     let leads = c.leads-leads.ensures in
     rw (c.need.ensures, c.need-tested-5.ensures, c.need-tested-4.ensures)
     (rw (c.need-tested-3.ensures, c.need-tested-2.ensures, c.need-tested.ensures, leads))
-

@@ -7,4 +7,3 @@ unfolding tested
 returns c =
     rw (c.need.ensures, c.need-tested-4.ensures, c.need-tested-3.ensures)
     (rw (c.need-tested-2.ensures, c.need-tested.ensures))
-

@@ -51,4 +51,3 @@ returns c =
     let flag = c.flag_in.ensures in
     issues _ _ _ _ _ (passed _ refl (rw r.read at c.test_view-tested.ensures) _ r.at told)
     (rw (flag, r.read) refl) (rw r.read refl) (c.issue.ensures _)
-

@@ -11,4 +11,3 @@ returns-then-number-table c = λ b. rw c.certificate_in.ensures (last _ _ _ (ome
 pub returns : goal.returns
 unfolding certificate_found
 returns c = λ b. fails _ _ _ (omega (tests, c.if-number-table.false))
-

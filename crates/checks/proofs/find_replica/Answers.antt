@@ -38,4 +38,3 @@ returns-then-is_well_formed c =
 pub returns : goal.returns
 unfolding replica_found
 returns c = fails _ _ _ (sym c.is_well_formed.ensures ∙ c.if-is_well_formed.false)
-

@@ -5,4 +5,3 @@ use Rattle.checks.proofs.test_list.Goals as goal
 pub returns : goal.returns
 unfolding tested
 returns c = rw (c.need.ensures, c.all_issued-issued.ensures, c.need-tested.ensures)
-

@@ -3,4 +3,3 @@ use Rattle.claims.proofs.claims.Goals as goal
 
 pub returns : goal.returns
 returns c = proved
-

@@ -13,11 +13,9 @@ pub returns-then-table-number : goal.returns-then-table-number
 returns-then-table-number c = (not_issued _ _ _ (omega (tests, c.if-table-number.true)), not_issued _ _ _ (omega (tests, c.if-table-number.true)))
 
 pub returns : goal.returns
-returns c =
-    (
-      rw (c.word_at-view.ensures, c.certificate_at-start.ensures)
-          (claimed _ _ _ c.if-list-eq0.false (omega (tests, c.if-table-number.false))),
-      rw (c.word_at-block.ensures, c.certificate_at-start.ensures)
-          (claimed _ _ _ c.if-list-eq0.false (omega (tests, c.if-table-number.false))),
-    )
-
+returns c = (
+  rw (c.word_at-view.ensures, c.certificate_at-start.ensures)
+      (claimed _ _ _ c.if-list-eq0.false (omega (tests, c.if-table-number.false))),
+  rw (c.word_at-block.ensures, c.certificate_at-start.ensures)
+      (claimed _ _ _ c.if-list-eq0.false (omega (tests, c.if-table-number.false))),
+)

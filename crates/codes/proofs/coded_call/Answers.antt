@@ -66,4 +66,3 @@ returns-in-12 c = rw c.in-12.is (rw c.is_short-in-12.ensures at c.coded_when-in-
 
 pub returns-in_default : goal.returns-in_default
 returns-in_default c = unknown_code _ _ _ _ _ (search rules)
-

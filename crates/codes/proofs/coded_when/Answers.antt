@@ -8,4 +8,3 @@ returns-then-test c = rw c.if-test.true
 pub returns-else-test : goal.returns-else-test
 unfolding when
 returns-else-test c = rw c.if-test.false
-

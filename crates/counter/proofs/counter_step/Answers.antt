@@ -13,4 +13,3 @@ returns c l b =
     let capped : c.if-boot-lt-LAST_STEP.step ≡ min c.args.boot last_step =
     (elim c.if-boot-lt-LAST_STEP.branch [ then-boot-lt-LAST_STEP w ↦ omega arith | else-boot-lt-LAST_STEP w ↦ omega arith ]) in
     rw capped
-

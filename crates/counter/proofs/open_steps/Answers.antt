@@ -11,4 +11,3 @@ write_steps-requires-2 c = (c.requires.0, allowed_eight _ c.requires.1 c.if-list
 
 pub returns : goal.returns
 returns c = rw (given_from _ c.if-list-eq0.false) (c.write_steps-2.ensures, refl)
-

@@ -11,4 +11,3 @@ returns-then-list-eq-STEP_COUNT c = c.steps_formed.ensures ∙ eight_allowed _ c
 
 pub returns : goal.returns
 returns c = others_refused _ c.if-list-eq0.false c.if-list-eq-STEP_COUNT.false
-

@@ -1,4 +1,3 @@
-use Prim.Native.Nat.{◌-◌}
 use mathlib.Core.Path.{◌≡◌, refl}
 use native.Mathlib.Numerals.{add-one}
 use native.Mathlib.Omega.{arith}
@@ -23,4 +22,3 @@ returns c =
     let inv = c.loop-k.invariant in
     let all : c.loop-k.k ≡ step_count = omega arith in
     rw (inv.1.0, inv.1.1, all) (rising_formed _)
-

@@ -10,4 +10,3 @@ invariant-loop-k l = (l.k ≤ step_count) × ((l.least ≡ least_step (step_in l
 
 abbrev pub decreases-loop-k : goal.decreases-loop-k
 decreases-loop-k l = step_count - l.k
-

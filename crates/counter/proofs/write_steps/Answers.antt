@@ -1,4 +1,3 @@
-use Prim.Native.Nat.{◌-◌}
 use mathlib.Core.Path.{◌≡◌, ◌∙◌}
 use native.Mathlib.Numerals.{add-one}
 use native.Mathlib.Omega.{arith}
@@ -22,4 +21,3 @@ returns c =
     let inv = c.loop-k.invariant in
     let all : c.loop-k.k ≡ length c.args.steps.now = omega (arith, c.requires) in
     inv.1.0 ∙ rw all (all_copied c.args.table.now c.args.steps.now steps_at (omega (arith, c.requires)))
-

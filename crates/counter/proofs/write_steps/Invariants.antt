@@ -11,4 +11,3 @@ invariant-loop-k l = (l.k ≤ step_count) × ((l.table ≡ paste l.initial.table
 
 abbrev pub decreases-loop-k : goal.decreases-loop-k
 decreases-loop-k l = step_count - l.k
-

@@ -6,4 +6,3 @@ use Rattle.form.proofs.counts_fit.Goals as goal
 pub returns : goal.returns
 unfolding counts_fit
 returns c = rw (c.certificate_at.ensures, c.block_at.ensures) (joined_all _ (_ ∷ _ ∷ []))
-

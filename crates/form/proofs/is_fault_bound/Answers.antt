@@ -4,4 +4,3 @@ use Rattle.form.proofs.is_fault_bound.Goals as goal
 
 pub returns : goal.returns
 returns c = joined_all _ (_ ∷ [])
-

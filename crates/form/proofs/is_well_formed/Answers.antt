@@ -26,4 +26,3 @@ returns-then-lengths_fit-counts_fit c =
 
 pub returns-else-lengths_fit-counts_fit : goal.returns-else-lengths_fit-counts_fit
 returns-else-lengths_fit-counts_fit c = no_sizes _ (rw (c.lengths_fit.ensures, c.counts_fit.ensures) at c.if-lengths_fit-counts_fit.false)
-

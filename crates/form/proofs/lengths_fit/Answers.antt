@@ -9,4 +9,3 @@ returns c =
     rw (c.row_at.ensures, c.replica_count.ensures, c.certificate_at.ensures)
     (rw (c.block_at.ensures, c.block_at-2.ensures)
     (joined_all _ (_ ∷ _ ∷ _ ∷ _ ∷ _ ∷ [])))
-

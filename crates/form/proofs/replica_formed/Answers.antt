@@ -5,4 +5,3 @@ use Rattle.form.proofs.replica_formed.Goals as goal
 pub returns : goal.returns
 unfolding replica_formed
 returns c = rw c.row_at-row.ensures (replica_order _ _ _ _ _ _ _ _ _ _)
-

@@ -10,4 +10,3 @@ loop-replica-init c = search rules
 
 pub loop-replica-preserved : goal.loop-replica-preserved
 loop-replica-preserved c = (search rules, rw (c.loop-replica.invariant.1, c.replica_formed-formed.ensures) (one_more _ _))
-

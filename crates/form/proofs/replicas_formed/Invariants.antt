@@ -10,4 +10,3 @@ invariant-loop-replica l = (l.replica ≤ l.replicas) × (l.formed ≡ all_below
 
 abbrev pub decreases-loop-replica : goal.decreases-loop-replica
 decreases-loop-replica l = l.replicas - l.replica
-

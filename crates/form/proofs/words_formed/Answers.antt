@@ -6,4 +6,3 @@ pub returns : goal.returns
 returns c =
     rw (c.certificates_formed.ensures, c.replicas_formed.ensures, c.blocks_formed.ensures)
     (rw (c.steps_formed.ensures, c.replica_count-replicas.ensures) (joined_all _ (_ ∷ _ ∷ _ ∷ [])))
-

@@ -10,4 +10,3 @@ returns-in_default c =
 pub returns : goal.returns
 returns c =
     λ b. issued _ _ _ _ refl (c.file-filed.ensures b) c.in-At.is c.accepted.ensures c.set_words.ensures
-

@@ -21,4 +21,3 @@ returns-then-view-lt-FIRST_VIEW c =
 
 pub returns : goal.returns
 returns c = led _ _ _ _ c.if-view-lt-FIRST_VIEW.false c.replica_count.ensures
-

@@ -11,4 +11,3 @@ pub returns : goal.returns
 returns c =
     is_called _ _ _ _ _ _ _ _ c.coded_call-coded.ensures
     c.in-Of.is c.invoke.ensures
-

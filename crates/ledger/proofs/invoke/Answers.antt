@@ -49,4 +49,3 @@ returns-in-Reply c = rw c.in-Reply.is c.reply.ensures
 pub returns-in-Recover : goal.returns-in-Recover
 unfolding step rule_of
 returns-in-Recover c = rw c.in-Recover.is c.recover.ensures
-

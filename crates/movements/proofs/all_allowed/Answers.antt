@@ -25,4 +25,3 @@ loop-place-preserved c =
       next (test a.movements.now a.replicas a.added) c.loop-place.place c.loop-place.invariant.1
           (rw c.movement_in.ensures at (granted c.is_allowed.ensures c.if-not-is_allowed.false)),
     )
-

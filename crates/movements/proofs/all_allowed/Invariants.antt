@@ -15,4 +15,3 @@ invariant-loop-place l = (l.place ≤ movement_count l.movements) × (all_below 
 
 abbrev pub decreases-loop-place : goal.decreases-loop-place
 decreases-loop-place l = movement_count l.movements - l.place
-

@@ -6,4 +6,3 @@ use Rattle.movements.proofs.is_allowed.Goals as goal
 pub returns : goal.returns
 unfolding movement_allowed
 returns c = joined_all _ (_ ∷ _ ∷ _ ∷ _ ∷ _ ∷ _ ∷ [])
-

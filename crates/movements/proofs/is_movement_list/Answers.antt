@@ -6,4 +6,3 @@ use Rattle.movements.proofs.is_movement_list.Goals as goal
 pub returns : goal.returns
 unfolding is_movement_list
 returns c = joined_all _ (_ ∷ [])
-

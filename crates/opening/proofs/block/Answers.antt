@@ -5,7 +5,6 @@ use native.Mathlib.Omega.{arith}
 use lib.ListN.{length}
 use lib.Dec.{ltb}
 use Rattle.protocol.specs.Memory.{memory, block_at, block_count}
-
 use Rattle.protocol.specs.Form.{well_formed}
 use Rattle.protocol.specs.FirstNeeds.{is_block}
 use Rattle.protocol.proofs.logic.Booleans.{tests}
@@ -64,4 +63,3 @@ returns-then-is_well_formed c =
 
 pub returns : goal.returns
 returns c = rw c.refused-2.ensures (no_form _ _ (sym c.is_well_formed.ensures ∙ c.if-is_well_formed.false))
-

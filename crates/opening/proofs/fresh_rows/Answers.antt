@@ -14,4 +14,3 @@ unfolding fresh_rows
 loop-i-preserved c =
     let inv = c.loop-i.invariant in
     (omega arith, rw (add-one, ← inv.1) c.fresh_row.ensures, omega (arith, inv.2))
-

@@ -10,4 +10,3 @@ invariant-loop-i l = (l.i ≤ l.replicas) × (l.table ≡ fresh_rows l.initial.t
 
 abbrev pub decreases-loop-i : goal.decreases-loop-i
 decreases-loop-i l = l.replicas - l.i
-

@@ -68,4 +68,3 @@ returns c =
     rw (c.accepted.ensures, c.fresh_rows.ensures)
     (opens _ _ _ bound allowed fits (c.fresh_header.ensures _) c.open_steps-limit.ensures.0
     c.open_steps-limit.ensures.1 c.replica_count-replicas.ensures)
-

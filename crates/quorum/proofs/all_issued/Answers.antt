@@ -16,4 +16,3 @@ returns c =
     let a = c.args in
     let l = c.loop-i in
     sym (every_end (λ x. ltb x a.count) a.list.now l.i l.ok c.loop-i-test.false) ∙ l.invariant.1
-

@@ -12,4 +12,3 @@ invariant-loop-i l = (l.i ≤ length l.list) × ((l.ok && every (λ x. ltb x l.c
 
 abbrev pub decreases-loop-i : goal.decreases-loop-i
 decreases-loop-i l = length l.list - l.i
-

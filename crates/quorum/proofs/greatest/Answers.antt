@@ -19,4 +19,3 @@ loop-i-preserved c =
 
 pub returns : goal.returns
 returns c = best_end _ _ _ _ _ c.loop-i.invariant.1 c.loop-i-test.false
-

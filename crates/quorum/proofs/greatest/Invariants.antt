@@ -9,4 +9,3 @@ invariant-loop-i l = (l.i ≤ length l.list) × Best l.log l.list l.i l.best l.b
 
 abbrev pub decreases-loop-i : goal.decreases-loop-i
 decreases-loop-i l = length l.list - l.i
-

@@ -23,4 +23,3 @@ returns c =
     let l = c.loop-i in
     let a = c.args in
     sym (passes_end (wants a.wanted) a.log.now a.list.now l.i l.seen l.ok c.loop-i-test.false) ∙ l.invariant.1
-

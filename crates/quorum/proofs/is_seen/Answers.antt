@@ -8,4 +8,3 @@ use Rattle.quorum.proofs.is_seen.Goals as goal
 pub returns : goal.returns
 unfolding holds
 returns c = rw (and_mask (c.args.seen / 2 ^ c.args.signer) 1) refl
-

@@ -36,4 +36,3 @@ returns-in-Reply c =
       and_assoc,
       and-true,
     )
-

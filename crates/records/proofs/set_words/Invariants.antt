@@ -13,4 +13,3 @@ invariant-loop-i l = (l.i ≤ length l.offsets) × (length l.table ≡ length l.
 
 abbrev pub decreases-loop-i : goal.decreases-loop-i
 decreases-loop-i l = length l.offsets - l.i
-

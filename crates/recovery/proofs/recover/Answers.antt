@@ -40,7 +40,7 @@ greatest-best-requires c =
     let found : let read = c.in-Found.r in
     (ReplicaFound (memory c.args.table.now c.args.log.now c.args.blocks.now) c.args.replica (rule (memory c.args.table.now c.args.log.now c.args.blocks.now) c.args.replica c.args.list.now) (list_needs (memory c.args.table.now c.args.log.now c.args.blocks.now) c.args.list.now ++ recover_needs c.args.replica (replica (memory c.args.table.now c.args.log.now c.args.blocks.now) c.args.replica) (certificates_of (memory c.args.table.now c.args.log.now c.args.blocks.now) c.args.list.now))) read = found_replica _ _ _ (start _) c.find_replica-found.ensures c.in-Found.is in
     let listed :
-    (Ready (memory c.args.table.now c.args.log.now c.args.blocks.now) c.args.replica × ReadyList (memory c.args.table.now c.args.log.now c.args.blocks.now) c.args.list.now × At (rule (memory c.args.table.now c.args.log.now c.args.blocks.now) c.args.replica c.args.list.now) (recover_needs c.args.replica (replica (memory c.args.table.now c.args.log.now c.args.blocks.now) c.args.replica) (certificates_of (memory c.args.table.now c.args.log.now c.args.blocks.now) c.args.list.now))) = 
+    (Ready (memory c.args.table.now c.args.log.now c.args.blocks.now) c.args.replica × ReadyList (memory c.args.table.now c.args.log.now c.args.blocks.now) c.args.list.now × At (rule (memory c.args.table.now c.args.log.now c.args.blocks.now) c.args.replica c.args.list.now) (recover_needs c.args.replica (replica (memory c.args.table.now c.args.log.now c.args.blocks.now) c.args.replica) (certificates_of (memory c.args.table.now c.args.log.now c.args.blocks.now) c.args.list.now))) =
     let is = c.test_list-listed.ensures in let told = c.in-Passed.is in
     (found.ready, list_known _ _ is told, passed _ refl is _ found.at told) in
     let l = listed in
@@ -53,7 +53,7 @@ certificate_in-c-requires c =
     let found : let read = c.in-Found.r in
     (ReplicaFound (memory c.args.table.now c.args.log.now c.args.blocks.now) c.args.replica (rule (memory c.args.table.now c.args.log.now c.args.blocks.now) c.args.replica c.args.list.now) (list_needs (memory c.args.table.now c.args.log.now c.args.blocks.now) c.args.list.now ++ recover_needs c.args.replica (replica (memory c.args.table.now c.args.log.now c.args.blocks.now) c.args.replica) (certificates_of (memory c.args.table.now c.args.log.now c.args.blocks.now) c.args.list.now))) read = found_replica _ _ _ (start _) c.find_replica-found.ensures c.in-Found.is in
     let listed :
-    (Ready (memory c.args.table.now c.args.log.now c.args.blocks.now) c.args.replica × ReadyList (memory c.args.table.now c.args.log.now c.args.blocks.now) c.args.list.now × At (rule (memory c.args.table.now c.args.log.now c.args.blocks.now) c.args.replica c.args.list.now) (recover_needs c.args.replica (replica (memory c.args.table.now c.args.log.now c.args.blocks.now) c.args.replica) (certificates_of (memory c.args.table.now c.args.log.now c.args.blocks.now) c.args.list.now))) = 
+    (Ready (memory c.args.table.now c.args.log.now c.args.blocks.now) c.args.replica × ReadyList (memory c.args.table.now c.args.log.now c.args.blocks.now) c.args.list.now × At (rule (memory c.args.table.now c.args.log.now c.args.blocks.now) c.args.replica c.args.list.now) (recover_needs c.args.replica (replica (memory c.args.table.now c.args.log.now c.args.blocks.now) c.args.replica) (certificates_of (memory c.args.table.now c.args.log.now c.args.blocks.now) c.args.list.now))) =
     let is = c.test_list-listed.ensures in let told = c.in-Passed.is in
     (found.ready, list_known _ _ is told, passed _ refl is _ found.at told) in
     let l = listed in
@@ -65,7 +65,7 @@ overflow_add-c c =
     let found : let read = c.in-Found.r in
     (ReplicaFound (memory c.args.table.now c.args.log.now c.args.blocks.now) c.args.replica (rule (memory c.args.table.now c.args.log.now c.args.blocks.now) c.args.replica c.args.list.now) (list_needs (memory c.args.table.now c.args.log.now c.args.blocks.now) c.args.list.now ++ recover_needs c.args.replica (replica (memory c.args.table.now c.args.log.now c.args.blocks.now) c.args.replica) (certificates_of (memory c.args.table.now c.args.log.now c.args.blocks.now) c.args.list.now))) read = found_replica _ _ _ (start _) c.find_replica-found.ensures c.in-Found.is in
     let listed :
-    (Ready (memory c.args.table.now c.args.log.now c.args.blocks.now) c.args.replica × ReadyList (memory c.args.table.now c.args.log.now c.args.blocks.now) c.args.list.now × At (rule (memory c.args.table.now c.args.log.now c.args.blocks.now) c.args.replica c.args.list.now) (recover_needs c.args.replica (replica (memory c.args.table.now c.args.log.now c.args.blocks.now) c.args.replica) (certificates_of (memory c.args.table.now c.args.log.now c.args.blocks.now) c.args.list.now))) = 
+    (Ready (memory c.args.table.now c.args.log.now c.args.blocks.now) c.args.replica × ReadyList (memory c.args.table.now c.args.log.now c.args.blocks.now) c.args.list.now × At (rule (memory c.args.table.now c.args.log.now c.args.blocks.now) c.args.replica c.args.list.now) (recover_needs c.args.replica (replica (memory c.args.table.now c.args.log.now c.args.blocks.now) c.args.replica) (certificates_of (memory c.args.table.now c.args.log.now c.args.blocks.now) c.args.list.now))) =
     let is = c.test_list-listed.ensures in let told = c.in-Passed.is in
     (found.ready, list_known _ _ is told, passed _ refl is _ found.at told) in
     let l = listed in
@@ -78,7 +78,7 @@ is_reply_quorum-replied-requires c =
     let found : let read = c.in-Found.r in
     (ReplicaFound (memory c.args.table.now c.args.log.now c.args.blocks.now) c.args.replica (rule (memory c.args.table.now c.args.log.now c.args.blocks.now) c.args.replica c.args.list.now) (list_needs (memory c.args.table.now c.args.log.now c.args.blocks.now) c.args.list.now ++ recover_needs c.args.replica (replica (memory c.args.table.now c.args.log.now c.args.blocks.now) c.args.replica) (certificates_of (memory c.args.table.now c.args.log.now c.args.blocks.now) c.args.list.now))) read = found_replica _ _ _ (start _) c.find_replica-found.ensures c.in-Found.is in
     let listed :
-    (Ready (memory c.args.table.now c.args.log.now c.args.blocks.now) c.args.replica × ReadyList (memory c.args.table.now c.args.log.now c.args.blocks.now) c.args.list.now × At (rule (memory c.args.table.now c.args.log.now c.args.blocks.now) c.args.replica c.args.list.now) (recover_needs c.args.replica (replica (memory c.args.table.now c.args.log.now c.args.blocks.now) c.args.replica) (certificates_of (memory c.args.table.now c.args.log.now c.args.blocks.now) c.args.list.now))) = 
+    (Ready (memory c.args.table.now c.args.log.now c.args.blocks.now) c.args.replica × ReadyList (memory c.args.table.now c.args.log.now c.args.blocks.now) c.args.list.now × At (rule (memory c.args.table.now c.args.log.now c.args.blocks.now) c.args.replica c.args.list.now) (recover_needs c.args.replica (replica (memory c.args.table.now c.args.log.now c.args.blocks.now) c.args.replica) (certificates_of (memory c.args.table.now c.args.log.now c.args.blocks.now) c.args.list.now))) =
     let is = c.test_list-listed.ensures in let told = c.in-Passed.is in
     (found.ready, list_known _ _ is told, passed _ refl is _ found.at told) in
     let l = listed in
@@ -90,7 +90,7 @@ returns-in_default-tested c =
     let found : let read = c.in-Found.r in
     (ReplicaFound (memory c.args.table.now c.args.log.now c.args.blocks.now) c.args.replica (rule (memory c.args.table.now c.args.log.now c.args.blocks.now) c.args.replica c.args.list.now) (list_needs (memory c.args.table.now c.args.log.now c.args.blocks.now) c.args.list.now ++ recover_needs c.args.replica (replica (memory c.args.table.now c.args.log.now c.args.blocks.now) c.args.replica) (certificates_of (memory c.args.table.now c.args.log.now c.args.blocks.now) c.args.list.now))) read = found_replica _ _ _ (start _) c.find_replica-found.ensures c.in-Found.is in
     let listed :
-    (Ready (memory c.args.table.now c.args.log.now c.args.blocks.now) c.args.replica × ReadyList (memory c.args.table.now c.args.log.now c.args.blocks.now) c.args.list.now × At (rule (memory c.args.table.now c.args.log.now c.args.blocks.now) c.args.replica c.args.list.now) (recover_needs c.args.replica (replica (memory c.args.table.now c.args.log.now c.args.blocks.now) c.args.replica) (certificates_of (memory c.args.table.now c.args.log.now c.args.blocks.now) c.args.list.now))) = 
+    (Ready (memory c.args.table.now c.args.log.now c.args.blocks.now) c.args.replica × ReadyList (memory c.args.table.now c.args.log.now c.args.blocks.now) c.args.list.now × At (rule (memory c.args.table.now c.args.log.now c.args.blocks.now) c.args.replica c.args.list.now) (recover_needs c.args.replica (replica (memory c.args.table.now c.args.log.now c.args.blocks.now) c.args.replica) (certificates_of (memory c.args.table.now c.args.log.now c.args.blocks.now) c.args.list.now))) =
     let is = c.test_list-listed.ensures in let told = c.in-Passed.is in
     (found.ready, list_known _ _ is told, passed (list_needs (memory c.args.table.now c.args.log.now c.args.blocks.now) c.args.list.now) refl is (recover_needs c.args.replica (replica (memory c.args.table.now c.args.log.now c.args.blocks.now) c.args.replica) (certificates_of (memory c.args.table.now c.args.log.now c.args.blocks.now) c.args.list.now)) found.at told) in
     let best :
@@ -118,7 +118,7 @@ returns c =
     let found : let read = c.in-Found.r in
     (ReplicaFound (memory c.args.table.now c.args.log.now c.args.blocks.now) c.args.replica (rule (memory c.args.table.now c.args.log.now c.args.blocks.now) c.args.replica c.args.list.now) (list_needs (memory c.args.table.now c.args.log.now c.args.blocks.now) c.args.list.now ++ recover_needs c.args.replica (replica (memory c.args.table.now c.args.log.now c.args.blocks.now) c.args.replica) (certificates_of (memory c.args.table.now c.args.log.now c.args.blocks.now) c.args.list.now))) read = found_replica _ _ _ (start _) c.find_replica-found.ensures c.in-Found.is in
     let listed :
-    (Ready (memory c.args.table.now c.args.log.now c.args.blocks.now) c.args.replica × ReadyList (memory c.args.table.now c.args.log.now c.args.blocks.now) c.args.list.now × At (rule (memory c.args.table.now c.args.log.now c.args.blocks.now) c.args.replica c.args.list.now) (recover_needs c.args.replica (replica (memory c.args.table.now c.args.log.now c.args.blocks.now) c.args.replica) (certificates_of (memory c.args.table.now c.args.log.now c.args.blocks.now) c.args.list.now))) = 
+    (Ready (memory c.args.table.now c.args.log.now c.args.blocks.now) c.args.replica × ReadyList (memory c.args.table.now c.args.log.now c.args.blocks.now) c.args.list.now × At (rule (memory c.args.table.now c.args.log.now c.args.blocks.now) c.args.replica c.args.list.now) (recover_needs c.args.replica (replica (memory c.args.table.now c.args.log.now c.args.blocks.now) c.args.replica) (certificates_of (memory c.args.table.now c.args.log.now c.args.blocks.now) c.args.list.now))) =
     let is = c.test_list-listed.ensures in let told = c.in-Passed.is in
     (found.ready, list_known _ _ is told, passed (list_needs (memory c.args.table.now c.args.log.now c.args.blocks.now) c.args.list.now) refl is (recover_needs c.args.replica (replica (memory c.args.table.now c.args.log.now c.args.blocks.now) c.args.replica) (certificates_of (memory c.args.table.now c.args.log.now c.args.blocks.now) c.args.list.now)) found.at told) in
     let best :
@@ -134,4 +134,3 @@ returns c =
     let read = found.read in
     let end = passed (recover_needs c.args.replica (replica (memory c.args.table.now c.args.log.now c.args.blocks.now) c.args.replica) (certificates_of (memory c.args.table.now c.args.log.now c.args.blocks.now) c.args.list.now)) refl own [] l.2 c.in-Passed-tested.is in
     accepts _ end (rw (low, best, read) at c.accepted.ensures) (rw (c.set_words.ensures, low, best, read))
-

@@ -89,4 +89,3 @@ returns c =
     let past = passed _ refl (rw (r, e) at c.test_reply-tested.ensures) _ q.at c.in-Passed.is in
     let views = le-ltb _ _ (rw (r, e) at c.if-r-q.false) in
     issues _ _ _ _ _ past (rw (views)) (rw (r, e) at c.reply_to-answer.ensures) (c.issue-2.ensures _)
-

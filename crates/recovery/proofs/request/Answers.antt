@@ -44,4 +44,3 @@ returns c =
     let r = found in
     let past = passed _ refl (first_need _ _ (rw r.read at c.need-tested.ensures)) _ r.at c.in-Passed.is in
     issues _ _ _ _ _ past refl (rw r.read at c.req.ensures) (c.issue.ensures _)
-

@@ -6,4 +6,3 @@ pub returns : goal.returns
 unfolding tested
 returns c =
     rw (c.need.ensures, c.need-tested-3.ensures, c.need-tested-2.ensures, c.need-tested.ensures)
-

@@ -72,4 +72,3 @@ unfolding reboot_rule
 set_replica_word-requires c =
     let found : ReplicaFound (memory c.args.table.now c.args.log.now c.args.blocks.now) c.args.replica (reboot_rule (memory c.args.table.now c.args.log.now c.args.blocks.now) c.args.replica) [] c.in-Found.r = found_replica _ _ [] (start _) c.find_replica-found.ensures c.in-Found.is in
     omega (arith, row_within _ _ found.ready)
-

@@ -60,4 +60,3 @@ set_replica_word-requires c =
     let found : let limit = limit_after (memory c.args.table.now c.args.log.now c.args.blocks.now) (replica (memory c.args.table.now c.args.log.now c.args.blocks.now) c.args.replica) (replica (memory c.args.table.now c.args.log.now c.args.blocks.now) c.args.replica).boot in
     (ReplicaFound (memory c.args.table.now c.args.log.now c.args.blocks.now) c.args.replica (reserve_rule (memory c.args.table.now c.args.log.now c.args.blocks.now) c.args.replica) (reserve_needs (replica (memory c.args.table.now c.args.log.now c.args.blocks.now) c.args.replica) limit) c.in-Found.r) = found_replica _ _ _ (start _) c.find_replica-found.ensures c.in-Found.is in
     omega (arith, row_within _ _ found.ready)
-

@@ -5,4 +5,3 @@ use Rattle.restart.proofs.test_reserve.Goals as goal
 pub returns : goal.returns
 unfolding tested
 returns c = rw (c.need.ensures, c.need-tested.ensures)
-

@@ -60,5 +60,5 @@ returns c =
     let l = c.loop-column in
     let end : l.i ≡ field_count c.args.line.now = omega arith in
     let all = all_read _ l.given end (omega arith)
-        (record { whole = omega arith; enough = omega arith; few = omega arith; all = rw end at l.invariant.3 }) l.invariant.4 in
+    (record { whole = omega arith; enough = omega arith; few = omega arith; all = rw end at l.invariant.3 }) l.invariant.4 in
     record { value = all.0; given_after = all.1 }

@@ -15,4 +15,3 @@ returns c =
           c.put_answer.ensures;
       one_more = record { held = refl; pending = refl };
     }
-

@@ -12,4 +12,3 @@ returns-then-p-eq0 c =
           (c.answer.ensures.by_index _);
       one_more = c.answer.ensures.one_more;
     }
-

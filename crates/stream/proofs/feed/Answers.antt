@@ -27,11 +27,14 @@ pub answer_from-p-requires : goal.answer_from-p-requires
 answer_from-p-requires c =
     let l = c.loop-at in
     let end = c.line_end-end.ensures in
-    let within = end_within c.args.chunk.now l.at l.invariant.within in record { room = record {
+    let within = end_within c.args.chunk.now l.at l.invariant.within in record {
+      room = record {
         table = l.invariant.table_length;
         lines = omega (arith, c.if-p-ge-MAX_LINES.false);
         text = omega (arith, l.invariant.pending, l.invariant.text_length, c.requires.text, c.loop-at-test.true);
-      }; holdable = record { enough = l.invariant.line_length; fits = l.invariant.held; ordered = omega (arith, end); within = omega (arith, end, within) } }
+      };
+      holdable = record { enough = l.invariant.line_length; fits = l.invariant.held; ordered = omega (arith, end); within = omega (arith, end, within) };
+    }
 
 pub overflow_add-at : goal.overflow_add-at
 overflow_add-at c =
@@ -67,4 +70,3 @@ returns c =
       text_after = sym (at_end l.p _ _ _ _ _ _ l.at c.loop-at-test.false) ∙ l.invariant.same;
       within = record { held = l.invariant.held; pending = omega (arith, l.invariant.pending, l.invariant.within, c.requires.text) };
     }
-

@@ -11,4 +11,3 @@ invariant-loop-at l = Going (fed (stream_of l.initial.p l.initial.table l.initia
 
 abbrev pub decreases-loop-at : goal.decreases-loop-at
 decreases-loop-at l = length l.chunk - l.at
-

@@ -17,4 +17,3 @@ returns c =
       text_after = feed_lacking c.args.p _ _ _ c.args.line.now _ (omega (arith, c.requires)) c.if-p-eq0.false o.text_after;
       within = o.within;
     }
-

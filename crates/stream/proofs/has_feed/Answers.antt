@@ -7,4 +7,3 @@ use Rattle.stream.proofs.has_feed.Goals as goal
 pub returns : goal.returns
 returns c =
     rw add-zero at (any-feed c.args.chunk.now c.args.at feed_step c.requires)
-

@@ -20,4 +20,3 @@ returns c =
     let e : c.loop-i.i ≡ c.smaller-count.result = omega arith in
     copied_all a.line.now a.chunk.now a.held a.from a.end _ _ c.requires c.smaller-count.ensures
     (rw e at c.loop-i.invariant.2)
-

@@ -11,4 +11,3 @@ invariant-loop-i l = (l.i ≤ l.count) × (length l.line ≡ held_places) × (l.
 
 abbrev pub decreases-loop-i : goal.decreases-loop-i
 decreases-loop-i l = l.count - l.i
-

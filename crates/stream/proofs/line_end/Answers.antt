@@ -26,4 +26,3 @@ pub returns : goal.returns
 returns c =
     let z = scan_done c.args.chunk.now c.loop-at-2.at (omega arith) in
     omega arith
-

@@ -16,4 +16,3 @@ invariant-loop-at-2 l = (l.at ≤ length l.chunk) × (l.at + feed_from (drop l.a
 
 abbrev pub decreases-loop-at-2 : goal.decreases-loop-at-2
 decreases-loop-at-2 l = length l.chunk - l.at
-

@@ -38,4 +38,3 @@ unfolding judgement_of
 returns-else-is_commit_quorum c =
     let none = sym c.is_commit_quorum.ensures ∙ c.if-is_commit_quorum.false in
     rw c.in-Commits.is (fails _ _ _ none)
-

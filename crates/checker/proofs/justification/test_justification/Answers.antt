@@ -7,4 +7,3 @@ use Rattle.checker.proofs.justification.test_justification.Goals as goal
 pub returns-in-Acc : goal.returns-in-Acc
 unfolding tested next every
 returns-in-Acc c = λ l b. rw (c.in-Acc.is, c.need.ensures, and-true)
-

@@ -150,17 +150,16 @@ extern "C" {
 #define YARD_NO_NUMBER 4294967295u /* what reading gives for bytes that are no number */
 
 /* Bytes of stack that each function takes, with its arguments and the return address: what examples/stack.c measures on x86-64, and at most
- * 256 more. A balance recurses along the line of its block, and a match along that of the decided block; their figures are for the longest
- * line, of YARD_MAX_BLOCKS. Do not scale them down for shorter ones: they also cover memset, which a balance calls, and what binds memset
- * at the first call. */
+ * 256 more. The walks of a balance and of a match along a line of blocks call themselves last, which this archive's compiler makes loops
+ * of; the figure of a balance also covers memset, which it calls, and what binds memset at the first call. */
 #define YARD_VERSION_STACK 64
 #define YARD_CALL_STACK 512
 #define YARD_PANEL_STACK 256
-#define YARD_BALANCE_STACK 12800
+#define YARD_BALANCE_STACK 4608
 #define YARD_OPEN_WAITING_STACK 256
 #define YARD_ENTER_STACK 256
 #define YARD_WITHDRAW_STACK 256
-#define YARD_MATCH_STACK 8576
+#define YARD_MATCH_STACK 256
 #define YARD_ASK_STACK 256
 #define YARD_READ_NUMBER_STACK 64
 #define YARD_WRITE_NUMBER_STACK 64

@@ -2,11 +2,11 @@
 use mathlib.Core.Path.{◌≡◌, sym}
 use mathlib.Core.List.{◌++◌}
 use Rattle.protocol.specs.Agreement.{PanelsRise, OneChain}
-use Rattle.script.specs.Text.{text_of}
+use Rattle.script.specs.Text.{text_of as lines_of_fields}
 use Rattle.stream.specs.Agreement.{told_within, ProgramAgrees}
 use Rattle.stream.specs.Output.{output}
 use Rattle.stream.specs.WayOn.{ProgramGoesOn}
-use Rattle.stream.specs.cases.Scripts.{worked_input, worked_output, WorkedScript, WorkedScriptOpens}
+use Rattle.stream.specs.cases.Scripts.{text_of, worked_input, worked_output, WorkedScript, WorkedScriptOpens}
 use Rattle.stream.proofs.cases.Scripts.{worked-script, worked-script-opens, block_decided}
 use Rattle.stream.proofs.cases.WayOn.{chosen, way_input, way_output, all_but_last, whole_lines, eleven_lines, can-decide, lines_left}
 use Rattle.stream.proofs.cases.WayOn.{calls_written, answers_written}
@@ -21,7 +21,7 @@ program_agrees_used statement =
 
 -- Eight lines after it decide block 2 in view 3.
 pub program_goes_on_used : ProgramGoesOn
-    → output (text_of worked_input ++ text_of way_input) ≡ text_of worked_output ++ text_of way_output
+    → output (text_of worked_input ++ lines_of_fields way_input) ≡ text_of worked_output ++ lines_of_fields way_output
 unfolding ProgramGoesOn WorkedScript WorkedScriptOpens
 program_goes_on_used statement =
     let at-worked = statement (text_of worked_input) all_but_last whole_lines in

@@ -1,9 +1,7 @@
-use Prim.Native.Nat.{◌-◌}
 use mathlib.Core.Path.{refl, sym, ◌∙◌}
 use native.Mathlib.Omega.{arith}
 use Rattle.protocol.specs.Certificates.{first_below}
 use Rattle.protocol.proofs.logic.Joined.{granted}
-use Rattle.certificates.specs.inner.Filing.{is_equal}
 use Rattle.certificates.proofs.Equal.{of_other_view}
 use Rattle.certificates.proofs.Search.{none_yet, none_of_four, found}
 use Rattle.certificates.proofs.find.Goals as goal

@@ -1,4 +1,3 @@
-use Prim.Native.Nat.{◌-◌}
 use borrow.Author.Rules.{rules}
 use Rattle.protocol.specs.Form.{all_below}
 use Rattle.protocol.proofs.logic.Below.{one_more}

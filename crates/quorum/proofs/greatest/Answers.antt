@@ -1,4 +1,3 @@
-use Prim.Native.Nat.{◌-◌}
 use borrow.Author.Rules.{rules}
 use Rattle.quorum.proofs.Passes.{best_start, best_taken, best_kept, best_end}
 use Rattle.quorum.proofs.greatest.Goals as goal

@@ -1,5 +1,5 @@
 -- What the contracts say of a list of certificate numbers, beside the definitions of protocol's Quorum.
-use Rattle.std.specs.Prelude.{ℕ, ◌+◌, ◌≤◌, ◌<◌, ◌≡◌, Bool, List, [], ◌∷◌, length, get_or}
+use Rattle.std.specs.Prelude.{ℕ, ◌+◌, ◌≤◌, ◌<◌, ◌≡◌, Bool, List, [], length, get_or}
 use Rattle.protocol.specs.Memory.{Certificate, memory, certificate_words, certificate_at, certificate}
 use Rattle.protocol.specs.Memory.{max_certificates}
 use Rattle.protocol.specs.Quorum.{certificates_of, is_commit_of, is_new_view_of, is_reply_to, greatest}

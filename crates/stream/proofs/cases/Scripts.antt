@@ -21,11 +21,11 @@ use Rattle.field.specs.Field.{field_of, continued, unpadded, aligned, read_field
 use Rattle.ledger.specs.Called.{called_by, called}
 use Rattle.script.specs.Lines.{numbers, has_numbers}
 use Rattle.script.specs.Session.{lent_length, lending, answer_numbers, answer_line}
-use Rattle.script.specs.Text.{line_of, text_of, answer_text}
+use Rattle.script.specs.Text.{line_of as fields_of, text_of as lines_of_fields, answer_text}
 use Rattle.script.specs.Agreement.{event_table, line_event}
 use Rattle.stream.specs.Output.{lines_from, answers_to, output}
 use Rattle.stream.specs.Agreement.{told_history, told_within}
-use Rattle.stream.specs.cases.Scripts.{worked_input, worked_output, WorkedScript, WorkedScriptTells}
+use Rattle.stream.specs.cases.Scripts.{line_of, text_of, worked_input, worked_output, WorkedScript, WorkedScriptTells}
 use Rattle.stream.specs.cases.Scripts.{WorkedScriptOpens, steps_input, steps_output, StepsScript}
 
 -- What a script prints. Everything that the program is made of opens with it.
@@ -36,6 +36,7 @@ unfolding update append_certificate append_block all_hold all_below block_formed
     opening block prepare store view accumulate decide reboot reserve rule_of step claimed_word when code_table least_from
     digit_count digits field_of continued unpadded aligned read_field called_by called numbers has_numbers lent_length
     lending answer_numbers answer_line answer_text lines_from answers_to output line_of text_of
+    fields_of lines_of_fields
 printed input = output (text_of input)
 
 pub worked-script : WorkedScript

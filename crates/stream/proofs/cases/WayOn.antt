@@ -9,11 +9,11 @@ use Rattle.protocol.specs.Memory.{Memory, fault_bound}
 use Rattle.protocol.specs.WayOn.{decision_calls, can_enter, can_all_enter, has_room, can_decide, way_on, counting, numbered_answers}
 use Rattle.protocol.specs.Runs.{run, answers}
 use Rattle.ledger.specs.Coding.{by_code}
-use Rattle.script.specs.Text.{line_feed, text_of}
+use Rattle.script.specs.Text.{line_feed, text_of as lines_of_fields}
 use Rattle.script.specs.Agreement.{session_after}
 use Rattle.stream.specs.Output.{lines_of, max_lines}
 use Rattle.stream.specs.WayOn.{ledger_after, text_of_calls, answer_texts}
-use Rattle.stream.specs.cases.Scripts.{worked_input}
+use Rattle.stream.specs.cases.Scripts.{text_of, worked_input}
 use Rattle.stream.proofs.cases.Scripts.{printed}
 
 -- Replicas 0 and 2 go on to view 3, which replica 2 leads. (Replica 1 is recovering.)
@@ -71,10 +71,10 @@ one-fault = refl
 pub lines_left : length (lines_of (text_of worked_input)) + decision_calls (fault_bound left) ≤ max_lines
 lines_left = rw (eleven_lines, one-fault) (omega arith)
 
-pub calls_written : text_of_calls (way_on left chosen 3) ≡ text_of way_input
+pub calls_written : text_of_calls (way_on left chosen 3) ≡ lines_of_fields way_input
 unfolding printed worked_input session_after run answers way_on by_code
 calls_written = refl
 
-pub answers_written : answer_texts 11 (numbered_answers left 3) ≡ text_of way_output
+pub answers_written : answer_texts 11 (numbered_answers left 3) ≡ lines_of_fields way_output
 unfolding printed worked_input session_after counting numbered_answers answer_texts
 answers_written = refl

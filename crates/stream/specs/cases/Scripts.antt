@@ -1,10 +1,20 @@
 -- Document 01's worked script, as document 02 changes it, and a script of openings with steps, in the form in which the program reads and
 -- writes them: fields of eight columns, line feeds, line numbers.
-use Rattle.std.specs.Prelude.{ℕ, ◌≡◌, List, [], ◌∷◌, replicate}
+use Rattle.std.specs.Prelude.{ℕ, ◌≡◌, List, [], ◌∷◌, ◌++◌, replicate}
 use Rattle.protocol.specs.History.{added, decided, other}
-use Rattle.script.specs.Text.{text_of}
+use Rattle.field.specs.Field.{field_of}
+use Rattle.script.specs.Text.{line_feed}
 use Rattle.stream.specs.Output.{output}
 use Rattle.stream.specs.Agreement.{told_within, OpenedAt}
+
+-- The fields of a line, and its line feed.
+unfoldable pub line_of : List ℕ → List ℕ
+line_of [] = line_feed ∷ []
+line_of (number ∷ numbers) = field_of number ++ line_of numbers
+
+unfoldable pub text_of : List (List ℕ) → List ℕ
+text_of [] = []
+text_of (numbers ∷ rest) = line_of numbers ++ text_of rest
 
 -- "Input fields: `0 1 0`, `5 0 1`, `5 1 1`, `6 1 0 0 1`, `1 0 0`, `2 1 1 2`, `4 0 3`, `8 1 0`, `4 1 3`, `4 2 3`, `7 0 0 4 5`." Document 02,
 -- #103: "In 01's script prepare and accumulate move to box 0 and the answers are worked out anew": so `6 0 0 0 1` and `2 0 1 2`; the answers

@@ -2,8 +2,7 @@
 use mathlib.Core.Path.{◌≡◌}
 use mathlib.Core.Bool.{true}
 use native.Mathlib.Omega.{arith}
-use Rattle.protocol.specs.Memory.{memory, block_at, block_count}
-use lib.ListN.{length}
+use Rattle.protocol.specs.Memory.{memory}
 use Rattle.protocol.specs.Memory.{memory}
 use Rattle.protocol.specs.Form.{is_fault_bound, lengths_fit}
 use Rattle.protocol.specs.Counter.{steps_allowed}

@@ -1,8 +1,7 @@
 -- Tests joined by `&` and by `|`, as the code has them, and lists of tests, as the definitions have them.
 use mathlib.Core.Path.{◌≡◌, refl, sym, ◌∙◌}
-use mathlib.Core.Bool.{Bool, true, false, not, ◌&&◌, ◌||◌}
+use mathlib.Core.Bool.{Bool, true, false, ◌&&◌, ◌||◌}
 use mathlib.Core.List.{List, [], ◌∷◌}
-use borrow.Author.Tests.{not-true, not-false}
 use Rattle.protocol.specs.Form.{all_hold}
 use Rattle.protocol.specs.inner.Groups.{joined_or, any_holds}
 use Rattle.protocol.proofs.logic.Booleans.{or-false, Each, each, all-hold}

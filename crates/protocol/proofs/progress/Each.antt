@@ -11,7 +11,6 @@ use Rattle.protocol.specs.Memory.{Memory, Replica, Certificate, fault_bound, cer
 use Rattle.protocol.specs.Memory.{certificate}
 use Rattle.protocol.specs.Certificates.{log_has_room}
 use Rattle.protocol.specs.Quorum.{every, contains, distinct, is_issued, all_issued, certificates_of}
-use Rattle.protocol.specs.Outcome.{accepted}
 use Rattle.protocol.specs.FirstNeeds.{is_replica}
 use Rattle.protocol.specs.Runs.{Invocation, plain, step, run, answers}
 use Rattle.protocol.specs.WayOn.{first_values, is_accepted, counting, added_as}

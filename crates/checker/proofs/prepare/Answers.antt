@@ -1,6 +1,6 @@
 -- Refused, or a PROP is issued; what was found of the replica and what the justification gives is what the rule speaks of.
 use mathlib.Core.Path.{◌≡◌, refl}
-use Rattle.protocol.specs.Memory.{Memory, memory}
+use Rattle.protocol.specs.Memory.{memory}
 use Rattle.protocol.specs.Quorum.{every}
 use Rattle.protocol.specs.Calls.{prepare as prepare_rule}
 use Rattle.protocol.proofs.logic.Booleans.{tests}

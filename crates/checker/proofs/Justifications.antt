@@ -89,7 +89,7 @@ module _ (m : Memory) (i b : ℕ) (j : Justification) (list : List ℕ) where
   abbrev pub last_needs : List Need
   last_needs = proposal_needs (fault_bound m) i (replica m i) b (parent m b) given.view given.block
 
-  abbrev pub after_judging : List Need
+  abbrev after_judging : List Need
   after_judging = last_needs ++ slot m (prop_of i (replica m i).boot given.view b)
 
   abbrev pub after_first : List Need

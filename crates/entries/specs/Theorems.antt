@@ -1,5 +1,5 @@
 -- What holds of the calls on entries that wait. Each unfoldable type here is a statement, proved in proofs/ under the same name in lower
--- case with underscores.
+-- case with hyphens.
 use Rattle.std.specs.Prelude.{ℕ, ◌+◌, ◌*◌, ◌≤◌, ◌<◌, ◌≡◌, true, false, length, get_or}
 use mathlib.Core.List.{List, [], ◌∷◌, ◌++◌, map, Memᴰ}
 use Rattle.protocol.specs.Memory.{Memory, replica_count, fault_bound}

@@ -1,4 +1,4 @@
--- What holds of nettings. Each unfoldable type here is a statement, proved in proofs/ under the same name in lower case with underscores.
+-- What holds of nettings. Each unfoldable type here is a statement, proved in proofs/ under the same name in lower case with hyphens.
 use Rattle.std.specs.Prelude.{ℕ, zero, suc, ◌+◌, ◌≤◌, ◌<◌, ◌≡◌, true, false, cond, ℤ, pos, ◌+ℤ◌, nat_abs}
 use mathlib.Core.List.{List, Memᴰ}
 use Rattle.protocol.specs.Memory.{Memory, replica_count, fault_bound, block_count, parent}

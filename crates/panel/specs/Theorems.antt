@@ -1,4 +1,4 @@
--- What holds of the front panel, `panel_answer`. Proved in proofs/ under the same name in lower case with underscores.
+-- What holds of the front panel, `panel_answer`. Proved in proofs/ under the same name in lower case with hyphens.
 use Rattle.std.specs.Prelude.{ℕ, ◌≤◌, ◌<◌, ◌≡◌, true, List}
 use Rattle.protocol.specs.Memory.{Memory, replica_count, replica, kept_height}
 use Rattle.protocol.specs.Form.{well_formed}

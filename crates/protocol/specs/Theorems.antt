@@ -1,6 +1,6 @@
 -- What holds of the rules, for every call and any contents of the memory: what a refused call leaves, what an accepted one leaves and
 -- may change, what is not read, which refusal is returned, how large an answer is, and whose turn it is. Each unfoldable type here is a
--- statement, proved in proofs/ under the same name in lower case with underscores.
+-- statement, proved in proofs/ under the same name in lower case with hyphens.
 use Rattle.std.specs.Prelude.{ℕ, zero, suc, ◌+◌, ◌%◌, ◌≤◌, ◌<◌, ◌≡◌, Bool, true, false, ◌&&◌, ◌||◌, length, get_or, leb, eqb}
 use mathlib.Core.List.{List, [], ◌∷◌, ◌++◌, map, Memᴰ}
 use Rattle.protocol.specs.declared.Call.{Call}

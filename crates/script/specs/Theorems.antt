@@ -1,4 +1,4 @@
--- What holds of the answers to lines. Proved in proofs/ under the same name in lower case with underscores.
+-- What holds of the answers to lines. Proved in proofs/ under the same name in lower case with hyphens.
 use Rattle.std.specs.Prelude.{ℕ, ◌≡◌, true, List}
 use Rattle.protocol.specs.Memory.{Memory}
 use Rattle.protocol.specs.Outcome.{wrong_form}

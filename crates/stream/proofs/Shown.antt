@@ -66,10 +66,10 @@ shows : (line : ℕ) (a : Answer) → line ≤ max_number → Printable a → an
 shows line a small p =
     let after_first = field_after a.first p.first _ 0 ∙ field_here a.second p.second [] in
     let after-number = field_after a.number p.number _ in
-    let after_Line = field_after line small _ in
-    let x = after_Line 0 ∙ field_here a.number p.number _ in
-    let y = after_Line 1 ∙ after-number 0 ∙ field_here a.first p.first _ in
-    let z = after_Line 2 ∙ after-number 1 ∙ after_first in
+    let after_line = field_after line small _ in
+    let x = after_line 0 ∙ field_here a.number p.number _ in
+    let y = after_line 1 ∙ after-number 0 ∙ field_here a.first p.first _ in
+    let z = after_line 2 ∙ after-number 1 ∙ after_first in
     λ i. record { number = x i; first = y i; second = z i }
 
 -- ---- all lines

@@ -382,11 +382,12 @@ height 0: block 0
 height 1: block 1, decided by replica 0 in view 1 and replica 2 in view 1
 height 2: block 3, decided by replica 2 in view 2
 beside it: block 2 on block 0, of height 1, not decided
-
+";
+    let way_on = "
 A way on: replicas 0 and 2 can decide block 4 in view 4, which replica 0 leads, by 8 calls
 
 view 0 4\nview 2 4\naccumulate 0 9 10\nblock 3\nprepare-on-acc 0 4 11\nstore 0 12\nstore 2 12\ndecide 0 13 14
 ";
-    assert_eq!(end, expected);
+    assert_eq!(end.strip_prefix(expected), Some(way_on));
     assert!(told(&Recount::of(b"")).ends_with("No ledger is open.\n"));
 }

@@ -1,6 +1,8 @@
 -- What a call gives: its answer and the state it leaves; what a rule is, over any state; and the table of refusals (document 01, "Calls").
-use Rattle.std.specs.Prelude.{ℕ, zero, suc, Bool, cond, List, [], ◌∷◌}
-use Rattle.protocol.specs.declared.Answer as Code
+use Rattle.std.specs.Prelude.{ℕ, zero, suc, Bool, cond, List, [], ◌∷◌, Result, Ok, Err}
+use Rattle.protocol.specs.declared.Values.{Values}
+use Rattle.protocol.specs.declared.Refusal.{Refusal}
+use Rattle.protocol.specs.declared.Refusal.TheVariants as Code
 use Rattle.protocol.specs.Memory.{Memory, memory}
 
 -- The column "Returned" of the table. 0 is "accepted".
@@ -60,6 +62,27 @@ wrong_identity = 13
 
 abbrev pub waiting_full : ℕ
 waiting_full = 14
+
+-- The number of the code's refusal, and that in what it gives: 0 where nothing is refused.
+abbrev pub number_of : Refusal → ℕ
+number_of Code.WrongForm = wrong_form
+number_of Code.OutOfRange = out_of_range
+number_of Code.UnknownNumber = unknown_number
+number_of Code.WrongStatus = wrong_status
+number_of Code.WrongCertificate = wrong_certificate
+number_of Code.WrongBlock = wrong_block
+number_of Code.WrongView = wrong_view
+number_of Code.CounterLimit = counter_limit
+number_of Code.NoRoom = no_room
+number_of Code.Unreadable = unreadable
+number_of Code.WrongMovement = wrong_movement
+number_of Code.WrongSteps = wrong_steps
+number_of Code.WrongIdentity = wrong_identity
+number_of Code.WaitingFull = waiting_full
+
+abbrev pub number_in : {A : Type 0} → Result A Refusal → ℕ
+number_in (Ok given) = 0
+number_in (Err r) = number_of r
 
 -- A test that a call makes, and what it returns where the test fails.
 pub data Need : Type 0 where
@@ -123,8 +146,9 @@ abbrev pub refusal : {State : Type 0} → ℕ → State → OutcomeOf ℕ State
 refusal = refusal_of 0
 
 -- The code's answer, as rules have it.
-abbrev pub told : Code.Answer → Answer
-told a = record { number = a.number; first = a.first; second = a.second }
+abbrev pub told : Result Values Refusal → Answer
+told (Ok v) = accepted v.first v.second
+told (Err r) = refused (number_of r)
 
 -- ---- The calls of a ledger, whose state is its memory.
 
@@ -134,9 +158,12 @@ Rule = RuleOf {Value = ℕ} 0 Memory
 abbrev pub Outcome : Type 0
 Outcome = OutcomeOf ℕ Memory
 
--- The code's answer, with what the three slices hold then.
-abbrev pub outcome : Code.Answer → List ℕ → List ℕ → List ℕ → Outcome
-outcome a t l b = record { answer = told a; state = memory t l b }
+-- An answer, with what the three slices hold then; and the code's.
+abbrev pub left : Answer → List ℕ → List ℕ → List ℕ → Outcome
+left a t l b = record { answer = a; state = memory t l b }
+
+abbrev pub outcome : Result Values Refusal → List ℕ → List ℕ → List ℕ → Outcome
+outcome a t l b = left (told a) t l b
 
 -- What a call's rule gives on three slices.
 abbrev pub outcome_by : (Memory → Rule) → List ℕ → List ℕ → List ℕ → Outcome

@@ -1,76 +1,75 @@
-// What the code and the definitions share: a call, the answer to it with its refusals, and what lets a leader propose.
+// What the code and the definitions share: a call, the answer to it, and what lets a leader propose.
 #![tactic(auto)]
 
-ghost use Rattle.std.specs.Prelude.{◌≡◌, [], ◌∷◌};
-ghost use Rattle.protocol.specs.Outcome as Refusals;
+ghost use Rattle.std.specs.Prelude.{◌≡◌};
+ghost use Rattle.protocol.specs.Outcome.{number_of, number_in};
 
-// The number that a call returns, 0 where it is accepted, and its two values.
-#[derive(Clone, Copy)]
-pub struct Answer {
-    pub number: u32,
+// The two values of an accepted call.
+#[derive(Clone, Copy, Default)]
+pub struct Values {
     pub first: u32,
     pub second: u32,
 }
 
-// The numbers of the table under "Calls" in document 01, and 11 to 14 of document 02. The refusals have the names of specs/Outcome.antt,
-// in upper case.
-pub const ACCEPTED: u32 = 0;
+// Why a call is refused: the rows of the table under "Calls" in document 01, then those of document 02. They have the names of
+// specs/Outcome.antt.
+#[derive(Clone, Copy)]
+pub enum Refusal {
+    WrongForm,
+    OutOfRange,
+    UnknownNumber,
+    WrongStatus,
+    WrongCertificate,
+    WrongBlock,
+    WrongView,
+    CounterLimit,
+    NoRoom,
+    // "script line unreadable": for a line or a code that gives no call.
+    Unreadable,
+    // "a movement outside these rules" (document 02, #101): for a netting, and for entries that wait.
+    WrongMovement,
+    // "steps that break these rules or aren't eight" (document 02, #104): for an opening.
+    WrongSteps,
+    // "an identity already waiting, or not waiting when it should leave or be matched", "512 waiting" (document 02, #108).
+    WrongIdentity,
+    WaitingFull,
+}
 
-pub const WRONG_FORM: u32 = 1;
+impl Refusal {
+    // The number in the table.
+    pub fn number(self) -> u32
+        ensures { result ≡ number_of self }
+    {
+        match self {
+            Refusal::WrongForm => 1,
+            Refusal::OutOfRange => 2,
+            Refusal::UnknownNumber => 3,
+            Refusal::WrongStatus => 4,
+            Refusal::WrongCertificate => 5,
+            Refusal::WrongBlock => 6,
+            Refusal::WrongView => 7,
+            Refusal::CounterLimit => 8,
+            Refusal::NoRoom => 9,
+            Refusal::Unreadable => 10,
+            Refusal::WrongMovement => 11,
+            Refusal::WrongSteps => 12,
+            Refusal::WrongIdentity => 13,
+            Refusal::WaitingFull => 14,
+        }
+    }
+}
 
-pub const OUT_OF_RANGE: u32 = 2;
+// What a call answers.
+pub type Answer = Result<Values, Refusal>;
 
-pub const UNKNOWN_NUMBER: u32 = 3;
-
-pub const WRONG_STATUS: u32 = 4;
-
-pub const WRONG_CERTIFICATE: u32 = 5;
-
-pub const WRONG_BLOCK: u32 = 6;
-
-pub const WRONG_VIEW: u32 = 7;
-
-pub const COUNTER_LIMIT: u32 = 8;
-
-pub const NO_ROOM: u32 = 9;
-
-// "script line unreadable": for a line or a code that gives no call.
-pub const UNREADABLE: u32 = 10;
-
-// "a movement outside these rules" (document 02, #101): for a netting, and for entries that wait.
-pub const WRONG_MOVEMENT: u32 = 11;
-
-// "steps that break these rules or aren't eight" (document 02, #104): for an opening.
-pub const WRONG_STEPS: u32 = 12;
-
-// "an identity already waiting, or not waiting when it should leave or be matched", "512 waiting" (document 02, #108).
-pub const WRONG_IDENTITY: u32 = 13;
-
-pub const WAITING_FULL: u32 = 14;
-
-// They are the definitions': nothing calls this.
-pub fn refusals() -> [u32; 14]
-    ensures { result
-        ≡ Refusals.wrong_form ∷ Refusals.out_of_range ∷ Refusals.unknown_number ∷ Refusals.wrong_status ∷ Refusals.wrong_certificate
-        ∷ Refusals.wrong_block ∷ Refusals.wrong_view ∷ Refusals.counter_limit ∷ Refusals.no_room ∷ Refusals.unreadable
-        ∷ Refusals.wrong_movement ∷ Refusals.wrong_steps ∷ Refusals.wrong_identity ∷ Refusals.waiting_full ∷ [] }
+// The number that a call returns, whatever it gives: 0, "accepted", or that of its refusal.
+pub fn number<T: Copy>(answer: Result<T, Refusal>) -> u32
+    ensures { result ≡ number_in answer }
 {
-    [
-        WRONG_FORM,
-        OUT_OF_RANGE,
-        UNKNOWN_NUMBER,
-        WRONG_STATUS,
-        WRONG_CERTIFICATE,
-        WRONG_BLOCK,
-        WRONG_VIEW,
-        COUNTER_LIMIT,
-        NO_ROOM,
-        UNREADABLE,
-        WRONG_MOVEMENT,
-        WRONG_STEPS,
-        WRONG_IDENTITY,
-        WAITING_FULL,
-    ]
+    match answer {
+        Ok(_) => 0,
+        Err(refusal) => refusal.number(),
+    }
 }
 
 // What lets a leader propose (document 01: the ground of a proposal): the number of an ACC, or the view and the block of a

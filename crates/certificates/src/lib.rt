@@ -4,6 +4,7 @@
 ghost use Rattle.std.specs.Prelude.{◌≡◌, List, [], ◌∷◌, ℕ, ◌+◌, ◌≤◌, length};
 ghost use Rattle.protocol.specs.Memory.{memory, certificate_at, certificate_words, words, append_certificate};
 ghost use Rattle.protocol.specs.Certificates.{first_below, found, appended};
+ghost use Rattle.protocol.specs.Outcome.{outcome, outcome_by};
 ghost use Rattle.protocol.specs.inner.Groups.{four_ok};
 ghost use Rattle.certificate_log.specs.inner.Certificates.{certificate_of};
 ghost use Rattle.certificate_log.specs.inner.LogFits.{LogFits};
@@ -12,16 +13,14 @@ ghost use Rattle.certificates.specs.inner.Filing.{
   equal_from,
   is_equal as is_equal_rule,
   is_of_other_view as is_of_other_view_rule,
-  leaves,
   filing,
-  filing_refusal,
 };
 
 use certificate_log::{
     CERTIFICATE_WORDS, Certificate, KIND_AT, OF_VIEW_AT, PROPOSED_BLOCK_AT, SIGNER_AT,
     SIGNER_BOOT_AT, SUBJECT_AT, SUBJECT_BOOT_AT, VIEW_AT,
 };
-use protocol::{ACCEPTED, NO_ROOM};
+use protocol::{Answer, Refusal, Values};
 use table::CERTIFICATE_COUNT_AT;
 
 // What filing tells of a certificate: the second value of the call that issues it.
@@ -34,26 +33,6 @@ pub fn filings() -> [u32; 2]
     ensures { result ≡ found ∷ appended ∷ [] }
 {
     [FOUND, APPENDED]
-}
-
-// Where a certificate is filed, or the refusal.
-#[derive(Clone, Copy)]
-pub enum Filed {
-    // its number in the log, and which: FOUND or APPENDED
-    At(u32, u32),
-    Refused(u32),
-}
-
-// The refusal that it holds, for a call to hand up.
-impl Filed {
-    pub fn refusal(self) -> u32
-        ensures { result ≡ filing_refusal self }
-    {
-        match self {
-            Filed::At(_, _) => ACCEPTED,
-            Filed::Refused(number) => number,
-        }
-    }
 }
 
 // Whether the certificate whose words start at an index equals this one.
@@ -133,21 +112,27 @@ fn append(table: &mut [u32], log: &mut [u32], c: Certificate)
     table[CERTIFICATE_COUNT_AT] = count + 1;
 }
 
-// Files a certificate: the number of the first equal one, found, or of a new one, appended; where there is no room, the refusal and no
-// change.
-pub fn file(table: &mut [u32], log: &mut [u32], c: Certificate) -> Filed
+// Files a certificate. Gives the values of the call that issues it: the number of the first equal one, and FOUND, or of a new one, and
+// APPENDED; where there is no room, the refusal and no change.
+pub fn file(table: &mut [u32], log: &mut [u32], c: Certificate) -> Answer
     requires { LogFits table.old log.old }
-    ensures { (b : List ℕ) → leaves result table.new log.new b
-        ≡ filing (memory table.old log.old b) (words (certificate_of c)) }
+    ensures { (b : List ℕ) → outcome result table.new log.new b
+        ≡ outcome_by (λ m. filing m (words (certificate_of c))) table.old log.old b }
 {
     let count = table[CERTIFICATE_COUNT_AT];
     let number = find(log, count, c);
     if number < count {
-        return Filed::At(number, FOUND);
+        return Ok(Values {
+            first: number,
+            second: FOUND,
+        });
     }
     if CERTIFICATE_WORDS * (count as usize) < log.len() {
         append(table, log, c);
-        return Filed::At(number, APPENDED);
+        return Ok(Values {
+            first: number,
+            second: APPENDED,
+        });
     }
-    Filed::Refused(NO_ROOM)
+    Err(Refusal::NoRoom)
 }

@@ -1,145 +1,73 @@
-// What the calls share: their answers, what a test answers, and the tests that most of them begin with.
+// What the calls share: the answer of an accepted one, one need, and the tests that most of them begin with.
 #![tactic(auto)]
 
-ghost use Rattle.std.specs.Prelude.{◌≡◌, List, [], ℕ, ◌<◌, length};
-ghost use Rattle.protocol.specs.Memory.{memory, certificate_count_at};
-ghost use Rattle.protocol.specs.Outcome.{◌else◌};
-ghost use Rattle.protocol.specs.FirstNeeds.{list_needs};
+ghost use Rattle.std.specs.Prelude.{◌≡◌, cond, List, [], ℕ, ◌<◌, length, Ok, Err, IfOk};
+ghost use Rattle.protocol.specs.Memory.{memory, certificate_count_at, replica as replica_at, certificate};
+ghost use Rattle.protocol.specs.Outcome.{number_in, first_refusal};
+ghost use Rattle.protocol.specs.FirstNeeds.{replica_needs, number_needs, list_needs};
+ghost use Rattle.certificate_log.specs.inner.Certificates.{certificate_from};
 ghost use Rattle.certificate_log.specs.inner.LogFits.{LogFits};
-ghost use Rattle.checks.specs.inner.Verdicts.{
-  next,
-  tested,
-  replica_found,
-  certificate_found,
-  test_refusal,
-  replica_refusal,
-  certificate_refusal,
-};
+ghost use Rattle.records.specs.inner.Replicas.{replica_from};
 
 use certificate_log::Certificate;
-use protocol::{ACCEPTED, Answer, OUT_OF_RANGE, UNKNOWN_NUMBER, WRONG_FORM};
+use protocol::{Answer, Refusal, Values};
 use records::Replica;
 use table::{CERTIFICATE_COUNT_AT, FAULT_BOUND_AT};
 
+// The answer of a call that is accepted, with its two values.
 pub fn accepted(first: u32, second: u32) -> Answer
-    ensures { result ≡ record { number = 0; first = first; second = second } }
+    ensures { result ≡ Ok (record { first = first; second = second }) }
 {
-    Answer {
-        number: ACCEPTED,
-        first,
-        second,
-    }
+    Ok(Values { first, second })
 }
 
-pub fn refused(number: u32) -> Answer
-    ensures { result ≡ record { number = number; first = 0; second = 0 } }
+// One need: where its test fails, its refusal.
+pub fn need(test: bool, refusal: Refusal) -> Result<(), Refusal>
+    ensures { result ≡ cond test (Ok tt) (Err refusal) }
 {
-    Answer {
-        number,
-        first: 0,
-        second: 0,
-    }
-}
-
-// What a test answers: that it passed, or the refusal.
-#[derive(Clone, Copy)]
-pub enum Tested {
-    Passed,
-    Refused(u32),
-}
-
-// The replica that was looked for, or the refusal.
-#[derive(Clone, Copy)]
-pub enum FoundReplica {
-    Found(Replica),
-    Refused(u32),
-}
-
-// The certificate that was looked for, or the refusal.
-#[derive(Clone, Copy)]
-pub enum FoundCertificate {
-    Found(Certificate),
-    Refused(u32),
-}
-
-// The refusal that each holds, for a call to hand up.
-impl Tested {
-    pub fn refusal(self) -> u32
-        ensures { result ≡ test_refusal self }
-    {
-        match self {
-            Tested::Passed => ACCEPTED,
-            Tested::Refused(number) => number,
-        }
-    }
-}
-
-impl FoundReplica {
-    pub fn refusal(self) -> u32
-        ensures { result ≡ replica_refusal self }
-    {
-        match self {
-            FoundReplica::Found(_) => ACCEPTED,
-            FoundReplica::Refused(number) => number,
-        }
-    }
-}
-
-impl FoundCertificate {
-    pub fn refusal(self) -> u32
-        ensures { result ≡ certificate_refusal self }
-    {
-        match self {
-            FoundCertificate::Found(_) => ACCEPTED,
-            FoundCertificate::Refused(number) => number,
-        }
-    }
-}
-
-// One need more: an earlier refusal is handed up unchanged.
-pub fn need(before: Tested, test: bool, number: u32) -> Tested
-    ensures { result ≡ next before (test else number) }
-{
-    let Tested::Passed = before else {
-        return before;
-    };
-    if test {
-        return Tested::Passed;
-    }
-    Tested::Refused(number)
+    if test { Ok(()) } else { Err(refusal) }
 }
 
 // The form (1), then the replica (2).
-pub fn find_replica(table: &[u32], log: &[u32], blocks: &[u32], replica: u32) -> FoundReplica
-    ensures { result ≡ replica_found (memory table.now log.now blocks.now) replica }
+#[tactic(auto, unfolding(protocol::specs::Outcome::first_refusal))]
+pub fn find_replica(
+    table: &[u32],
+    log: &[u32],
+    blocks: &[u32],
+    replica: u32,
+) -> Result<Replica, Refusal>
+    ensures refusal { number_in result
+        ≡ first_refusal (replica_needs (memory table.now log.now blocks.now) replica) }
+    ensures found { IfOk result (λ r. r ≡ replica_from (replica_at (memory table.now log.now blocks.now) replica)) }
 {
-    if form::is_well_formed(table, log, blocks) {
-        if replica < table::replica_count(table[FAULT_BOUND_AT]) {
-            return FoundReplica::Found(records::replica_in(table, replica));
-        }
-        return FoundReplica::Refused(OUT_OF_RANGE);
-    }
-    FoundReplica::Refused(WRONG_FORM)
+    need(form::is_well_formed(table, log, blocks), Refusal::WrongForm)?;
+    need(
+        replica < table::replica_count(table[FAULT_BOUND_AT]),
+        Refusal::OutOfRange,
+    )?;
+    Ok(records::replica_in(table, replica))
 }
 
 // A certificate, by its number (3).
-pub fn find_certificate(table: &[u32], log: &[u32], number: u32) -> FoundCertificate
+#[tactic(auto, unfolding(protocol::specs::Outcome::first_refusal))]
+pub fn find_certificate(table: &[u32], log: &[u32], number: u32) -> Result<Certificate, Refusal>
     requires { LogFits table.now log.now }
-    ensures { (b : List ℕ) → result ≡ certificate_found (memory table.now log.now b) number }
+    ensures refusal { (b : List ℕ) → number_in result ≡ first_refusal (number_needs (memory table.now log.now b) number) }
+    ensures found { IfOk result (λ c. c ≡ certificate_from (certificate (memory table.now log.now []) number)) }
 {
-    if number < table[CERTIFICATE_COUNT_AT] {
-        return FoundCertificate::Found(certificate_log::certificate_in(log, number));
-    }
-    FoundCertificate::Refused(UNKNOWN_NUMBER)
+    need(number < table[CERTIFICATE_COUNT_AT], Refusal::UnknownNumber)?;
+    Ok(certificate_log::certificate_in(log, number))
 }
 
 // The length of a list (2), then its numbers (3).
-pub fn test_list(table: &[u32], list: &[u32]) -> Tested
+#[tactic(auto, unfolding(protocol::specs::Outcome::first_refusal))]
+pub fn test_list(table: &[u32], list: &[u32]) -> Result<(), Refusal>
     requires { certificate_count_at < length table.now }
-    ensures { result ≡ tested (list_needs (memory table.now [] []) list.now) }
+    ensures { number_in result ≡ first_refusal (list_needs (memory table.now [] []) list.now) }
 {
     let size = (table[FAULT_BOUND_AT] as usize) + 1;
-    let tested = need(Tested::Passed, list.len() == size, OUT_OF_RANGE);
+    let sized = list.len() == size;
     let issued = quorum::all_issued(list, table[CERTIFICATE_COUNT_AT]);
-    need(tested, issued, UNKNOWN_NUMBER)
+    need(sized, Refusal::OutOfRange)?;
+    need(issued, Refusal::UnknownNumber)
 }

@@ -2,7 +2,7 @@
 #![tactic(auto)]
 
 ghost use Rattle.std.specs.Prelude.{◌≡◌};
-ghost use Rattle.protocol.specs.Outcome.{outcome, outcome_by};
+ghost use Rattle.protocol.specs.Outcome.{number_in, first_refusal, outcome, outcome_by};
 ghost use Rattle.protocol.specs.Calls.{
   reserve_needs,
   retires as retires_rule,
@@ -10,10 +10,9 @@ ghost use Rattle.protocol.specs.Calls.{
   reboot as reboot_rule,
 };
 ghost use Rattle.records.specs.inner.Replicas.{replica_of};
-ghost use Rattle.checks.specs.inner.Verdicts.{tested};
 
-use checks::{FoundReplica, Tested, accepted, need, refused};
-use protocol::{Answer, COUNTER_LIMIT, WRONG_STATUS};
+use checks::{accepted, need};
+use protocol::{Answer, Refusal};
 use records::Replica;
 use table::{
     BOOT_AT, CEILING, FLAG_AT, LOWERED, MIN_VIEW_AT, RECOVERING, RETIRED, STATUS_AT,
@@ -32,10 +31,7 @@ pub fn reboot(table: &mut [u32], log: &mut [u32], blocks: &mut [u32], replica: u
     ensures { outcome result table.new log.new blocks.new
         ≡ outcome_by (λ m. reboot_rule m replica) table.old log.old blocks.old }
 {
-    let found = checks::find_replica(table, log, blocks, replica);
-    let FoundReplica::Found(r) = found else {
-        return refused(found.refusal());
-    };
+    let r = checks::find_replica(table, log, blocks, replica)?;
     let boot = r.boot + 1;
     let limit = r.view_limit + counter::counter_step(table, boot);
     if retires(r, boot, limit) {
@@ -57,11 +53,12 @@ pub fn reboot(table: &mut [u32], log: &mut [u32], blocks: &mut [u32], replica: u
 }
 
 // The needs of reserve that are its own.
-fn test_reserve(r: Replica, limit: u32) -> Tested
-    ensures { result ≡ tested (reserve_needs (replica_of r) limit) }
+#[tactic(auto, unfolding(protocol::specs::Outcome::first_refusal))]
+fn test_reserve(r: Replica, limit: u32) -> Result<(), Refusal>
+    ensures { number_in result ≡ first_refusal (reserve_needs (replica_of r) limit) }
 {
-    let tested = need(Tested::Passed, r.status != RETIRED, WRONG_STATUS);
-    need(tested, limit <= CEILING, COUNTER_LIMIT)
+    need(r.status != RETIRED, Refusal::WrongStatus)?;
+    need(limit <= CEILING, Refusal::CounterLimit)
 }
 
 // The counter moves, and with it the view limit.
@@ -69,15 +66,9 @@ pub fn reserve(table: &mut [u32], log: &mut [u32], blocks: &mut [u32], replica: 
     ensures { outcome result table.new log.new blocks.new
         ≡ outcome_by (λ m. reserve_rule m replica) table.old log.old blocks.old }
 {
-    let found = checks::find_replica(table, log, blocks, replica);
-    let FoundReplica::Found(r) = found else {
-        return refused(found.refusal());
-    };
+    let r = checks::find_replica(table, log, blocks, replica)?;
     let limit = r.view_limit + counter::counter_step(table, r.boot);
-    let tested = test_reserve(r, limit);
-    let Tested::Passed = tested else {
-        return refused(tested.refusal());
-    };
+    test_reserve(r, limit)?;
     set_replica_word(table, replica, VIEW_LIMIT_AT, limit);
     accepted(limit, 0)
 }

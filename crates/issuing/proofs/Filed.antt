@@ -3,20 +3,31 @@ use Prim.Native.Nat.{ℕ}
 use mathlib.Core.Path.{◌≡◌, ap, sym, ◌∙◌}
 use mathlib.Core.Bool.{true, false}
 use mathlib.Core.List.{List, []}
-use Rattle.protocol.specs.declared.Answer.{Answer}
-use Rattle.protocol.specs.Memory.{Memory, Certificate, Assignment, memory, row_at, words, assign, update}
+use native.Mathlib.Omega.{arith}
+use Rattle.std.specs.Prelude.{Result, IsErr, IsErrAnd}
+use Rattle.protocol.specs.declared.Values.{Values}
+use Rattle.protocol.specs.declared.Refusal.{Refusal}
+use Rattle.protocol.specs.Memory.{Memory, Certificate, Assignment, row_at, words, assign, update}
 use Rattle.protocol.specs.Certificates.{number_for, found_or_appended, can_file, file}
-use Rattle.protocol.specs.Outcome.{first_refusal, acceptance, answered, follow, refusal, told, no_room}
+use Rattle.protocol.specs.Outcome.{Outcome, first_refusal, number_of, acceptance, answered, follow, accepted, refused, refusal, left, told, no_room}
 use Rattle.protocol.specs.Calls.{issuing}
-use Rattle.certificates.specs.declared.Filed.{Filed}
-use Rattle.certificates.specs.declared.Filed.TheVariants.{At, Refused}
-use Rattle.certificates.specs.inner.Filing.{Result, filing, filing_refusal}
-use Rattle.certificates.proofs.Filing.{placed, not_placed}
+use Rattle.protocol.proofs.logic.Booleans.{by-test}
+use Rattle.certificates.specs.inner.Filing.{filing}
+use Rattle.checks.proofs.Passing.{some_refusal, handed_up}
 
 module _ (m : Memory) (i : ℕ) (changes : List Assignment) (c : Certificate) where
-  refused_no_room : can_file m (words c) ≡ false → follow m (issuing m [] i changes c) ≡ refusal no_room m
+  none_filed : can_file m (words c) ≡ false → follow m (filing m (words c)) ≡ refusal no_room m
+  unfolding follow filing answered first_refusal
+  none_filed full = rw full
+
+  files : can_file m (words c) ≡ true
+      → follow m (filing m (words c)) ≡ acceptance (number_for m (words c)) (found_or_appended m (words c)) (file m (words c))
+  unfolding follow filing answered first_refusal
+  files can = rw can
+
+  none_issued : can_file m (words c) ≡ false → follow m (issuing m [] i changes c) ≡ refusal no_room m
   unfolding follow issuing answered first_refusal
-  refused_no_room full = rw full
+  none_issued full = rw full
 
   issues : can_file m (words c) ≡ true
       → follow m (issuing m [] i changes c)
@@ -24,24 +35,27 @@ module _ (m : Memory) (i : ℕ) (changes : List Assignment) (c : Certificate) wh
   unfolding follow issuing answered first_refusal
   issues can = rw can
 
-  -- From what `file`, `refusal`, `refused` and `accepted` give.
-  module _ {d : Certificate} (same : d ≡ c) {r : Filed} {n : ℕ} {m' : Memory}
-      (filed : record { outcome = r; memory = m' } ≡ filing m (words d)) where
-    pub full : {a : Answer} {k : ℕ} → r ≡ Refused n → k ≡ filing_refusal r → a ≡ record { number = k; first = 0; second = 0 }
-        → record { answer = told a; state = m' } ≡ follow m (issuing m [] i changes c)
-    unfolding filing
-    full at e p =
-        let files = rw same at filed in
-        let q = not_placed m (words c) n (sym at ∙ ap (λ (x : Result). x.outcome) files) in
-        let after : m' ≡ m = (rw q.0 at (ap (λ (x : Result). x.memory) files)) in
-        rw (p, e, at, q.1, after) (sym (refused_no_room q.0))
+  -- From what `file` gives.
+  module _ {d : Certificate} (same : d ≡ c) {t l b : List ℕ} where
+    pub full : (a : Result Values Refusal) (e : Refusal) → left (refused (number_of e)) t l b ≡ follow m (filing m (words d))
+        → IsErr a × IsErrAnd a (λ r. r ≡ e) → left (told a) t l b ≡ follow m (issuing m [] i changes c)
+    full a e filed up =
+        let gives : left (refused (number_of e)) t l b ≡ follow m (filing m (words c)) = rw same at filed in
+        by-test (can_file m (words c))
+        (λ can.
+        let number : number_of e ≡ 0 = ap (λ (o : Outcome). o.answer.number) (gives ∙ files can) in
+        absurd (some_refusal e number))
+        (λ none. rw (handed_up a e up) (gives ∙ none_filed none ∙ sym (none_issued none)))
 
-    pub issued : {a : Answer} {w : ℕ} {t : List ℕ} → r ≡ At n w → a ≡ record { number = 0; first = n; second = w }
-        → t ≡ assign m'.table (row_at i) changes
-        → record { answer = told a; state = memory t m'.log m'.blocks } ≡ follow m (issuing m [] i changes c)
-    unfolding filing update
-    issued {a} {w} at p e =
-        let files = rw same at filed in
-        let q = placed m (words c) n w (sym at ∙ ap (λ (x : Result). x.outcome) files) in
-        let after : m' ≡ file m (words c) = (rw q.can at (ap (λ (x : Result). x.memory) files)) in
-        rw (p, e, ← q.number, ← q.which, after) (sym (issues q.can))
+    pub issued : (v : Values) → left (accepted v.first v.second) t l b ≡ follow m (filing m (words d)) → {t' : List ℕ}
+        → t' ≡ assign t (row_at i) changes → left (accepted v.first v.second) t' l b ≡ follow m (issuing m [] i changes c)
+    unfolding update
+    issued v filed written =
+        let gives : left (accepted v.first v.second) t l b ≡ follow m (filing m (words c)) = rw same at filed in
+        by-test (can_file m (words c))
+        (λ can.
+        let as_filed = gives ∙ files can in
+        rw written (ap (λ (o : Outcome). record { answer = o.answer; state = update o.state i changes }) as_filed ∙ sym (issues can)))
+        (λ none.
+        let number : ◌≡◌ {A = ℕ} 0 no_room = ap (λ (o : Outcome). o.answer.number) (gives ∙ none_filed none) in
+        absurd (omega arith))

@@ -9,30 +9,25 @@ ghost use Rattle.records.specs.inner.Replicas.{assignments, Settable};
 ghost use Rattle.issuing.specs.inner.Issuable.{Issuable};
 
 use certificate_log::Certificate;
-use certificates::Filed;
-use checks::{accepted, refused};
 use protocol::Answer;
 
-// The answer of a call that issues, once its other needs hold: the certificate's number, and whether it was found or appended; or the
-// refusal, and nothing is changed.
+// The answer of a call that issues, once its other needs hold: what filing gives, and the words of the replica are set; or the refusal, and
+// nothing is changed.
 pub fn issue(
     table: &mut [u32],
     log: &mut [u32],
     replica: u32,
     offsets: &[usize],
-    values: &[u32],
+    words: &[u32],
     c: Certificate,
 ) -> Answer
     requires issuable { Issuable table.old log.old replica }
-    requires settable { Settable offsets.now values.now }
+    requires settable { Settable offsets.now words.now }
     ensures { (b : List ℕ) → outcome result table.new log.new b
-        ≡ outcome_by (λ m. issuing m [] replica (assignments offsets.now values.now) (certificate_of c))
+        ≡ outcome_by (λ m. issuing m [] replica (assignments offsets.now words.now) (certificate_of c))
         table.old log.old b }
 {
-    let filed = certificates::file(table, log, c);
-    let Filed::At(number, which) = filed else {
-        return refused(filed.refusal());
-    };
-    records::set_words(table, replica, offsets, values);
-    accepted(number, which)
+    let values = certificates::file(table, log, c)?;
+    records::set_words(table, replica, offsets, words);
+    Ok(values)
 }

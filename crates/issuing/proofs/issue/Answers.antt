@@ -3,10 +3,8 @@ use mathlib.Core.Path.{refl}
 use Rattle.issuing.proofs.Filed.{full, issued}
 use Rattle.issuing.proofs.issue.Goals as goal
 
-pub returns-in_default : goal.returns-in_default
-returns-in_default c =
-    λ b. full _ _ _ _ refl (c.file-filed.ensures b) c.in_default.is c.refusal.ensures c.refused.ensures
+pub returns-in_err-values : goal.returns-in_err-values
+returns-in_err-values c b = full _ _ _ _ refl _ _ (c.in_err-values.ensures b) c.from_residual.ensures
 
 pub returns : goal.returns
-returns c =
-    λ b. issued _ _ _ _ refl (c.file-filed.ensures b) c.in-At.is c.accepted.ensures c.set_words.ensures
+returns c b = issued _ _ _ _ refl _ (c.in_ok-values.ensures b) c.set_words.ensures

@@ -6,9 +6,9 @@ ghost use Rattle.protocol.specs.Outcome.{outcome, outcome_by};
 ghost use Rattle.protocol.specs.Calls.{accumulate as accumulate_rule, decide as decide_rule};
 
 use certificate_log::{ACC, Certificate, VIEW_AT, certificate_in, certificate_word};
-use checks::{FoundReplica, Tested, accepted, need, refused};
+use checks::{accepted, need};
 use issuing::issue;
-use protocol::{Answer, WRONG_CERTIFICATE, WRONG_STATUS};
+use protocol::{Answer, Refusal};
 use table::{DECIDED_BLOCK_AT, DECIDED_VIEW_AT, LIVE};
 
 // A quorum of NEWVIEWs of one view gives an ACC of the greatest of-view.
@@ -22,21 +22,12 @@ pub fn accumulate(
     ensures { outcome result table.new log.new blocks.new
         ≡ outcome_by (λ m. accumulate_rule m replica list.now) table.old log.old blocks.old }
 {
-    let found = checks::find_replica(table, log, blocks, replica);
-    let FoundReplica::Found(r) = found else {
-        return refused(found.refusal());
-    };
-    let listed = checks::test_list(table, list);
-    let Tested::Passed = listed else {
-        return refused(listed.refusal());
-    };
+    let r = checks::find_replica(table, log, blocks, replica)?;
+    checks::test_list(table, list)?;
     let view = certificate_word(log, list[0], VIEW_AT);
     let agreed = quorum::is_new_view_quorum(log, list, view);
-    let tested = need(Tested::Passed, r.status == LIVE, WRONG_STATUS);
-    let tested = need(tested, agreed, WRONG_CERTIFICATE);
-    let Tested::Passed = tested else {
-        return refused(tested.refusal());
-    };
+    need(r.status == LIVE, Refusal::WrongStatus)?;
+    need(agreed, Refusal::WrongCertificate)?;
     let best = quorum::greatest(log, list);
     let c = certificate_in(log, list[best]);
     let acc = Certificate {
@@ -63,20 +54,11 @@ pub fn decide(
     ensures { outcome result table.new log.new blocks.new
         ≡ outcome_by (λ m. decide_rule m replica list.now) table.old log.old blocks.old }
 {
-    let found = checks::find_replica(table, log, blocks, replica);
-    let FoundReplica::Found(r) = found else {
-        return refused(found.refusal());
-    };
-    let listed = checks::test_list(table, list);
-    let Tested::Passed = listed else {
-        return refused(listed.refusal());
-    };
+    let r = checks::find_replica(table, log, blocks, replica)?;
+    checks::test_list(table, list)?;
     let c = certificate_in(log, list[0]);
     let matching = quorum::is_commit_quorum(log, list, c.view, c.block);
-    let tested = need(Tested::Passed, matching, WRONG_CERTIFICATE);
-    let Tested::Passed = tested else {
-        return refused(tested.refusal());
-    };
+    need(matching, Refusal::WrongCertificate)?;
     if c.view <= r.decided_view {
         return accepted(c.block, c.view);
     }

@@ -1,17 +1,17 @@
 -- How a call goes from one need to the next, from what the code's tests answer: refused, with the refusal handed up, or on to the rest.
 use Prim.Native.Nat.{ℕ, ◌+◌, ◌≤◌, ◌<◌}
 use mathlib.Core.Path.{◌≡◌, refl, sym, ◌∙◌}
-use mathlib.Core.Bool.{true}
-use mathlib.Core.List.{List, [], ◌++◌}
+use mathlib.Core.Bool.{Bool, true, false}
+use mathlib.Core.List.{List, [], ◌∷◌, ◌++◌}
 use native.Mathlib.Omega.{arith}
 use lib.ListN.{length, get_or}
-use Rattle.std.specs.Prelude.{Result, Ok, Err, IsErr, IsErrAnd}
+use Rattle.std.specs.Prelude.{Result, Ok, Err, IsErr, IsErrAnd, cond}
 use Rattle.protocol.specs.declared.Values.{Values}
 use Rattle.protocol.specs.declared.Refusal.{Refusal}
 use Rattle.protocol.specs.declared.Refusal.TheVariants as Code
 use Rattle.protocol.specs.Memory.{Memory, replica, certificate, certificate_at, certificate_words}
 use Rattle.protocol.specs.Quorum.{is_issued, certificates_of, first_of}
-use Rattle.protocol.specs.Outcome.{Need, RuleOf, Rule, first_refusal, number_of, acceptance, refusal_of, follow, told}
+use Rattle.protocol.specs.Outcome.{Need, ◌else◌, RuleOf, Rule, first_refusal, number_of, acceptance, refusal_of, follow, told}
 use Rattle.protocol.specs.FirstNeeds.{replica_needs, number_needs, list_needs}
 use Rattle.protocol.proofs.calls.Needs as Needs
 use Rattle.protocol.proofs.calls.Needs.{positive, all_needs, refused_first, all_pass}
@@ -21,6 +21,7 @@ use Rattle.certificate_log.specs.declared.Certificate.{Certificate}
 use Rattle.records.specs.declared.Replica.{Replica}
 use Rattle.certificate_log.specs.inner.Certificates.{certificate_from}
 use Rattle.records.specs.inner.Replicas.{replica_from}
+use Rattle.checks.proofs.Needed.{needed}
 use Rattle.checks.proofs.Ready.{Ready, ready, ReadyList, all_listed, some_there, listed_there}
 
 -- No refusal has the number of an acceptance.
@@ -75,6 +76,25 @@ module _ {rule : Rule} where
   pub stops : {m : Memory} (a : Result Values Refusal) (e : Refusal) (ns rest : List Need) → At rule (ns ++ rest)
       → number_of e ≡ first_refusal ns → IsErr a × IsErrAnd a (λ r. r ≡ e) → record { answer = told a; state = m } ≡ follow m rule
   stops {m} a e ns rest at is up = rw (handed_up a e up) (stops_at m e ns rest at is)
+
+-- ---- by one need
+
+need_failed : (t : Bool) (r e : Refusal) → ◌≡◌ {A = Result (Unit {0}) Refusal} (Err e) (cond t (Ok tt) (Err r)) → (t ≡ false) × (e ≡ r)
+need_failed true r e is = let clash : ◌≡◌ {A = ℕ} 0 1 = cc in absurd (omega arith)
+need_failed false r e is = (refl, cc)
+
+module _ {rule : Rule} {t : Bool} (r : Refusal) (rest : List Need) (at : At rule (t else number_of r ∷ rest)) where
+  pub need_stops : {m : Memory} (a : Result Values Refusal) (e : Refusal)
+      → ◌≡◌ {A = Result (Unit {0}) Refusal} (Err e) (cond t (Ok tt) (Err r)) → IsErr a × IsErrAnd a (λ d. d ≡ e)
+      → record { answer = told a; state = m } ≡ follow m rule
+  unfolding first_refusal
+  need_stops a e is up =
+      let q = need_failed t r e is in
+      stops a e (t else number_of r ∷ []) rest at (rw (q.0, q.1) refl) up
+
+  pub need_on : {u : Unit {0}} → ◌≡◌ {A = Result (Unit {0}) Refusal} (Ok u) (cond t (Ok tt) (Err r)) → At rule rest
+  unfolding first_refusal
+  need_on is = let q = needed t r is in record { same = at.same ∙ rw q refl }
 
 -- ---- what is found: a replica
 

@@ -1,133 +1,79 @@
 -- Refused by the form, the replica, the list or a need of its own; else an ACC is issued, of the greatest of-view.
-use Prim.Native.Nat.{ℕ}
-use mathlib.Core.Path.{◌≡◌, refl, ap, ◌∙◌}
-use mathlib.Core.List.{List, ◌++◌}
+use mathlib.Core.Path.{refl, ap, ◌∙◌}
 use native.Mathlib.Omega.{arith}
-use Rattle.protocol.specs.Memory.{Memory, Certificate, memory, replica}
-use Rattle.protocol.specs.Certificates.{acc_of}
-use Rattle.protocol.specs.Quorum.{every, certificates_of, first_of, greatest}
-use Rattle.protocol.specs.Outcome.{Need}
-use Rattle.protocol.specs.FirstNeeds.{list_needs}
-use Rattle.protocol.specs.Calls.{accumulate_needs, accumulate as accumulate_rule}
+use Rattle.protocol.specs.Memory.{Certificate}
+use Rattle.protocol.specs.Quorum.{every}
+use Rattle.protocol.specs.Calls.{accumulate as accumulate_rule}
 use Rattle.certificate_log.specs.inner.Certificates.{certificate_from}
-use Rattle.checks.specs.inner.Verdicts.{tested}
-use Rattle.checks.proofs.Verdicts.{first_need, then_need}
-use Rattle.checks.proofs.Passing.{ReplicaFound, no_replica, found_replica, ListFound, found_list, failed, passed}
-use Rattle.issuing.proofs.Issues.{issuable, slot, start, issues}
+use Rattle.checks.proofs.Passing.{stops, need_stops, need_on}
+use Rattle.issuing.proofs.Issues.{issuable, start, issues}
+use Rattle.accumulator.proofs.Found.{accumulating, accumulating_list}
 use Rattle.accumulator.proofs.accumulate.Goals as goal
 
-abbrev rest : Memory → ℕ → List ℕ → List Need
-rest m i list =
-    let cs = certificates_of m list in
-    accumulate_needs (replica m i) cs ++ slot m (acc_of i (replica m i).boot (first_of cs).view (greatest cs).block (greatest cs).of_view)
-
-pub returns-in_default : goal.returns-in_default
+pub returns-in_err-r : goal.returns-in_err-r
 unfolding accumulate_rule
-returns-in_default c =
-    no_replica _ _ _ (start _ _ _ _ _ _ refl) c.find_replica-found.ensures
-    c.in_default.is c.refusal.ensures c.refused.ensures
+returns-in_err-r c = stops _ _ _ _ (start _ _ _ _ _ _ refl) c.in_err-r.ensures.refusal c.from_residual.ensures
 
-pub returns-in_default-listed : goal.returns-in_default-listed
-unfolding accumulate_rule
-returns-in_default-listed c =
-    let found : ReplicaFound (memory c.args.table.now c.args.log.now c.args.blocks.now) c.args.replica (accumulate_rule (memory c.args.table.now c.args.log.now c.args.blocks.now) c.args.replica c.args.list.now) (list_needs (memory c.args.table.now c.args.log.now c.args.blocks.now) c.args.list.now ++ rest (memory c.args.table.now c.args.log.now c.args.blocks.now) c.args.replica c.args.list.now) c.in-Found.r = found_replica _ _ _ (start _ _ _ _ _ _ refl) c.find_replica-found.ensures c.in-Found.is in
-    failed _ refl c.test_list-listed.ensures ((memory c.args.table.now c.args.log.now c.args.blocks.now)) _ found.at
-    c.in_default-listed.is c.refusal-in_default-listed.ensures c.refused-in_default-listed.ensures
+pub test_list-requires : goal.test_list-requires
+test_list-requires c =
+    let found = accumulating _ _ c.args.list.now c.in_ok-r.ensures.refusal c.in_ok-r.ensures.found in
+    omega (arith, found.ready.sizes)
 
-pub returns-in_default-tested : goal.returns-in_default-tested
-unfolding accumulate_rule
-returns-in_default-tested c =
-    let found : ReplicaFound (memory c.args.table.now c.args.log.now c.args.blocks.now) c.args.replica (accumulate_rule (memory c.args.table.now c.args.log.now c.args.blocks.now) c.args.replica c.args.list.now) (list_needs (memory c.args.table.now c.args.log.now c.args.blocks.now) c.args.list.now ++ rest (memory c.args.table.now c.args.log.now c.args.blocks.now) c.args.replica c.args.list.now) c.in-Found.r = found_replica _ _ _ (start _ _ _ _ _ _ refl) c.find_replica-found.ensures c.in-Found.is in
-    let Known : Type 0 =
-    (ListFound (memory c.args.table.now c.args.log.now c.args.blocks.now) c.args.replica c.args.list.now (accumulate_rule (memory c.args.table.now c.args.log.now c.args.blocks.now) c.args.replica c.args.list.now) (rest (memory c.args.table.now c.args.log.now c.args.blocks.now) c.args.replica c.args.list.now) c.in-Found.r) in
-    let listed : Known = found_list found c.test_list-listed.ensures c.in-Passed.is in
-    let view :
-    (c.certificate_word-view.result ≡ (first_of (certificates_of (memory c.args.table.now c.args.log.now c.args.blocks.now) c.args.list.now)).view) = c.certificate_word-view.ensures ∙ ap (λ (x : Certificate). x.view) listed.first in
-    let own_tested :
-    c.need-tested-2.result ≡ tested (accumulate_needs (replica (memory c.args.table.now c.args.log.now c.args.blocks.now) c.args.replica) (certificates_of (memory c.args.table.now c.args.log.now c.args.blocks.now) c.args.list.now)) =
-    then_need _ _ _ (first_need _ _ (rw listed.read at c.need-tested.ensures))
-    (rw (c.is_new_view_quorum-agreed.ensures, view) at c.need-tested-2.ensures) in
-    failed _ refl own_tested ((memory c.args.table.now c.args.log.now c.args.blocks.now)) _ listed.at
-    c.in_default-tested.is c.refusal-in_default-tested.ensures c.refused-in_default-tested.ensures
+pub returns-in_err-test_list : goal.returns-in_err-test_list
+returns-in_err-test_list c =
+    let found = accumulating _ _ c.args.list.now c.in_ok-r.ensures.refusal c.in_ok-r.ensures.found in
+    stops _ _ _ _ found.at c.in_err-test_list.ensures c.from_residual-in_err-test_list.ensures
+
+pub bounds-list-0 : goal.bounds-list-0
+bounds-list-0 c =
+    let listed = accumulating_list _ _ _ c.in_ok-r.ensures.refusal c.in_ok-r.ensures.found c.in_ok-test_list.ensures in
+    listed.some
+
+pub certificate_word-view-requires : goal.certificate_word-view-requires
+certificate_word-view-requires c =
+    let listed = accumulating_list _ _ _ c.in_ok-r.ensures.refusal c.in_ok-r.ensures.found c.in_ok-test_list.ensures in
+    omega (arith, listed.there 0)
+
+pub is_new_view_quorum-agreed-requires : goal.is_new_view_quorum-agreed-requires
+is_new_view_quorum-agreed-requires c =
+    let listed = accumulating_list _ _ _ c.in_ok-r.ensures.refusal c.in_ok-r.ensures.found c.in_ok-test_list.ensures in
+    listed.all
+
+pub returns-in_err-need : goal.returns-in_err-need
+returns-in_err-need c =
+    let listed = accumulating_list _ _ _ c.in_ok-r.ensures.refusal c.in_ok-r.ensures.found c.in_ok-test_list.ensures in
+    need_stops _ _ listed.at _ _ (rw listed.read at c.in_err-need.ensures) c.from_residual-in_err-need.ensures
+
+pub returns-in_err-need-2 : goal.returns-in_err-need-2
+returns-in_err-need-2 c =
+    let listed = accumulating_list _ _ _ c.in_ok-r.ensures.refusal c.in_ok-r.ensures.found c.in_ok-test_list.ensures in
+    let view = c.certificate_word-view.ensures ∙ ap (λ (x : Certificate). x.view) listed.first in
+    let live = need_on _ _ listed.at (rw listed.read at c.in_ok-need.ensures) in
+    need_stops _ _ live _ _ (rw (c.is_new_view_quorum-agreed.ensures, view) at c.in_err-need-2.ensures)
+    c.from_residual-in_err-need-2.ensures
 
 pub greatest-best-requires : goal.greatest-best-requires
-unfolding accumulate_rule
 greatest-best-requires c =
-    let found : ReplicaFound (memory c.args.table.now c.args.log.now c.args.blocks.now) c.args.replica (accumulate_rule (memory c.args.table.now c.args.log.now c.args.blocks.now) c.args.replica c.args.list.now) (list_needs (memory c.args.table.now c.args.log.now c.args.blocks.now) c.args.list.now ++ rest (memory c.args.table.now c.args.log.now c.args.blocks.now) c.args.replica c.args.list.now) c.in-Found.r = found_replica _ _ _ (start _ _ _ _ _ _ refl) c.find_replica-found.ensures c.in-Found.is in
-    let Known : Type 0 =
-    (ListFound (memory c.args.table.now c.args.log.now c.args.blocks.now) c.args.replica c.args.list.now (accumulate_rule (memory c.args.table.now c.args.log.now c.args.blocks.now) c.args.replica c.args.list.now) (rest (memory c.args.table.now c.args.log.now c.args.blocks.now) c.args.replica c.args.list.now) c.in-Found.r) in
-    let listed : Known = found_list found c.test_list-listed.ensures c.in-Passed.is in
-    let l = listed in
-    (l.all, l.some)
+    let listed = accumulating_list _ _ _ c.in_ok-r.ensures.refusal c.in_ok-r.ensures.found c.in_ok-test_list.ensures in
+    (listed.all, listed.some)
+
+pub certificate_in-c-requires : goal.certificate_in-c-requires
+certificate_in-c-requires c =
+    let listed = accumulating_list _ _ _ c.in_ok-r.ensures.refusal c.in_ok-r.ensures.found c.in_ok-test_list.ensures in
+    listed.there c.greatest-best.result
 
 pub issue-requires : goal.issue-requires
-unfolding every accumulate_rule
+unfolding every
 issue-requires c =
-    let found : ReplicaFound (memory c.args.table.now c.args.log.now c.args.blocks.now) c.args.replica (accumulate_rule (memory c.args.table.now c.args.log.now c.args.blocks.now) c.args.replica c.args.list.now) (list_needs (memory c.args.table.now c.args.log.now c.args.blocks.now) c.args.list.now ++ rest (memory c.args.table.now c.args.log.now c.args.blocks.now) c.args.replica c.args.list.now) c.in-Found.r = found_replica _ _ _ (start _ _ _ _ _ _ refl) c.find_replica-found.ensures c.in-Found.is in
-    let Known : Type 0 =
-    (ListFound (memory c.args.table.now c.args.log.now c.args.blocks.now) c.args.replica c.args.list.now (accumulate_rule (memory c.args.table.now c.args.log.now c.args.blocks.now) c.args.replica c.args.list.now) (rest (memory c.args.table.now c.args.log.now c.args.blocks.now) c.args.replica c.args.list.now) c.in-Found.r) in
-    let listed : Known = found_list found c.test_list-listed.ensures c.in-Passed.is in
-    let known : Known = listed in
-    record { issuable = issuable _ _ known.ready; settable = record { paired = refl; within = refl } }
+    let listed = accumulating_list _ _ _ c.in_ok-r.ensures.refusal c.in_ok-r.ensures.found c.in_ok-test_list.ensures in
+    record { issuable = issuable _ _ listed.ready; settable = record { paired = refl; within = refl } }
 
 pub returns : goal.returns
 unfolding accumulate_rule
 returns c =
-    let found : ReplicaFound (memory c.args.table.now c.args.log.now c.args.blocks.now) c.args.replica (accumulate_rule (memory c.args.table.now c.args.log.now c.args.blocks.now) c.args.replica c.args.list.now) (list_needs (memory c.args.table.now c.args.log.now c.args.blocks.now) c.args.list.now ++ rest (memory c.args.table.now c.args.log.now c.args.blocks.now) c.args.replica c.args.list.now) c.in-Found.r = found_replica _ _ _ (start _ _ _ _ _ _ refl) c.find_replica-found.ensures c.in-Found.is in
-    let Known : Type 0 =
-    (ListFound (memory c.args.table.now c.args.log.now c.args.blocks.now) c.args.replica c.args.list.now (accumulate_rule (memory c.args.table.now c.args.log.now c.args.blocks.now) c.args.replica c.args.list.now) (rest (memory c.args.table.now c.args.log.now c.args.blocks.now) c.args.replica c.args.list.now) c.in-Found.r) in
-    let listed : Known = found_list found c.test_list-listed.ensures c.in-Passed.is in
-    let view :
-    (c.certificate_word-view.result ≡ (first_of (certificates_of (memory c.args.table.now c.args.log.now c.args.blocks.now) c.args.list.now)).view) = c.certificate_word-view.ensures ∙ ap (λ (x : Certificate). x.view) listed.first in
-    let own_tested :
-    c.need-tested-2.result ≡ tested (accumulate_needs (replica (memory c.args.table.now c.args.log.now c.args.blocks.now) c.args.replica) (certificates_of (memory c.args.table.now c.args.log.now c.args.blocks.now) c.args.list.now)) =
-    then_need _ _ _ (first_need _ _ (rw listed.read at c.need-tested.ensures))
-    (rw (c.is_new_view_quorum-agreed.ensures, view) at c.need-tested-2.ensures) in
-    let known : Known = listed in
-    let at_slot = passed _ refl own_tested _ known.at c.in-Passed-tested.is in
+    let listed = accumulating_list _ _ _ c.in_ok-r.ensures.refusal c.in_ok-r.ensures.found c.in_ok-test_list.ensures in
+    let view = c.certificate_word-view.ensures ∙ ap (λ (x : Certificate). x.view) listed.first in
     let best = c.certificate_in-c.ensures ∙ ap certificate_from c.greatest-best.ensures.is in
-    issues _ _ _ _ _ at_slot refl (simp (view, best, known.read))
-    (c.issue.ensures _)
-
-pub test_list-listed-requires : goal.test_list-listed-requires
-unfolding accumulate_rule
-test_list-listed-requires c =
-    let found : ReplicaFound (memory c.args.table.now c.args.log.now c.args.blocks.now) c.args.replica (accumulate_rule (memory c.args.table.now c.args.log.now c.args.blocks.now) c.args.replica c.args.list.now) (list_needs (memory c.args.table.now c.args.log.now c.args.blocks.now) c.args.list.now ++ rest (memory c.args.table.now c.args.log.now c.args.blocks.now) c.args.replica c.args.list.now) c.in-Found.r = found_replica _ _ _ (start _ _ _ _ _ _ refl) c.find_replica-found.ensures c.in-Found.is in
-    omega (arith, found.ready.sizes)
-
-pub bounds-list-0 : goal.bounds-list-0
-unfolding accumulate_rule
-bounds-list-0 c =
-    let found : ReplicaFound (memory c.args.table.now c.args.log.now c.args.blocks.now) c.args.replica (accumulate_rule (memory c.args.table.now c.args.log.now c.args.blocks.now) c.args.replica c.args.list.now) (list_needs (memory c.args.table.now c.args.log.now c.args.blocks.now) c.args.list.now ++ rest (memory c.args.table.now c.args.log.now c.args.blocks.now) c.args.replica c.args.list.now) c.in-Found.r = found_replica _ _ _ (start _ _ _ _ _ _ refl) c.find_replica-found.ensures c.in-Found.is in
-    let Known : Type 0 =
-    (ListFound (memory c.args.table.now c.args.log.now c.args.blocks.now) c.args.replica c.args.list.now (accumulate_rule (memory c.args.table.now c.args.log.now c.args.blocks.now) c.args.replica c.args.list.now) (rest (memory c.args.table.now c.args.log.now c.args.blocks.now) c.args.replica c.args.list.now) c.in-Found.r) in
-    let listed : Known = found_list found c.test_list-listed.ensures c.in-Passed.is in
-    listed.some
-
-pub certificate_word-view-requires : goal.certificate_word-view-requires
-unfolding accumulate_rule
-certificate_word-view-requires c =
-    let found : ReplicaFound (memory c.args.table.now c.args.log.now c.args.blocks.now) c.args.replica (accumulate_rule (memory c.args.table.now c.args.log.now c.args.blocks.now) c.args.replica c.args.list.now) (list_needs (memory c.args.table.now c.args.log.now c.args.blocks.now) c.args.list.now ++ rest (memory c.args.table.now c.args.log.now c.args.blocks.now) c.args.replica c.args.list.now) c.in-Found.r = found_replica _ _ _ (start _ _ _ _ _ _ refl) c.find_replica-found.ensures c.in-Found.is in
-    let Known : Type 0 =
-    (ListFound (memory c.args.table.now c.args.log.now c.args.blocks.now) c.args.replica c.args.list.now (accumulate_rule (memory c.args.table.now c.args.log.now c.args.blocks.now) c.args.replica c.args.list.now) (rest (memory c.args.table.now c.args.log.now c.args.blocks.now) c.args.replica c.args.list.now) c.in-Found.r) in
-    let listed : Known = found_list found c.test_list-listed.ensures c.in-Passed.is in
-    omega (arith, listed.there 0)
-
-pub is_new_view_quorum-agreed-requires : goal.is_new_view_quorum-agreed-requires
-unfolding accumulate_rule
-is_new_view_quorum-agreed-requires c =
-    let found : ReplicaFound (memory c.args.table.now c.args.log.now c.args.blocks.now) c.args.replica (accumulate_rule (memory c.args.table.now c.args.log.now c.args.blocks.now) c.args.replica c.args.list.now) (list_needs (memory c.args.table.now c.args.log.now c.args.blocks.now) c.args.list.now ++ rest (memory c.args.table.now c.args.log.now c.args.blocks.now) c.args.replica c.args.list.now) c.in-Found.r = found_replica _ _ _ (start _ _ _ _ _ _ refl) c.find_replica-found.ensures c.in-Found.is in
-    let Known : Type 0 =
-    (ListFound (memory c.args.table.now c.args.log.now c.args.blocks.now) c.args.replica c.args.list.now (accumulate_rule (memory c.args.table.now c.args.log.now c.args.blocks.now) c.args.replica c.args.list.now) (rest (memory c.args.table.now c.args.log.now c.args.blocks.now) c.args.replica c.args.list.now) c.in-Found.r) in
-    let listed : Known = found_list found c.test_list-listed.ensures c.in-Passed.is in
-    listed.all
-
-pub certificate_in-c-requires : goal.certificate_in-c-requires
-unfolding accumulate_rule
-certificate_in-c-requires c =
-    let found : ReplicaFound (memory c.args.table.now c.args.log.now c.args.blocks.now) c.args.replica (accumulate_rule (memory c.args.table.now c.args.log.now c.args.blocks.now) c.args.replica c.args.list.now) (list_needs (memory c.args.table.now c.args.log.now c.args.blocks.now) c.args.list.now ++ rest (memory c.args.table.now c.args.log.now c.args.blocks.now) c.args.replica c.args.list.now) c.in-Found.r = found_replica _ _ _ (start _ _ _ _ _ _ refl) c.find_replica-found.ensures c.in-Found.is in
-    let Known : Type 0 =
-    (ListFound (memory c.args.table.now c.args.log.now c.args.blocks.now) c.args.replica c.args.list.now (accumulate_rule (memory c.args.table.now c.args.log.now c.args.blocks.now) c.args.replica c.args.list.now) (rest (memory c.args.table.now c.args.log.now c.args.blocks.now) c.args.replica c.args.list.now) c.in-Found.r) in
-    let listed : Known = found_list found c.test_list-listed.ensures c.in-Passed.is in
-    let known : Known = listed in
-    known.there c.greatest-best.result
+    let live = need_on _ _ listed.at (rw listed.read at c.in_ok-need.ensures) in
+    let at_slot = need_on _ _ live (rw (c.is_new_view_quorum-agreed.ensures, view) at c.in_ok-need-2.ensures) in
+    issues _ _ _ _ _ at_slot refl (simp (view, best, listed.read)) (c.issue.ensures _)

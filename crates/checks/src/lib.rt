@@ -52,7 +52,7 @@ pub fn find_replica(
 #[tactic(auto, unfolding(protocol::specs::Outcome::first_refusal))]
 pub fn find_certificate(table: &[u32], log: &[u32], number: u32) -> Result<Certificate, Refusal>
     requires { LogFits table.now log.now }
-    ensures refusal { (b : List ℕ) → number_in result ≡ first_refusal (number_needs (memory table.now log.now b) number) }
+    ensures refusal { number_in result ≡ first_refusal (number_needs (memory table.now log.now []) number) }
     ensures found { IfOk result (λ c. c ≡ certificate_from (certificate (memory table.now log.now []) number)) }
 {
     need(number < table[CERTIFICATE_COUNT_AT], Refusal::UnknownNumber)?;

@@ -1,9 +1,9 @@
 // The calls of a restarted replica and of those that help it (document 01, "Calls"): request, reply, recover.
 #![tactic(auto)]
 
-ghost use Rattle.std.specs.Prelude.{◌≡◌, max};
+ghost use Rattle.std.specs.Prelude.{◌≡◌};
 ghost use Rattle.protocol.specs.Certificates.{req_of, reply_of};
-ghost use Rattle.protocol.specs.Outcome.{outcome, outcome_by};
+ghost use Rattle.protocol.specs.Outcome.{number_in, first_refusal, outcome, outcome_by};
 ghost use Rattle.protocol.specs.Calls.{
   reply_needs,
   request as request_rule,
@@ -12,12 +12,11 @@ ghost use Rattle.protocol.specs.Calls.{
 };
 ghost use Rattle.certificate_log.specs.inner.Certificates.{certificate_of};
 ghost use Rattle.records.specs.inner.Replicas.{replica_of};
-ghost use Rattle.checks.specs.inner.Verdicts.{tested};
 
 use certificate_log::{Certificate, REPLY, REQ};
-use checks::{FoundCertificate, FoundReplica, Tested, accepted, need, refused};
+use checks::{accepted, need};
 use issuing::issue;
-use protocol::{Answer, COUNTER_LIMIT, WRONG_CERTIFICATE, WRONG_STATUS};
+use protocol::{Answer, Refusal};
 use records::Replica;
 use table::{
     FLAG_AT, LIVE, LOWERED, MIN_VIEW_AT, RECOVERING, STATUS_AT, STORED_BLOCK_AT, STORED_VIEW_AT,
@@ -45,25 +44,20 @@ pub fn request(table: &mut [u32], log: &mut [u32], blocks: &mut [u32], replica: 
     ensures { outcome result table.new log.new blocks.new
         ≡ outcome_by (λ m. request_rule m replica) table.old log.old blocks.old }
 {
-    let found = checks::find_replica(table, log, blocks, replica);
-    let FoundReplica::Found(r) = found else {
-        return refused(found.refusal());
-    };
-    let tested = need(Tested::Passed, r.status == RECOVERING, WRONG_STATUS);
-    let Tested::Passed = tested else {
-        return refused(tested.refusal());
-    };
+    let r = checks::find_replica(table, log, blocks, replica)?;
+    need(r.status == RECOVERING, Refusal::WrongStatus)?;
     issue(table, log, replica, &[], &[], req(replica, r))
 }
 
 // The needs of reply that are its own.
-fn test_reply(replica: u32, r: Replica, q: Certificate) -> Tested
-    ensures { result ≡ tested (reply_needs replica (replica_of r) (certificate_of q)) }
+#[tactic(auto, unfolding(protocol::specs::Outcome::first_refusal))]
+fn test_reply(replica: u32, r: Replica, q: Certificate) -> Result<(), Refusal>
+    ensures { number_in result ≡ first_refusal (reply_needs replica (replica_of r) (certificate_of q)) }
 {
-    let tested = need(Tested::Passed, r.status == LIVE, WRONG_STATUS);
-    let tested = need(tested, q.kind == REQ, WRONG_CERTIFICATE);
-    let tested = need(tested, q.signer != replica, WRONG_CERTIFICATE);
-    need(tested, q.view <= r.view_limit, COUNTER_LIMIT)
+    need(r.status == LIVE, Refusal::WrongStatus)?;
+    need(q.kind == REQ, Refusal::WrongCertificate)?;
+    need(q.signer != replica, Refusal::WrongCertificate)?;
+    need(q.view <= r.view_limit, Refusal::CounterLimit)
 }
 
 // What a replica answers: its stored block, for the one that asked.
@@ -94,18 +88,9 @@ pub fn reply(
     ensures { outcome result table.new log.new blocks.new
         ≡ outcome_by (λ m. reply_rule m replica number) table.old log.old blocks.old }
 {
-    let found = checks::find_replica(table, log, blocks, replica);
-    let FoundReplica::Found(r) = found else {
-        return refused(found.refusal());
-    };
-    let asked = checks::find_certificate(table, log, number);
-    let FoundCertificate::Found(q) = asked else {
-        return refused(asked.refusal());
-    };
-    let tested = test_reply(replica, r, q);
-    let Tested::Passed = tested else {
-        return refused(tested.refusal());
-    };
+    let r = checks::find_replica(table, log, blocks, replica)?;
+    let q = checks::find_certificate(table, log, number)?;
+    test_reply(replica, r, q)?;
     let answer = reply_to(replica, r, q);
     if r.min_view < q.view {
         let offsets = [MIN_VIEW_AT, FLAG_AT];
@@ -113,12 +98,6 @@ pub fn reply(
         return issue(table, log, replica, &offsets, &values, answer);
     }
     issue(table, log, replica, &[], &[], answer)
-}
-
-fn larger(a: u32, b: u32) -> u32
-    ensures { result ≡ max a b }
-{
-    if a < b { b } else { a }
 }
 
 // A restarted replica is live again, with the stored block of greatest of-view in f+1 replies.
@@ -132,24 +111,15 @@ pub fn recover(
     ensures { outcome result table.new log.new blocks.new
         ≡ outcome_by (λ m. recover_rule m replica list.now) table.old log.old blocks.old }
 {
-    let found = checks::find_replica(table, log, blocks, replica);
-    let FoundReplica::Found(r) = found else {
-        return refused(found.refusal());
-    };
-    let listed = checks::test_list(table, list);
-    let Tested::Passed = listed else {
-        return refused(listed.refusal());
-    };
+    let r = checks::find_replica(table, log, blocks, replica)?;
+    checks::test_list(table, list)?;
     let best = quorum::greatest(log, list);
     let c = certificate_log::certificate_in(log, list[best]);
-    let min_view = larger(r.min_view, c.of_view + 1);
+    let min_view = r.min_view.max(c.of_view + 1);
     let replied = quorum::is_reply_quorum(log, list, replica, r.boot, r.min_view);
-    let tested = need(Tested::Passed, r.status == RECOVERING, WRONG_STATUS);
-    let tested = need(tested, replied, WRONG_CERTIFICATE);
-    let tested = need(tested, min_view <= r.view_limit, COUNTER_LIMIT);
-    let Tested::Passed = tested else {
-        return refused(tested.refusal());
-    };
+    need(r.status == RECOVERING, Refusal::WrongStatus)?;
+    need(replied, Refusal::WrongCertificate)?;
+    need(min_view <= r.view_limit, Refusal::CounterLimit)?;
     let offsets = [STATUS_AT, MIN_VIEW_AT, STORED_VIEW_AT, STORED_BLOCK_AT];
     let values = [LIVE, min_view, c.of_view, c.block];
     records::set_words(table, replica, &offsets, &values);

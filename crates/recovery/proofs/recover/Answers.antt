@@ -1,136 +1,89 @@
 -- Refused by the form, the replica, the list or a need of its own; else the replica is live again.
-use mathlib.Core.Path.{◌≡◌, refl, ◌∙◌, ap}
-use mathlib.Core.List.{[], ◌++◌}
+use mathlib.Core.Path.{refl, ◌∙◌, ap}
 use native.Mathlib.Omega.{arith}
-use Rattle.protocol.specs.Memory.{memory, replica, update}
-use Rattle.protocol.specs.Quorum.{every, certificates_of, greatest}
-use Rattle.protocol.specs.FirstNeeds.{list_needs}
-use Rattle.protocol.specs.Calls.{recover_needs, recover as rule}
+use Rattle.protocol.specs.Memory.{update}
+use Rattle.protocol.specs.Quorum.{every}
+use Rattle.protocol.specs.Calls.{recover as rule}
 use Rattle.certificate_log.specs.inner.Certificates.{certificate_from}
-use Rattle.checks.specs.inner.Verdicts.{tested}
-use Rattle.checks.proofs.Ready.{Ready, ReadyList, row_within, all_listed, some_there, listed_there}
-use Rattle.checks.proofs.Passing.{At, start, accepts, ReplicaFound, no_replica, found_replica, failed, passed, list_known}
+use Rattle.checks.proofs.Ready.{row_within}
+use Rattle.checks.proofs.Passing.{start, accepts, stops, need_stops, need_on}
 use Rattle.recovery.proofs.Views.{of_view_fits}
+use Rattle.recovery.proofs.Found.{recovering_with, recovering_list}
 use Rattle.recovery.proofs.recover.Goals as goal
 
-pub returns-in_default : goal.returns-in_default
+pub returns-in_err-r : goal.returns-in_err-r
 unfolding rule
-returns-in_default c = no_replica _ _ _ (start _) c.find_replica-found.ensures
-    c.in_default.is c.refusal.ensures c.refused.ensures
+returns-in_err-r c = stops _ _ _ _ (start _) c.in_err-r.ensures.refusal c.from_residual.ensures
 
-pub test_list-listed-requires : goal.test_list-listed-requires
-unfolding rule
-test_list-listed-requires c =
-    let found : let read = c.in-Found.r in
-    (ReplicaFound (memory c.args.table.now c.args.log.now c.args.blocks.now) c.args.replica (rule (memory c.args.table.now c.args.log.now c.args.blocks.now) c.args.replica c.args.list.now) (list_needs (memory c.args.table.now c.args.log.now c.args.blocks.now) c.args.list.now ++ recover_needs c.args.replica (replica (memory c.args.table.now c.args.log.now c.args.blocks.now) c.args.replica) (certificates_of (memory c.args.table.now c.args.log.now c.args.blocks.now) c.args.list.now))) read = found_replica _ _ _ (start _) c.find_replica-found.ensures c.in-Found.is in
+pub test_list-requires : goal.test_list-requires
+test_list-requires c =
+    let found = recovering_with _ _ c.in_ok-r.ensures.refusal c.in_ok-r.ensures.found c.args.list.now in
     omega (arith, found.ready.sizes)
 
-pub returns-in_default-listed : goal.returns-in_default-listed
-unfolding rule
-returns-in_default-listed c =
-    let found : let read = c.in-Found.r in
-    (ReplicaFound (memory c.args.table.now c.args.log.now c.args.blocks.now) c.args.replica (rule (memory c.args.table.now c.args.log.now c.args.blocks.now) c.args.replica c.args.list.now) (list_needs (memory c.args.table.now c.args.log.now c.args.blocks.now) c.args.list.now ++ recover_needs c.args.replica (replica (memory c.args.table.now c.args.log.now c.args.blocks.now) c.args.replica) (certificates_of (memory c.args.table.now c.args.log.now c.args.blocks.now) c.args.list.now))) read = found_replica _ _ _ (start _) c.find_replica-found.ensures c.in-Found.is in
-    let f = found in
-    failed _ refl c.test_list-listed.ensures _ _ f.at
-    c.in_default-listed.is c.refusal-in_default-listed.ensures c.refused-in_default-listed.ensures
+pub returns-in_err-test_list : goal.returns-in_err-test_list
+returns-in_err-test_list c =
+    let found = recovering_with _ _ c.in_ok-r.ensures.refusal c.in_ok-r.ensures.found c.args.list.now in
+    stops _ _ _ _ found.at c.in_err-test_list.ensures c.from_residual-in_err-test_list.ensures
 
 pub greatest-best-requires : goal.greatest-best-requires
-unfolding rule
 greatest-best-requires c =
-    let found : let read = c.in-Found.r in
-    (ReplicaFound (memory c.args.table.now c.args.log.now c.args.blocks.now) c.args.replica (rule (memory c.args.table.now c.args.log.now c.args.blocks.now) c.args.replica c.args.list.now) (list_needs (memory c.args.table.now c.args.log.now c.args.blocks.now) c.args.list.now ++ recover_needs c.args.replica (replica (memory c.args.table.now c.args.log.now c.args.blocks.now) c.args.replica) (certificates_of (memory c.args.table.now c.args.log.now c.args.blocks.now) c.args.list.now))) read = found_replica _ _ _ (start _) c.find_replica-found.ensures c.in-Found.is in
-    let listed :
-    (Ready (memory c.args.table.now c.args.log.now c.args.blocks.now) c.args.replica × ReadyList (memory c.args.table.now c.args.log.now c.args.blocks.now) c.args.list.now × At (rule (memory c.args.table.now c.args.log.now c.args.blocks.now) c.args.replica c.args.list.now) (recover_needs c.args.replica (replica (memory c.args.table.now c.args.log.now c.args.blocks.now) c.args.replica) (certificates_of (memory c.args.table.now c.args.log.now c.args.blocks.now) c.args.list.now))) =
-    let is = c.test_list-listed.ensures in let told = c.in-Passed.is in
-    (found.ready, list_known _ _ is told, passed _ refl is _ found.at told) in
-    let l = listed in
-    (all_listed _ _ _ l.0 l.1, some_there _ _ _ l.0 l.1)
+    let listed = recovering_list _ _ c.in_ok-r.ensures.refusal c.in_ok-r.ensures.found _ c.in_ok-test_list.ensures in
+    (listed.all, listed.some)
 
--- Whichever (the (memory c.args.table.now c.args.log.now c.args.blocks.now) c.args.replica c.args.list.now (replica (memory c.args.table.now c.args.log.now c.args.blocks.now) c.args.replica) (certificates_of (memory c.args.table.now c.args.log.now c.args.blocks.now) c.args.list.now)) is read, the first or the best, its words are there and its of-view has a next one.
+-- Whichever of the list is read, its words are there, and one more than its of-view fits.
 pub certificate_in-c-requires : goal.certificate_in-c-requires
-unfolding rule
 certificate_in-c-requires c =
-    let found : let read = c.in-Found.r in
-    (ReplicaFound (memory c.args.table.now c.args.log.now c.args.blocks.now) c.args.replica (rule (memory c.args.table.now c.args.log.now c.args.blocks.now) c.args.replica c.args.list.now) (list_needs (memory c.args.table.now c.args.log.now c.args.blocks.now) c.args.list.now ++ recover_needs c.args.replica (replica (memory c.args.table.now c.args.log.now c.args.blocks.now) c.args.replica) (certificates_of (memory c.args.table.now c.args.log.now c.args.blocks.now) c.args.list.now))) read = found_replica _ _ _ (start _) c.find_replica-found.ensures c.in-Found.is in
-    let listed :
-    (Ready (memory c.args.table.now c.args.log.now c.args.blocks.now) c.args.replica × ReadyList (memory c.args.table.now c.args.log.now c.args.blocks.now) c.args.list.now × At (rule (memory c.args.table.now c.args.log.now c.args.blocks.now) c.args.replica c.args.list.now) (recover_needs c.args.replica (replica (memory c.args.table.now c.args.log.now c.args.blocks.now) c.args.replica) (certificates_of (memory c.args.table.now c.args.log.now c.args.blocks.now) c.args.list.now))) =
-    let is = c.test_list-listed.ensures in let told = c.in-Passed.is in
-    (found.ready, list_known _ _ is told, passed _ refl is _ found.at told) in
-    let l = listed in
-    let there = listed_there _ _ _ l.0 l.1 in omega (arith, there 0, there c.greatest-best.result)
+    let listed = recovering_list _ _ c.in_ok-r.ensures.refusal c.in_ok-r.ensures.found _ c.in_ok-test_list.ensures in
+    omega (arith, listed.there 0, listed.there c.greatest-best.result)
 
 pub overflow_add-c : goal.overflow_add-c
-unfolding rule
 overflow_add-c c =
-    let found : let read = c.in-Found.r in
-    (ReplicaFound (memory c.args.table.now c.args.log.now c.args.blocks.now) c.args.replica (rule (memory c.args.table.now c.args.log.now c.args.blocks.now) c.args.replica c.args.list.now) (list_needs (memory c.args.table.now c.args.log.now c.args.blocks.now) c.args.list.now ++ recover_needs c.args.replica (replica (memory c.args.table.now c.args.log.now c.args.blocks.now) c.args.replica) (certificates_of (memory c.args.table.now c.args.log.now c.args.blocks.now) c.args.list.now))) read = found_replica _ _ _ (start _) c.find_replica-found.ensures c.in-Found.is in
-    let listed :
-    (Ready (memory c.args.table.now c.args.log.now c.args.blocks.now) c.args.replica × ReadyList (memory c.args.table.now c.args.log.now c.args.blocks.now) c.args.list.now × At (rule (memory c.args.table.now c.args.log.now c.args.blocks.now) c.args.replica c.args.list.now) (recover_needs c.args.replica (replica (memory c.args.table.now c.args.log.now c.args.blocks.now) c.args.replica) (certificates_of (memory c.args.table.now c.args.log.now c.args.blocks.now) c.args.list.now))) =
-    let is = c.test_list-listed.ensures in let told = c.in-Passed.is in
-    (found.ready, list_known _ _ is told, passed _ refl is _ found.at told) in
-    let l = listed in
-    let fits = of_view_fits _ _ _ l.0 l.1 in
+    let listed = recovering_list _ _ c.in_ok-r.ensures.refusal c.in_ok-r.ensures.found _ c.in_ok-test_list.ensures in
+    let fits = of_view_fits _ _ _ listed.ready listed.quorum in
     rw c.certificate_in-c.ensures (omega (arith, fits 0, fits c.greatest-best.result))
 
 pub is_reply_quorum-replied-requires : goal.is_reply_quorum-replied-requires
-unfolding rule
 is_reply_quorum-replied-requires c =
-    let found : let read = c.in-Found.r in
-    (ReplicaFound (memory c.args.table.now c.args.log.now c.args.blocks.now) c.args.replica (rule (memory c.args.table.now c.args.log.now c.args.blocks.now) c.args.replica c.args.list.now) (list_needs (memory c.args.table.now c.args.log.now c.args.blocks.now) c.args.list.now ++ recover_needs c.args.replica (replica (memory c.args.table.now c.args.log.now c.args.blocks.now) c.args.replica) (certificates_of (memory c.args.table.now c.args.log.now c.args.blocks.now) c.args.list.now))) read = found_replica _ _ _ (start _) c.find_replica-found.ensures c.in-Found.is in
-    let listed :
-    (Ready (memory c.args.table.now c.args.log.now c.args.blocks.now) c.args.replica × ReadyList (memory c.args.table.now c.args.log.now c.args.blocks.now) c.args.list.now × At (rule (memory c.args.table.now c.args.log.now c.args.blocks.now) c.args.replica c.args.list.now) (recover_needs c.args.replica (replica (memory c.args.table.now c.args.log.now c.args.blocks.now) c.args.replica) (certificates_of (memory c.args.table.now c.args.log.now c.args.blocks.now) c.args.list.now))) =
-    let is = c.test_list-listed.ensures in let told = c.in-Passed.is in
-    (found.ready, list_known _ _ is told, passed _ refl is _ found.at told) in
-    let l = listed in
-    all_listed _ _ _ l.0 l.1
+    let listed = recovering_list _ _ c.in_ok-r.ensures.refusal c.in_ok-r.ensures.found _ c.in_ok-test_list.ensures in
+    listed.all
 
-pub returns-in_default-tested : goal.returns-in_default-tested
-unfolding rule tested
-returns-in_default-tested c =
-    let found : let read = c.in-Found.r in
-    (ReplicaFound (memory c.args.table.now c.args.log.now c.args.blocks.now) c.args.replica (rule (memory c.args.table.now c.args.log.now c.args.blocks.now) c.args.replica c.args.list.now) (list_needs (memory c.args.table.now c.args.log.now c.args.blocks.now) c.args.list.now ++ recover_needs c.args.replica (replica (memory c.args.table.now c.args.log.now c.args.blocks.now) c.args.replica) (certificates_of (memory c.args.table.now c.args.log.now c.args.blocks.now) c.args.list.now))) read = found_replica _ _ _ (start _) c.find_replica-found.ensures c.in-Found.is in
-    let listed :
-    (Ready (memory c.args.table.now c.args.log.now c.args.blocks.now) c.args.replica × ReadyList (memory c.args.table.now c.args.log.now c.args.blocks.now) c.args.list.now × At (rule (memory c.args.table.now c.args.log.now c.args.blocks.now) c.args.replica c.args.list.now) (recover_needs c.args.replica (replica (memory c.args.table.now c.args.log.now c.args.blocks.now) c.args.replica) (certificates_of (memory c.args.table.now c.args.log.now c.args.blocks.now) c.args.list.now))) =
-    let is = c.test_list-listed.ensures in let told = c.in-Passed.is in
-    (found.ready, list_known _ _ is told, passed (list_needs (memory c.args.table.now c.args.log.now c.args.blocks.now) c.args.list.now) refl is (recover_needs c.args.replica (replica (memory c.args.table.now c.args.log.now c.args.blocks.now) c.args.replica) (certificates_of (memory c.args.table.now c.args.log.now c.args.blocks.now) c.args.list.now)) found.at told) in
-    let best :
-    c.certificate_in-c.result ≡ certificate_from (greatest (certificates_of (memory c.args.table.now c.args.log.now c.args.blocks.now) c.args.list.now)) = c.certificate_in-c.ensures ∙ ap certificate_from c.greatest-best.ensures.is in
-    let own :
-    c.need-tested-3.result ≡ tested (recover_needs c.args.replica (replica (memory c.args.table.now c.args.log.now c.args.blocks.now) c.args.replica) (certificates_of (memory c.args.table.now c.args.log.now c.args.blocks.now) c.args.list.now)) =
-    let read = found.read in
-    let replied = c.is_reply_quorum-replied.ensures in
-    let larger = c.larger-min_view.ensures in
-    rw (c.need-tested-3.ensures, c.need-tested-2.ensures, c.need-tested.ensures, replied, larger, best, read) in
-    let l = listed in
-    failed (recover_needs c.args.replica (replica (memory c.args.table.now c.args.log.now c.args.blocks.now) c.args.replica) (certificates_of (memory c.args.table.now c.args.log.now c.args.blocks.now) c.args.list.now)) refl own (memory c.args.table.now c.args.log.now c.args.blocks.now) [] l.2 c.in_default-tested.is c.refusal-in_default-tested.ensures c.refused-in_default-tested.ensures
+pub returns-in_err-need : goal.returns-in_err-need
+returns-in_err-need c =
+    let listed = recovering_list _ _ c.in_ok-r.ensures.refusal c.in_ok-r.ensures.found _ c.in_ok-test_list.ensures in
+    need_stops _ _ listed.at _ _ (rw listed.read at c.in_err-need.ensures) c.from_residual-in_err-need.ensures
 
-pub set_words-requires : goal.set_words-requires
-unfolding every rule
-set_words-requires c =
-    let found : let read = c.in-Found.r in
-    (ReplicaFound (memory c.args.table.now c.args.log.now c.args.blocks.now) c.args.replica (rule (memory c.args.table.now c.args.log.now c.args.blocks.now) c.args.replica c.args.list.now) (list_needs (memory c.args.table.now c.args.log.now c.args.blocks.now) c.args.list.now ++ recover_needs c.args.replica (replica (memory c.args.table.now c.args.log.now c.args.blocks.now) c.args.replica) (certificates_of (memory c.args.table.now c.args.log.now c.args.blocks.now) c.args.list.now))) read = found_replica _ _ _ (start _) c.find_replica-found.ensures c.in-Found.is in
-    let f = found in
-    record { replica_words_in_bounds = row_within _ _ f.ready; settable = record { paired = refl; within = refl } }
+pub returns-in_err-need-2 : goal.returns-in_err-need-2
+returns-in_err-need-2 c =
+    let listed = recovering_list _ _ c.in_ok-r.ensures.refusal c.in_ok-r.ensures.found _ c.in_ok-test_list.ensures in
+    let waiting = need_on _ _ listed.at (rw listed.read at c.in_ok-need.ensures) in
+    need_stops _ _ waiting _ _ (rw (c.is_reply_quorum-replied.ensures, listed.read) at c.in_err-need-2.ensures)
+    c.from_residual-in_err-need-2.ensures
+
+pub returns-in_err-need-3 : goal.returns-in_err-need-3
+returns-in_err-need-3 c =
+    let listed = recovering_list _ _ c.in_ok-r.ensures.refusal c.in_ok-r.ensures.found _ c.in_ok-test_list.ensures in
+    let best = c.certificate_in-c.ensures ∙ ap certificate_from c.greatest-best.ensures.is in
+    let waiting = need_on _ _ listed.at (rw listed.read at c.in_ok-need.ensures) in
+    let replied = need_on _ _ waiting (rw (c.is_reply_quorum-replied.ensures, listed.read) at c.in_ok-need-2.ensures) in
+    need_stops _ _ replied _ _ (rw (c.max-min_view.ensures, best, listed.read) at c.in_err-need-3.ensures)
+    c.from_residual-in_err-need-3.ensures
+
+pub set_words-requires-clause-replica_words_in_bounds : goal.set_words-requires-clause-replica_words_in_bounds
+set_words-requires-clause-replica_words_in_bounds c =
+    let listed = recovering_list _ _ c.in_ok-r.ensures.refusal c.in_ok-r.ensures.found _ c.in_ok-test_list.ensures in
+    row_within _ _ listed.ready
+
+pub set_words-requires-clause-settable : goal.set_words-requires-clause-settable
+unfolding every
+set_words-requires-clause-settable c = record { paired = refl; within = refl }
 
 pub returns : goal.returns
-unfolding rule update tested
+unfolding rule update
 returns c =
-    let found : let read = c.in-Found.r in
-    (ReplicaFound (memory c.args.table.now c.args.log.now c.args.blocks.now) c.args.replica (rule (memory c.args.table.now c.args.log.now c.args.blocks.now) c.args.replica c.args.list.now) (list_needs (memory c.args.table.now c.args.log.now c.args.blocks.now) c.args.list.now ++ recover_needs c.args.replica (replica (memory c.args.table.now c.args.log.now c.args.blocks.now) c.args.replica) (certificates_of (memory c.args.table.now c.args.log.now c.args.blocks.now) c.args.list.now))) read = found_replica _ _ _ (start _) c.find_replica-found.ensures c.in-Found.is in
-    let listed :
-    (Ready (memory c.args.table.now c.args.log.now c.args.blocks.now) c.args.replica × ReadyList (memory c.args.table.now c.args.log.now c.args.blocks.now) c.args.list.now × At (rule (memory c.args.table.now c.args.log.now c.args.blocks.now) c.args.replica c.args.list.now) (recover_needs c.args.replica (replica (memory c.args.table.now c.args.log.now c.args.blocks.now) c.args.replica) (certificates_of (memory c.args.table.now c.args.log.now c.args.blocks.now) c.args.list.now))) =
-    let is = c.test_list-listed.ensures in let told = c.in-Passed.is in
-    (found.ready, list_known _ _ is told, passed (list_needs (memory c.args.table.now c.args.log.now c.args.blocks.now) c.args.list.now) refl is (recover_needs c.args.replica (replica (memory c.args.table.now c.args.log.now c.args.blocks.now) c.args.replica) (certificates_of (memory c.args.table.now c.args.log.now c.args.blocks.now) c.args.list.now)) found.at told) in
-    let best :
-    c.certificate_in-c.result ≡ certificate_from (greatest (certificates_of (memory c.args.table.now c.args.log.now c.args.blocks.now) c.args.list.now)) = c.certificate_in-c.ensures ∙ ap certificate_from c.greatest-best.ensures.is in
-    let own :
-    c.need-tested-3.result ≡ tested (recover_needs c.args.replica (replica (memory c.args.table.now c.args.log.now c.args.blocks.now) c.args.replica) (certificates_of (memory c.args.table.now c.args.log.now c.args.blocks.now) c.args.list.now)) =
-    let read = found.read in
-    let replied = c.is_reply_quorum-replied.ensures in
-    let larger = c.larger-min_view.ensures in
-    rw (c.need-tested-3.ensures, c.need-tested-2.ensures, c.need-tested.ensures, replied, larger, best, read) in
-    let l = listed in
-    let low = c.larger-min_view.ensures in
-    let read = found.read in
-    let end = passed (recover_needs c.args.replica (replica (memory c.args.table.now c.args.log.now c.args.blocks.now) c.args.replica) (certificates_of (memory c.args.table.now c.args.log.now c.args.blocks.now) c.args.list.now)) refl own [] l.2 c.in-Passed-tested.is in
-    accepts _ end (rw (low, best, read) at c.accepted.ensures) (rw (c.set_words.ensures, low, best, read))
+    let listed = recovering_list _ _ c.in_ok-r.ensures.refusal c.in_ok-r.ensures.found _ c.in_ok-test_list.ensures in
+    let best = c.certificate_in-c.ensures ∙ ap certificate_from c.greatest-best.ensures.is in
+    let waiting = need_on _ _ listed.at (rw listed.read at c.in_ok-need.ensures) in
+    let replied = need_on _ _ waiting (rw (c.is_reply_quorum-replied.ensures, listed.read) at c.in_ok-need-2.ensures) in
+    let end = need_on _ _ replied (rw (c.max-min_view.ensures, best, listed.read) at c.in_ok-need-3.ensures) in
+    accepts _ end (rw (c.max-min_view.ensures, best, listed.read) at c.accepted.ensures)
+    (rw (c.set_words.ensures, c.max-min_view.ensures, best, listed.read))

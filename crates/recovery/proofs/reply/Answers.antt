@@ -1,91 +1,60 @@
 -- Refused, or a REPLY is issued, to the REQ's signer, boot and view; the lowest view rises to that view where it is below it.
-use Prim.Native.Nat.{ℕ}
 use mathlib.Core.Path.{refl}
-use mathlib.Core.List.{List, ◌++◌}
 use borrow.Author.Tests.{lt-ltb, le-ltb}
-use Rattle.protocol.specs.Memory.{Memory, memory, replica, certificate}
-use Rattle.protocol.specs.Certificates.{reply_of}
 use Rattle.protocol.specs.Quorum.{every}
-use Rattle.protocol.specs.Outcome.{Need}
-use Rattle.protocol.specs.FirstNeeds.{number_needs}
-use Rattle.protocol.specs.Calls.{reply_needs, reply as rule}
+use Rattle.protocol.specs.Calls.{reply as rule}
 use Rattle.certificate_log.proofs.Fits.{log_fits}
-use Rattle.checks.proofs.Passing.{ReplicaFound, no_replica, found_replica, CertificateFound, no_certificate, found_certificate}
-use Rattle.checks.proofs.Passing.{failed, passed}
-use Rattle.issuing.proofs.Issues.{issuable, slot, start, issues}
+use Rattle.checks.proofs.Passing.{stops, on}
+use Rattle.issuing.proofs.Issues.{issuable, start, issues}
+use Rattle.recovery.proofs.Found.{replying, replying_to}
 use Rattle.recovery.proofs.reply.Goals as goal
 
-abbrev rest : Memory → ℕ → ℕ → List Need
-rest m i number = let r = replica m i in let q = certificate m number in
-    reply_needs i r q ++ slot m (reply_of i r.boot q.view r.stored_block r.stored_view q.signer q.subject_boot)
-
-pub returns-in_default : goal.returns-in_default
+pub returns-in_err-r : goal.returns-in_err-r
 unfolding rule
-returns-in_default c = no_replica _ _ _ (start _ _ _ _ _ _ refl) c.find_replica-found.ensures
-    c.in_default.is c.refusal.ensures c.refused.ensures
+returns-in_err-r c = stops _ _ _ _ (start _ _ _ _ _ _ refl) c.in_err-r.ensures.refusal c.from_residual.ensures
 
-pub find_certificate-asked-requires : goal.find_certificate-asked-requires
-unfolding rule
-find_certificate-asked-requires c =
-    let found : ReplicaFound (memory c.args.table.now c.args.log.now c.args.blocks.now) c.args.replica (rule (memory c.args.table.now c.args.log.now c.args.blocks.now) c.args.replica c.args.number) (number_needs (memory c.args.table.now c.args.log.now c.args.blocks.now) c.args.number ++ rest (memory c.args.table.now c.args.log.now c.args.blocks.now) c.args.replica c.args.number) c.in-Found.r = found_replica _ _ _ (start _ _ _ _ _ _ refl) c.find_replica-found.ensures c.in-Found.is in
+pub find_certificate-requires : goal.find_certificate-requires
+find_certificate-requires c =
+    let found = replying _ _ c.in_ok-r.ensures.refusal c.in_ok-r.ensures.found c.args.number in
     log_fits _ found.ready.formed
 
-pub returns-in_default-asked : goal.returns-in_default-asked
-unfolding rule
-returns-in_default-asked c =
-    let found : ReplicaFound (memory c.args.table.now c.args.log.now c.args.blocks.now) c.args.replica (rule (memory c.args.table.now c.args.log.now c.args.blocks.now) c.args.replica c.args.number) (number_needs (memory c.args.table.now c.args.log.now c.args.blocks.now) c.args.number ++ rest (memory c.args.table.now c.args.log.now c.args.blocks.now) c.args.replica c.args.number) c.in-Found.r = found_replica _ _ _ (start _ _ _ _ _ _ refl) c.find_replica-found.ensures c.in-Found.is in
-    let f = found in
-    no_certificate _ _ _ f.at (c.find_certificate-asked.ensures _)
-    c.in_default-asked.is c.refusal-in_default-asked.ensures c.refused-in_default-asked.ensures
+pub returns-in_err-q : goal.returns-in_err-q
+returns-in_err-q c =
+    let found = replying _ _ c.in_ok-r.ensures.refusal c.in_ok-r.ensures.found c.args.number in
+    stops _ _ _ _ found.at c.in_err-q.ensures.refusal c.from_residual-in_err-q.ensures
 
-pub returns-in_default-tested : goal.returns-in_default-tested
-unfolding rule
-returns-in_default-tested c =
-    let found : ReplicaFound (memory c.args.table.now c.args.log.now c.args.blocks.now) c.args.replica (rule (memory c.args.table.now c.args.log.now c.args.blocks.now) c.args.replica c.args.number) (number_needs (memory c.args.table.now c.args.log.now c.args.blocks.now) c.args.number ++ rest (memory c.args.table.now c.args.log.now c.args.blocks.now) c.args.replica c.args.number) c.in-Found.r = found_replica _ _ _ (start _ _ _ _ _ _ refl) c.find_replica-found.ensures c.in-Found.is in
-    let asked :
-    (CertificateFound (memory c.args.table.now c.args.log.now c.args.blocks.now) c.args.number (rule (memory c.args.table.now c.args.log.now c.args.blocks.now) c.args.replica c.args.number) (rest (memory c.args.table.now c.args.log.now c.args.blocks.now) c.args.replica c.args.number)) c.in-Found-asked.q =
-    found_certificate _ _ _ found.at (c.find_certificate-asked.ensures _) c.in-Found-asked.is in
-    let q = asked in
-    let r = found in
-    failed _ refl (rw (r.read, q.read) at c.test_reply-tested.ensures) _ _ q.at
-    c.in_default-tested.is c.refusal-in_default-tested.ensures c.refused-in_default-tested.ensures
+pub returns-in_err-test_reply : goal.returns-in_err-test_reply
+returns-in_err-test_reply c =
+    let found = replying _ _ c.in_ok-r.ensures.refusal c.in_ok-r.ensures.found c.args.number in
+    let asked = replying_to _ _ c.in_ok-r.ensures.refusal c.in_ok-r.ensures.found _ c.in_ok-q.ensures.refusal c.in_ok-q.ensures.found in
+    stops _ _ _ _ asked.at (rw (found.read, asked.read) at c.in_err-test_reply.ensures) c.from_residual-in_err-test_reply.ensures
 
 pub issue-requires : goal.issue-requires
-unfolding every rule
+unfolding every
 issue-requires c =
-    let found : ReplicaFound (memory c.args.table.now c.args.log.now c.args.blocks.now) c.args.replica (rule (memory c.args.table.now c.args.log.now c.args.blocks.now) c.args.replica c.args.number) (number_needs (memory c.args.table.now c.args.log.now c.args.blocks.now) c.args.number ++ rest (memory c.args.table.now c.args.log.now c.args.blocks.now) c.args.replica c.args.number) c.in-Found.r = found_replica _ _ _ (start _ _ _ _ _ _ refl) c.find_replica-found.ensures c.in-Found.is in
-    let f = found in
-    record { issuable = issuable _ _ f.ready; settable = record { paired = refl; within = refl } }
+    let found = replying _ _ c.in_ok-r.ensures.refusal c.in_ok-r.ensures.found c.args.number in
+    record { issuable = issuable _ _ found.ready; settable = record { paired = refl; within = refl } }
 
 pub returns-then-r-q : goal.returns-then-r-q
 unfolding rule
 returns-then-r-q c =
-    let found : ReplicaFound (memory c.args.table.now c.args.log.now c.args.blocks.now) c.args.replica (rule (memory c.args.table.now c.args.log.now c.args.blocks.now) c.args.replica c.args.number) (number_needs (memory c.args.table.now c.args.log.now c.args.blocks.now) c.args.number ++ rest (memory c.args.table.now c.args.log.now c.args.blocks.now) c.args.replica c.args.number) c.in-Found.r = found_replica _ _ _ (start _ _ _ _ _ _ refl) c.find_replica-found.ensures c.in-Found.is in
-    let asked :
-    (CertificateFound (memory c.args.table.now c.args.log.now c.args.blocks.now) c.args.number (rule (memory c.args.table.now c.args.log.now c.args.blocks.now) c.args.replica c.args.number) (rest (memory c.args.table.now c.args.log.now c.args.blocks.now) c.args.replica c.args.number)) c.in-Found-asked.q =
-    found_certificate _ _ _ found.at (c.find_certificate-asked.ensures _) c.in-Found-asked.is in
-    let r = found.read in
-    let q = asked in let e = q.read in
-    let past = passed _ refl (rw (r, e) at c.test_reply-tested.ensures) _ q.at c.in-Passed.is in
-    let views = lt-ltb _ _ (rw (r, e) at c.if-r-q.true) in
-    issues _ _ _ _ _ past (rw (views, e)) (rw (r, e) at c.reply_to-answer.ensures) (c.issue.ensures _)
+    let found = replying _ _ c.in_ok-r.ensures.refusal c.in_ok-r.ensures.found c.args.number in
+    let asked = replying_to _ _ c.in_ok-r.ensures.refusal c.in_ok-r.ensures.found _ c.in_ok-q.ensures.refusal c.in_ok-q.ensures.found in
+    let at_slot = on _ _ refl asked.at (rw (found.read, asked.read) at c.in_ok-test_reply.ensures) in
+    let rises = lt-ltb _ _ (rw (found.read, asked.read) at c.if-r-q.true) in
+    issues _ _ _ _ _ at_slot (rw (rises, asked.read)) (rw (found.read, asked.read) at c.reply_to-answer.ensures) (c.issue.ensures _)
 
 pub issue-requires-2 : goal.issue-requires-2
-unfolding every rule
+unfolding every
 issue-requires-2 c =
-    let found : ReplicaFound (memory c.args.table.now c.args.log.now c.args.blocks.now) c.args.replica (rule (memory c.args.table.now c.args.log.now c.args.blocks.now) c.args.replica c.args.number) (number_needs (memory c.args.table.now c.args.log.now c.args.blocks.now) c.args.number ++ rest (memory c.args.table.now c.args.log.now c.args.blocks.now) c.args.replica c.args.number) c.in-Found.r = found_replica _ _ _ (start _ _ _ _ _ _ refl) c.find_replica-found.ensures c.in-Found.is in
-    let f = found in
-    record { issuable = issuable _ _ f.ready; settable = record { paired = refl; within = refl } }
+    let found = replying _ _ c.in_ok-r.ensures.refusal c.in_ok-r.ensures.found c.args.number in
+    record { issuable = issuable _ _ found.ready; settable = record { paired = refl; within = refl } }
 
 pub returns : goal.returns
 unfolding rule
 returns c =
-    let found : ReplicaFound (memory c.args.table.now c.args.log.now c.args.blocks.now) c.args.replica (rule (memory c.args.table.now c.args.log.now c.args.blocks.now) c.args.replica c.args.number) (number_needs (memory c.args.table.now c.args.log.now c.args.blocks.now) c.args.number ++ rest (memory c.args.table.now c.args.log.now c.args.blocks.now) c.args.replica c.args.number) c.in-Found.r = found_replica _ _ _ (start _ _ _ _ _ _ refl) c.find_replica-found.ensures c.in-Found.is in
-    let asked :
-    (CertificateFound (memory c.args.table.now c.args.log.now c.args.blocks.now) c.args.number (rule (memory c.args.table.now c.args.log.now c.args.blocks.now) c.args.replica c.args.number) (rest (memory c.args.table.now c.args.log.now c.args.blocks.now) c.args.replica c.args.number)) c.in-Found-asked.q =
-    found_certificate _ _ _ found.at (c.find_certificate-asked.ensures _) c.in-Found-asked.is in
-    let r = found.read in
-    let q = asked in let e = q.read in
-    let past = passed _ refl (rw (r, e) at c.test_reply-tested.ensures) _ q.at c.in-Passed.is in
-    let views = le-ltb _ _ (rw (r, e) at c.if-r-q.false) in
-    issues _ _ _ _ _ past (rw (views)) (rw (r, e) at c.reply_to-answer.ensures) (c.issue-2.ensures _)
+    let found = replying _ _ c.in_ok-r.ensures.refusal c.in_ok-r.ensures.found c.args.number in
+    let asked = replying_to _ _ c.in_ok-r.ensures.refusal c.in_ok-r.ensures.found _ c.in_ok-q.ensures.refusal c.in_ok-q.ensures.found in
+    let at_slot = on _ _ refl asked.at (rw (found.read, asked.read) at c.in_ok-test_reply.ensures) in
+    let stays = le-ltb _ _ (rw (found.read, asked.read) at c.if-r-q.false) in
+    issues _ _ _ _ _ at_slot (rw stays) (rw (found.read, asked.read) at c.reply_to-answer.ensures) (c.issue-2.ensures _)

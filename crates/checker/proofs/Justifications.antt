@@ -1,37 +1,33 @@
--- Justifications: what their needs tell, how a call goes on from what judging one answers, and prepare, from one test to the next.
+-- What justifications tell, once their needs hold; and what the three calls find, with what is still to be tested then.
 use Prim.Native.Nat.{ℕ, ◌≤◌, ◌<◌}
-use mathlib.Core.Path.{◌≡◌, refl, sym, ◌∙◌}
+use mathlib.Core.Path.{◌≡◌, refl, sym}
 use mathlib.Core.Bool.{true}
 use mathlib.Core.List.{List, [], ◌∷◌, ◌++◌}
 use lib.ListN.{length, get_or}
-use Rattle.protocol.specs.declared.Answer.{Answer}
 use Rattle.protocol.specs.declared.Justification.{Justification}
 use Rattle.protocol.specs.declared.Justification.TheVariants.{Acc, Commits}
-use Rattle.protocol.specs.Memory.{Memory, Certificate, ceiling, fault_bound, live, memory, replica, certificate, parent}
-use Rattle.protocol.specs.Certificates.{prop_of}
+use Rattle.protocol.specs.Memory.{Memory, ceiling, fault_bound, live, memory, replica, certificate, parent}
+use Rattle.protocol.specs.Certificates.{prop_of, commit_of, new_view_of}
 use Rattle.protocol.specs.Quorum.{is_issued, certificates_of, is_commit_quorum}
-use Rattle.protocol.specs.Outcome.{Need, ◌else◌, Rule, follow, told, unknown_number, wrong_status}
-use Rattle.protocol.specs.FirstNeeds.{is_block, replica_needs}
-use Rattle.protocol.specs.Calls.{has_status, numbers_of, is_sized, justification_needs, proposal_needs, prepare}
+use Rattle.protocol.specs.Outcome.{Need, ◌else◌, first_refusal, unknown_number, wrong_status}
+use Rattle.protocol.specs.FirstNeeds.{is_block, replica_needs, number_needs}
+use Rattle.protocol.specs.Calls.{has_status, numbers_of, is_sized, justification_needs, proposal_needs, store_needs, view_needs}
+use Rattle.protocol.specs.Calls.{prepare, store, view}
 use Rattle.protocol.proofs.logic.Booleans.{tests}
 use Rattle.protocol.proofs.memory.Lists.{every_at}
-use Rattle.protocol.proofs.calls.Needs.{Holds}
+use Rattle.protocol.proofs.calls.Needs.{Holds, all_needs}
 use Rattle.protocol.proofs.memory.Formed.{Formed}
 use Rattle.form.proofs.Within.{certificate_bounds}
 use Rattle.quorum.specs.inner.Lists.{certificates_in}
 use Rattle.quorum.proofs.Accepted.{listed, some_listed, commit_at}
+use Rattle.certificate_log.specs.declared.Certificate.{Certificate}
+use Rattle.certificate_log.specs.inner.Certificates.{certificate_from}
 use Rattle.records.specs.declared.Replica.{Replica}
-use Rattle.checks.specs.declared.Tested.{Tested}
-use Rattle.checks.specs.declared.Tested.TheVariants.{Passed}
-use Rattle.checks.specs.inner.Verdicts.{tested}
-use Rattle.checks.proofs.Ready.{Ready}
-use Rattle.checks.proofs.Verdicts.{was_refused, was_found}
-use Rattle.checks.proofs.Passing.{At, on, stops, ReplicaFound, held, passed}
+use Rattle.records.specs.inner.Replicas.{replica_from}
+use Rattle.checks.proofs.Passing.{At, ReplicaFound, found_replica, CertificateFound, found_certificate}
 use Rattle.issuing.proofs.Issues.{slot, start}
 use Rattle.checker.specs.declared.justification.Justified.{Justified}
-use Rattle.checker.specs.declared.justification.Judgement.{Judgement}
-use Rattle.checker.specs.declared.justification.Judgement.TheVariants.{By, Refused}
-use Rattle.checker.specs.inner.Justifications.{Justifying, justified_by, judgement_needs, judgement_of, judgement_refusal}
+use Rattle.checker.specs.inner.Justifications.{Justifying, justified_by, judgement_needs}
 
 -- The view of a certificate has a next one,
 pub view_bound : (m : Memory) (number : ℕ) → Formed m → is_issued m number ≡ true → (certificate m number).view ≤ ceiling
@@ -55,69 +51,51 @@ justifying m j list f h =
     let first = every_at (is_issued m) ns 0 h.1.0 0 some in
     record { listed = listed m ns f h.1.0; some = some; view = view_bound m (get_or ns 0 0) f first }
 
--- ---- by what judging answers
-
--- What is known once it gives a view and a block.
-pub record Judged (j : Justification) (cs : List Certificate) (rule : Rule) (rest : List Need) (x : Justified) : Type 0 where
-  pub given : x ≡ justified_by j cs
-  pub at : At rule rest
-
-module _ (i : ℕ) (j : Justification) (cs : List Certificate) {rule : Rule} (rest : List Need)
-    (at : At rule (judgement_needs i j cs ++ rest)) {g : Judgement} (is : g ≡ judgement_of i j cs) where
-  pub not_judged : {m : Memory} {a : Answer} {n k : ℕ} → g ≡ Refused n → k ≡ judgement_refusal g
-      → a ≡ record { number = k; first = 0; second = 0 } → record { answer = told a; state = m } ≡ follow m rule
-  unfolding judgement_of
-  not_judged told refusal answer =
-      stops (refusal ∙ rw told refl) answer (judgement_needs i j cs) rest at
-      (was_refused _ _ (judgement_needs i j cs) (λ e. cc) (λ k e. cc) (sym told ∙ is))
-
-  pub judged : {x : Justified} → g ≡ By x → Judged j cs rule rest x
-  unfolding judgement_of
-  judged told =
-      let w = was_found _ _ (judgement_needs i j cs) (λ k e. cc) (sym told ∙ is) in
-      record { given = let e = w.1 in cc; at = on (judgement_needs i j cs) rest refl at w.0 }
-
--- ---- prepare: its first needs, those that rest on what the justification gives, and what is still to be tested
+-- ---- what the calls find, and what is still to be tested then
 
 module _ (m : Memory) (i b : ℕ) (j : Justification) (list : List ℕ) where
-  abbrev pub first_needs : List Need
-  first_needs = justification_needs m j list ++ (is_block m b else unknown_number ∷ has_status live (replica m i) else wrong_status ∷ [])
-
   abbrev pub given : Justified
   given = justified_by j (certificates_of m (numbers_of j list))
 
-  abbrev pub last_needs : List Need
-  last_needs = proposal_needs (fault_bound m) i (replica m i) b (parent m b) given.view given.block
+  abbrev pub after_judging : List Need
+  after_judging =
+      proposal_needs (fault_bound m) i (replica m i) b (parent m b) given.view given.block
+      ++ slot m (prop_of i (replica m i).boot given.view b)
 
-  abbrev after_judging : List Need
-  after_judging = last_needs ++ slot m (prop_of i (replica m i).boot given.view b)
+  abbrev pub after_status : List Need
+  after_status = judgement_needs i j (certificates_of m (numbers_of j list)) ++ after_judging
 
-  abbrev pub after_first : List Need
-  after_first = judgement_needs i j (certificates_of m (numbers_of j list)) ++ after_judging
+  abbrev pub after_numbers : List Need
+  after_numbers = is_block m b else unknown_number ∷ has_status live (replica m i) else wrong_status ∷ after_status
 
-  pub prepare_at : At (prepare m i b j list) (replica_needs m i ++ (first_needs ++ after_first))
+  pub prepare_at : At (prepare m i b j list) (replica_needs m i ++ (justification_needs m j list ++ after_numbers))
   unfolding prepare
   prepare_at = start _ _ _ _ _ _ refl
 
-  -- What is known once the replica is found, the first needs hold, and the justification is judged.
-  abbrev pub Found : Replica → Type 0
-  Found r = ReplicaFound m i (prepare m i b j list) (first_needs ++ after_first) r
+  pub preparing : {r : Replica} → 0 ≡ first_refusal (replica_needs m i) → r ≡ replica_from (replica m i)
+      → ReplicaFound m i (prepare m i b j list) (justification_needs m j list ++ after_numbers) r
+  preparing passed read = found_replica m i _ prepare_at passed read
 
-  pub record Known : Type 0 where
-    pub ready : Ready m i
-    pub block : is_block m b ≡ true
-    pub within : Justifying m.log (numbers_of j list)
-    pub at : At (prepare m i b j list) after_first
+  -- What a justification's numbers tell, once they are tested.
+  pub justifies : Formed m → 0 ≡ first_refusal (justification_needs m j list) → Justifying m.log (numbers_of j list)
+  justifies f passed = justifying m j list f (all_needs (justification_needs m j list) refl (sym passed))
 
-  abbrev pub Proposes : Justified → Type 0
-  Proposes x = Judged j (certificates_of m (numbers_of j list)) (prepare m i b j list) after_judging x
+module _ (m : Memory) (i : ℕ) {r : Replica} (passed : 0 ≡ first_refusal (replica_needs m i)) (read : r ≡ replica_from (replica m i)) where
+  module _ (number : ℕ) where
+    abbrev pub after_number : List Need
+    after_number =
+        let p = certificate m number in
+        store_needs (fault_bound m) (replica m i) p ++ slot m (commit_of i (replica m i).boot p.view p.block)
 
-  pub known : {r : Replica} → Found r → {t : Tested} → t ≡ tested first_needs → t ≡ Passed → Known
-  known r is told =
-      let h = held first_needs refl is told in
-      record {
-        ready = r.ready;
-        block = h.1.1.0;
-        within = justifying m j list r.ready.formed (h.0, (h.1.0, tt));
-        at = passed first_needs refl is after_first r.at told;
-      }
+    pub storing : ReplicaFound m i (store m i number) (number_needs m number ++ after_number) r
+    unfolding store
+    storing = found_replica m i _ (start _ _ _ _ _ _ refl) passed read
+
+    pub storing_prop : {p : Certificate} → 0 ≡ first_refusal (number_needs m number) → p ≡ certificate_from (certificate m number)
+        → CertificateFound m number (store m i number) after_number p
+    storing_prop found is = found_certificate m number _ storing.at found is
+
+  pub entering : (w : ℕ) → let own = replica m i in
+      ReplicaFound m i (view m i w) (view_needs own w ++ slot m (new_view_of i own.boot w own.stored_block own.stored_view)) r
+  unfolding view
+  entering w = found_replica m i _ (start _ _ _ _ _ _ refl) passed read

@@ -1,14 +1,14 @@
 // What lets a leader propose (document 01: the ground of a proposal).
-ghost use Rattle.std.specs.Prelude.{◌≡◌, List, ℕ, ◌<◌, length};
+ghost use Rattle.std.specs.Prelude.{◌≡◌, [], ◌<◌, length, IfOk};
 ghost use Rattle.protocol.specs.Memory.{memory, certificate_count_at};
+ghost use Rattle.protocol.specs.Outcome.{number_in, first_refusal};
 ghost use Rattle.protocol.specs.Calls.{numbers_of, justification_needs};
 ghost use Rattle.quorum.specs.inner.Lists.{certificates_in};
-ghost use Rattle.checks.specs.inner.Verdicts.{tested};
-ghost use Rattle.checker.specs.inner.Justifications.{Justifying, judgement_of, judgement_refusal};
+ghost use Rattle.checker.specs.inner.Justifications.{Justifying, judgement_needs, justified_by};
 
 use certificate_log::ACC;
-use checks::{Tested, need};
-use protocol::{ACCEPTED, Justification, UNKNOWN_NUMBER, WRONG_CERTIFICATE};
+use checks::need;
+use protocol::{Justification, Refusal};
 use table::CERTIFICATE_COUNT_AT;
 
 // What a justification that holds gives: the view to propose in, and the block to build on.
@@ -18,36 +18,21 @@ pub struct Justified {
     pub block: u32,
 }
 
-// What a justification gives, or the refusal.
-#[derive(Clone, Copy)]
-pub enum Judgement {
-    By(Justified),
-    Refused(u32),
-}
-
-// The refusal that it holds, for a call to hand up.
-impl Judgement {
-    pub fn refusal(self) -> u32
-        ensures { result ≡ judgement_refusal self }
-    {
-        match self {
-            Judgement::By(_) => ACCEPTED,
-            Judgement::Refused(number) => number,
-        }
-    }
-}
-
 // The certificate numbers of a justification: an ACC's (3), or a list's length (2) and its numbers (3).
-pub fn test_justification(table: &[u32], justification: Justification, list: &[u32]) -> Tested
+#[tactic(auto, unfolding(protocol::specs::Outcome::first_refusal, protocol::specs::Quorum::every))]
+pub fn test_justification(
+    table: &[u32],
+    justification: Justification,
+    list: &[u32],
+) -> Result<(), Refusal>
     requires { certificate_count_at < length table.now }
-    ensures { (l b : List ℕ) → result
-        ≡ tested (justification_needs (memory table.now l b) justification list.now) }
+    ensures { number_in result
+        ≡ first_refusal (justification_needs (memory table.now [] []) justification list.now) }
 {
     match justification {
         Justification::Acc(number) => need(
-            Tested::Passed,
             number < table[CERTIFICATE_COUNT_AT],
-            UNKNOWN_NUMBER,
+            Refusal::UnknownNumber,
         ),
         Justification::Commits(_, _) => checks::test_list(table, list),
     }
@@ -55,29 +40,35 @@ pub fn test_justification(table: &[u32], justification: Justification, list: &[u
 
 // An ACC that the replica has signed, or a commit quorum of the view and the block that the caller names: only then is that view
 // one of the log, which has a next one.
-pub fn judge(log: &[u32], replica: u32, justification: Justification, list: &[u32]) -> Judgement
+#[tactic(auto, unfolding(protocol::specs::Outcome::first_refusal, protocol::specs::Form::all_hold))]
+pub fn judge(
+    log: &[u32],
+    replica: u32,
+    justification: Justification,
+    list: &[u32],
+) -> Result<Justified, Refusal>
     requires { Justifying log.now (numbers_of justification list.now) }
-    ensures { result ≡ judgement_of replica justification
-        (certificates_in log.now (numbers_of justification list.now)) }
+    ensures refusal { number_in result
+        ≡ first_refusal (judgement_needs replica justification (certificates_in log.now (numbers_of justification list.now))) }
+    ensures given { IfOk result (λ j. j ≡ justified_by justification (certificates_in log.now (numbers_of justification list.now))) }
 {
     match justification {
         Justification::Acc(number) => {
             let acc = certificate_log::certificate_in(log, number);
-            if (acc.kind == ACC) & (acc.signer == replica) {
-                return Judgement::By(Justified {
-                    view: acc.view,
-                    block: acc.block,
-                });
-            }
+            let signed = (acc.kind == ACC) & (acc.signer == replica);
+            need(signed, Refusal::WrongCertificate)?;
+            Ok(Justified {
+                view: acc.view,
+                block: acc.block,
+            })
         }
         Justification::Commits(view, block) => {
-            if quorum::is_commit_quorum(log, list, view, block) {
-                return Judgement::By(Justified {
-                    view: view + 1,
-                    block,
-                });
-            }
+            let matching = quorum::is_commit_quorum(log, list, view, block);
+            need(matching, Refusal::WrongCertificate)?;
+            Ok(Justified {
+                view: view + 1,
+                block,
+            })
         }
     }
-    Judgement::Refused(WRONG_CERTIFICATE)
 }

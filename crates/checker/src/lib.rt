@@ -3,7 +3,7 @@
 
 ghost use Rattle.std.specs.Prelude.{◌≡◌, cond, ◌≤◌};
 ghost use Rattle.protocol.specs.Memory.{max_fault_bound, lowered};
-ghost use Rattle.protocol.specs.Outcome.{outcome, outcome_by};
+ghost use Rattle.protocol.specs.Outcome.{number_in, first_refusal, outcome, outcome_by};
 ghost use Rattle.protocol.specs.Calls.{
   is_ahead,
   proposal_needs,
@@ -15,18 +15,14 @@ ghost use Rattle.protocol.specs.Calls.{
 };
 ghost use Rattle.certificate_log.specs.inner.Certificates.{certificate_of};
 ghost use Rattle.records.specs.inner.Replicas.{replica_of};
-ghost use Rattle.checks.specs.inner.Verdicts.{tested};
 
-use self::justification::{Judgement, Justified};
+use self::justification::Justified;
 use blocks::ROOT;
 use certificate_log::{COMMIT, Certificate, NEWVIEW, PROP};
-use checks::{FoundCertificate, FoundReplica, Tested, need, refused};
+use checks::need;
 use issuing::issue;
 use leader::FIRST_VIEW;
-use protocol::{
-    Answer, COUNTER_LIMIT, Justification, OUT_OF_RANGE, UNKNOWN_NUMBER, WRONG_BLOCK,
-    WRONG_CERTIFICATE, WRONG_STATUS, WRONG_VIEW,
-};
+use protocol::{Answer, Justification, Refusal};
 use records::Replica;
 use table::{
     BLOCK_COUNT_AT, CEILING, FAULT_BOUND_AT, FLAG_AT, LIVE, LOWERED, MIN_VIEW_AT, RAISED,
@@ -63,6 +59,7 @@ fn of_kind(kind: u32, signer: u32, boot: u32, view: u32, block: u32) -> Certific
 // ---- prepare
 
 // The needs of prepare that rest on what the justification gives.
+#[tactic(auto, unfolding(protocol::specs::Outcome::first_refusal))]
 fn test_proposal(
     f: u32,
     replica: u32,
@@ -70,17 +67,17 @@ fn test_proposal(
     block: u32,
     parent: u32,
     justified: Justified,
-) -> Tested
+) -> Result<(), Refusal>
     requires { f ≤ max_fault_bound }
-    ensures { result ≡ tested (proposal_needs f replica (replica_of r) block parent justified.view justified.block) }
+    ensures { number_in result ≡ first_refusal (proposal_needs f replica (replica_of r) block parent justified.view justified.block) }
 {
     let leads = leader::leads(f, justified.view, replica);
-    let tested = need(Tested::Passed, leads, WRONG_CERTIFICATE);
-    let tested = need(tested, block != ROOT, WRONG_BLOCK);
-    let tested = need(tested, parent == justified.block, WRONG_BLOCK);
-    let tested = need(tested, r.min_view == justified.view, WRONG_VIEW);
-    let tested = need(tested, r.flag == LOWERED, WRONG_VIEW);
-    need(tested, justified.view < r.view_limit, COUNTER_LIMIT)
+    need(leads, Refusal::WrongCertificate)?;
+    need(block != ROOT, Refusal::WrongBlock)?;
+    need(parent == justified.block, Refusal::WrongBlock)?;
+    need(r.min_view == justified.view, Refusal::WrongView)?;
+    need(r.flag == LOWERED, Refusal::WrongView)?;
+    need(justified.view < r.view_limit, Refusal::CounterLimit)
 }
 
 // A leader proposes a block, once in a view.
@@ -97,25 +94,13 @@ pub fn prepare(
         ≡ outcome_by (λ m. prepare_rule m replica block justification list.now)
         table.old log.old blocks.old }
 {
-    let found = checks::find_replica(table, log, blocks, replica);
-    let FoundReplica::Found(r) = found else {
-        return refused(found.refusal());
-    };
-    let tested = justification::test_justification(table, justification, list);
-    let tested = need(tested, block < table[BLOCK_COUNT_AT], UNKNOWN_NUMBER);
-    let tested = need(tested, r.status == LIVE, WRONG_STATUS);
-    let Tested::Passed = tested else {
-        return refused(tested.refusal());
-    };
-    let judgement = justification::judge(log, replica, justification, list);
-    let Judgement::By(justified) = judgement else {
-        return refused(judgement.refusal());
-    };
+    let r = checks::find_replica(table, log, blocks, replica)?;
+    justification::test_justification(table, justification, list)?;
+    need(block < table[BLOCK_COUNT_AT], Refusal::UnknownNumber)?;
+    need(r.status == LIVE, Refusal::WrongStatus)?;
+    let justified = justification::judge(log, replica, justification, list)?;
     let parent = blocks::parent(blocks, block);
-    let tested = test_proposal(table[FAULT_BOUND_AT], replica, r, block, parent, justified);
-    let Tested::Passed = tested else {
-        return refused(tested.refusal());
-    };
+    test_proposal(table[FAULT_BOUND_AT], replica, r, block, parent, justified)?;
     let offsets = [FLAG_AT];
     let values = [RAISED];
     let c = of_kind(PROP, replica, r.boot, justified.view, block);
@@ -125,19 +110,17 @@ pub fn prepare(
 // ---- store
 
 // The needs of store that are its own.
-fn test_store(f: u32, r: Replica, p: Certificate) -> Tested
+#[tactic(auto, unfolding(protocol::specs::Outcome::first_refusal))]
+fn test_store(f: u32, r: Replica, p: Certificate) -> Result<(), Refusal>
     requires { f ≤ max_fault_bound }
-    ensures { result ≡ tested (store_needs f (replica_of r) (certificate_of p)) }
+    ensures { number_in result ≡ first_refusal (store_needs f (replica_of r) (certificate_of p)) }
 {
-    let tested = need(Tested::Passed, r.status == LIVE, WRONG_STATUS);
-    let tested = need(tested, p.kind == PROP, WRONG_CERTIFICATE);
-    let tested = need(
-        tested,
-        leader::leads(f, p.view, p.signer),
-        WRONG_CERTIFICATE,
-    );
-    let tested = need(tested, r.min_view <= p.view, WRONG_VIEW);
-    need(tested, p.view < r.view_limit, COUNTER_LIMIT)
+    let leads = leader::leads(f, p.view, p.signer);
+    need(r.status == LIVE, Refusal::WrongStatus)?;
+    need(p.kind == PROP, Refusal::WrongCertificate)?;
+    need(leads, Refusal::WrongCertificate)?;
+    need(r.min_view <= p.view, Refusal::WrongView)?;
+    need(p.view < r.view_limit, Refusal::CounterLimit)
 }
 
 // A replica stores a proposed block, and commits to it; it proposes, stores and enters in no view up to this one again.
@@ -151,18 +134,9 @@ pub fn store(
     ensures { outcome result table.new log.new blocks.new
         ≡ outcome_by (λ m. store_rule m replica number) table.old log.old blocks.old }
 {
-    let found = checks::find_replica(table, log, blocks, replica);
-    let FoundReplica::Found(r) = found else {
-        return refused(found.refusal());
-    };
-    let found = checks::find_certificate(table, log, number);
-    let FoundCertificate::Found(p) = found else {
-        return refused(found.refusal());
-    };
-    let tested = test_store(table[FAULT_BOUND_AT], r, p);
-    let Tested::Passed = tested else {
-        return refused(tested.refusal());
-    };
+    let r = checks::find_replica(table, log, blocks, replica)?;
+    let p = checks::find_certificate(table, log, number)?;
+    test_store(table[FAULT_BOUND_AT], r, p)?;
     let offsets = [STORED_VIEW_AT, STORED_BLOCK_AT, MIN_VIEW_AT, FLAG_AT];
     let values = [p.view, p.block, p.view + 1, LOWERED];
     let c = of_kind(COMMIT, replica, r.boot, p.view, p.block);
@@ -172,14 +146,15 @@ pub fn store(
 // ---- view
 
 // The needs of view that are its own.
-fn test_view(r: Replica, view: u32) -> Tested
-    ensures { result ≡ tested (view_needs (replica_of r) view) }
+#[tactic(auto, unfolding(protocol::specs::Outcome::first_refusal))]
+fn test_view(r: Replica, view: u32) -> Result<(), Refusal>
+    ensures { number_in result ≡ first_refusal (view_needs (replica_of r) view) }
 {
-    let tested = need(Tested::Passed, FIRST_VIEW <= view, OUT_OF_RANGE);
-    let tested = need(tested, view <= CEILING, OUT_OF_RANGE);
-    let tested = need(tested, r.status == LIVE, WRONG_STATUS);
-    let tested = need(tested, r.min_view <= view, WRONG_VIEW);
-    need(tested, view < r.view_limit, COUNTER_LIMIT)
+    need(FIRST_VIEW <= view, Refusal::OutOfRange)?;
+    need(view <= CEILING, Refusal::OutOfRange)?;
+    need(r.status == LIVE, Refusal::WrongStatus)?;
+    need(r.min_view <= view, Refusal::WrongView)?;
+    need(view < r.view_limit, Refusal::CounterLimit)
 }
 
 // The flag in a view that a replica enters: lowered where the view is ahead of it.
@@ -200,14 +175,8 @@ pub fn view(
     ensures { outcome result table.new log.new blocks.new
         ≡ outcome_by (λ m. view_rule m replica view) table.old log.old blocks.old }
 {
-    let found = checks::find_replica(table, log, blocks, replica);
-    let FoundReplica::Found(r) = found else {
-        return refused(found.refusal());
-    };
-    let tested = test_view(r, view);
-    let Tested::Passed = tested else {
-        return refused(tested.refusal());
-    };
+    let r = checks::find_replica(table, log, blocks, replica)?;
+    test_view(r, view)?;
     let offsets = [FLAG_AT, MIN_VIEW_AT];
     let values = [flag_in(r, view), view];
     let c = Certificate {

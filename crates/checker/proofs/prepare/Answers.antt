@@ -1,145 +1,95 @@
 -- Refused, or a PROP is issued; what was found of the replica and what the justification gives is what the rule speaks of.
-use mathlib.Core.Path.{◌≡◌, refl}
-use Rattle.protocol.specs.Memory.{memory}
+use mathlib.Core.Path.{refl}
 use Rattle.protocol.specs.Quorum.{every}
 use Rattle.protocol.specs.Calls.{prepare as prepare_rule}
 use Rattle.protocol.proofs.logic.Booleans.{tests}
-use Rattle.checks.specs.inner.Verdicts.{tested}
-use Rattle.checks.proofs.Passing.{no_replica, found_replica, failed, passed}
+use Rattle.checks.proofs.Needed.{needed}
+use Rattle.checks.proofs.Passing.{stops, on, need_stops, need_on}
 use Rattle.issuing.proofs.Issues.{issuable, issues}
-use Rattle.checker.proofs.Justifications.{not_judged, judged, first_needs, last_needs, after_first, prepare_at, Found, Known, known, Proposes}
+use Rattle.checker.proofs.Justifications.{prepare_at, preparing, justifies}
 use Rattle.checker.proofs.prepare.Goals as goal
 
-pub returns-in_default : goal.returns-in_default
-returns-in_default c =
-    no_replica _ _ _ (prepare_at _ _ _ _ _) c.find_replica-found.ensures
-    c.in_default.is c.refusal.ensures c.refused.ensures
+pub returns-in_err-r : goal.returns-in_err-r
+returns-in_err-r c = stops _ _ _ _ (prepare_at _ _ _ _ _) c.in_err-r.ensures.refusal c.from_residual.ensures
 
-pub test_justification-tested-requires : goal.test_justification-tested-requires
-test_justification-tested-requires c =
-    let found : Found (memory c.args.table.now c.args.log.now c.args.blocks.now) c.args.replica c.args.block c.args.justification c.args.list.now c.in-Found.r = found_replica _ _ _ (prepare_at _ _ _ _ _) c.find_replica-found.ensures c.in-Found.is in
+pub test_justification-requires : goal.test_justification-requires
+test_justification-requires c =
+    let found = preparing _ _ c.args.block c.args.justification c.args.list.now c.in_ok-r.ensures.refusal c.in_ok-r.ensures.found in
     omega (tests, found.ready.sizes)
+
+pub returns-in_err-test_justification : goal.returns-in_err-test_justification
+returns-in_err-test_justification c =
+    let found = preparing _ _ c.args.block _ _ c.in_ok-r.ensures.refusal c.in_ok-r.ensures.found in
+    stops _ _ _ _ found.at c.in_err-test_justification.ensures c.from_residual-in_err-test_justification.ensures
 
 pub bounds-table-2 : goal.bounds-table-2
 bounds-table-2 c =
-    let found : Found (memory c.args.table.now c.args.log.now c.args.blocks.now) c.args.replica c.args.block c.args.justification c.args.list.now c.in-Found.r = found_replica _ _ _ (prepare_at _ _ _ _ _) c.find_replica-found.ensures c.in-Found.is in
+    let found = preparing _ _ c.args.block c.args.justification c.args.list.now c.in_ok-r.ensures.refusal c.in_ok-r.ensures.found in
     omega (tests, found.ready.sizes)
 
-pub returns-in_default-tested : goal.returns-in_default-tested
-unfolding tested
-returns-in_default-tested c =
-    let found : Found (memory c.args.table.now c.args.log.now c.args.blocks.now) c.args.replica c.args.block c.args.justification c.args.list.now c.in-Found.r = found_replica _ _ _ (prepare_at _ _ _ _ _) c.find_replica-found.ensures c.in-Found.is in
-    let first_tested : c.need-tested-2.result ≡ tested (first_needs (memory c.args.table.now c.args.log.now c.args.blocks.now) c.args.replica c.args.block c.args.justification c.args.list.now) =
-    let numbers = c.test_justification-tested.ensures c.args.log.now c.args.blocks.now in
-    rw (c.need-tested-2.ensures, c.need-tested.ensures, numbers, found.read) in
-    let r = found in
-    failed (first_needs (memory c.args.table.now c.args.log.now c.args.blocks.now) c.args.replica c.args.block c.args.justification c.args.list.now) refl first_tested (memory c.args.table.now c.args.log.now c.args.blocks.now) (after_first (memory c.args.table.now c.args.log.now c.args.blocks.now) c.args.replica c.args.block c.args.justification c.args.list.now) r.at
-    c.in_default-tested.is c.refusal-in_default-tested.ensures c.refused-in_default-tested.ensures
+pub returns-in_err-need : goal.returns-in_err-need
+returns-in_err-need c =
+    let found = preparing _ _ c.args.block _ _ c.in_ok-r.ensures.refusal c.in_ok-r.ensures.found in
+    let numbered = on _ _ refl found.at c.in_ok-test_justification.ensures in
+    need_stops _ _ numbered _ _ c.in_err-need.ensures c.from_residual-in_err-need.ensures
 
-pub judge-judgement-requires : goal.judge-judgement-requires
-unfolding tested
-judge-judgement-requires c =
-    let found : Found (memory c.args.table.now c.args.log.now c.args.blocks.now) c.args.replica c.args.block c.args.justification c.args.list.now c.in-Found.r = found_replica _ _ _ (prepare_at _ _ _ _ _) c.find_replica-found.ensures c.in-Found.is in
-    let first_tested : c.need-tested-2.result ≡ tested (first_needs (memory c.args.table.now c.args.log.now c.args.blocks.now) c.args.replica c.args.block c.args.justification c.args.list.now) =
-    let numbers = c.test_justification-tested.ensures c.args.log.now c.args.blocks.now in
-    rw (c.need-tested-2.ensures, c.need-tested.ensures, numbers, found.read) in
-    let first : Known (memory c.args.table.now c.args.log.now c.args.blocks.now) c.args.replica c.args.block c.args.justification c.args.list.now = let r = found in
-    known _ _ _ _ _ r first_tested c.in-Passed.is in
-    first.within
+pub returns-in_err-need-2 : goal.returns-in_err-need-2
+returns-in_err-need-2 c =
+    let found = preparing _ _ c.args.block _ _ c.in_ok-r.ensures.refusal c.in_ok-r.ensures.found in
+    let numbered = on _ _ refl found.at c.in_ok-test_justification.ensures in
+    let added = need_on _ _ numbered c.in_ok-need.ensures in
+    need_stops _ _ added _ _ (rw found.read at c.in_err-need-2.ensures) c.from_residual-in_err-need-2.ensures
 
-pub returns-in_default-judgement : goal.returns-in_default-judgement
-unfolding tested
-returns-in_default-judgement c =
-    let found : Found (memory c.args.table.now c.args.log.now c.args.blocks.now) c.args.replica c.args.block c.args.justification c.args.list.now c.in-Found.r = found_replica _ _ _ (prepare_at _ _ _ _ _) c.find_replica-found.ensures c.in-Found.is in
-    let first_tested : c.need-tested-2.result ≡ tested (first_needs (memory c.args.table.now c.args.log.now c.args.blocks.now) c.args.replica c.args.block c.args.justification c.args.list.now) =
-    let numbers = c.test_justification-tested.ensures c.args.log.now c.args.blocks.now in
-    rw (c.need-tested-2.ensures, c.need-tested.ensures, numbers, found.read) in
-    let first : Known (memory c.args.table.now c.args.log.now c.args.blocks.now) c.args.replica c.args.block c.args.justification c.args.list.now = let r = found in
-    known _ _ _ _ _ r first_tested c.in-Passed.is in
-    let k = first in
-    not_judged _ _ _ _ k.at c.judge-judgement.ensures
-    c.in_default-judgement.is c.refusal-in_default-judgement.ensures c.refused-in_default-judgement.ensures
+pub judge-requires : goal.judge-requires
+judge-requires c =
+    let found = preparing _ _ c.args.block c.args.justification c.args.list.now c.in_ok-r.ensures.refusal c.in_ok-r.ensures.found in
+    justifies _ c.args.replica c.args.block _ _ found.ready.formed c.in_ok-test_justification.ensures
+
+pub returns-in_err-justified : goal.returns-in_err-justified
+returns-in_err-justified c =
+    let found = preparing _ _ c.args.block _ _ c.in_ok-r.ensures.refusal c.in_ok-r.ensures.found in
+    let numbered = on _ _ refl found.at c.in_ok-test_justification.ensures in
+    let added = need_on _ _ numbered c.in_ok-need.ensures in
+    let live = need_on _ _ added (rw found.read at c.in_ok-need-2.ensures) in
+    stops _ _ _ _ live c.in_err-justified.ensures.refusal c.from_residual-in_err-justified.ensures
 
 pub parent-parent-requires : goal.parent-parent-requires
-unfolding tested
 parent-parent-requires c =
-    let found : Found (memory c.args.table.now c.args.log.now c.args.blocks.now) c.args.replica c.args.block c.args.justification c.args.list.now c.in-Found.r = found_replica _ _ _ (prepare_at _ _ _ _ _) c.find_replica-found.ensures c.in-Found.is in
-    let first_tested : c.need-tested-2.result ≡ tested (first_needs (memory c.args.table.now c.args.log.now c.args.blocks.now) c.args.replica c.args.block c.args.justification c.args.list.now) =
-    let numbers = c.test_justification-tested.ensures c.args.log.now c.args.blocks.now in
-    rw (c.need-tested-2.ensures, c.need-tested.ensures, numbers, found.read) in
-    let first : Known (memory c.args.table.now c.args.log.now c.args.blocks.now) c.args.replica c.args.block c.args.justification c.args.list.now = let r = found in
-    known _ _ _ _ _ r first_tested c.in-Passed.is in
-    let k = first in omega (tests, k.block, k.ready.sizes)
+    let found = preparing _ _ c.args.block c.args.justification c.args.list.now c.in_ok-r.ensures.refusal c.in_ok-r.ensures.found in
+    omega (tests, needed _ _ c.in_ok-need.ensures, found.ready.sizes)
 
-pub bounds-table-0 : goal.bounds-table-0
-unfolding tested
-bounds-table-0 c =
-    let found : Found (memory c.args.table.now c.args.log.now c.args.blocks.now) c.args.replica c.args.block c.args.justification c.args.list.now c.in-Found.r = found_replica _ _ _ (prepare_at _ _ _ _ _) c.find_replica-found.ensures c.in-Found.is in
-    let first_tested : c.need-tested-2.result ≡ tested (first_needs (memory c.args.table.now c.args.log.now c.args.blocks.now) c.args.replica c.args.block c.args.justification c.args.list.now) =
-    let numbers = c.test_justification-tested.ensures c.args.log.now c.args.blocks.now in
-    rw (c.need-tested-2.ensures, c.need-tested.ensures, numbers, found.read) in
-    let first : Known (memory c.args.table.now c.args.log.now c.args.blocks.now) c.args.replica c.args.block c.args.justification c.args.list.now = let r = found in
-    known _ _ _ _ _ r first_tested c.in-Passed.is in
-    omega (tests, first.ready.sizes)
+pub test_proposal-requires : goal.test_proposal-requires
+test_proposal-requires c =
+    let found = preparing _ _ c.args.block c.args.justification c.args.list.now c.in_ok-r.ensures.refusal c.in_ok-r.ensures.found in
+    found.ready.sizes.faults_high
 
-pub test_proposal-tested-requires : goal.test_proposal-tested-requires
-unfolding tested
-test_proposal-tested-requires c =
-    let found : Found (memory c.args.table.now c.args.log.now c.args.blocks.now) c.args.replica c.args.block c.args.justification c.args.list.now c.in-Found.r = found_replica _ _ _ (prepare_at _ _ _ _ _) c.find_replica-found.ensures c.in-Found.is in
-    let first_tested : c.need-tested-2.result ≡ tested (first_needs (memory c.args.table.now c.args.log.now c.args.blocks.now) c.args.replica c.args.block c.args.justification c.args.list.now) =
-    let numbers = c.test_justification-tested.ensures c.args.log.now c.args.blocks.now in
-    rw (c.need-tested-2.ensures, c.need-tested.ensures, numbers, found.read) in
-    let first : Known (memory c.args.table.now c.args.log.now c.args.blocks.now) c.args.replica c.args.block c.args.justification c.args.list.now = let r = found in
-    known _ _ _ _ _ r first_tested c.in-Passed.is in
-    first.ready.sizes.faults_high
+pub returns-in_err-test_proposal : goal.returns-in_err-test_proposal
+returns-in_err-test_proposal c =
+    let found = preparing _ _ c.args.block _ _ c.in_ok-r.ensures.refusal c.in_ok-r.ensures.found in
+    let numbered = on _ _ refl found.at c.in_ok-test_justification.ensures in
+    let added = need_on _ _ numbered c.in_ok-need.ensures in
+    let live = need_on _ _ added (rw found.read at c.in_ok-need-2.ensures) in
+    let judged = on _ _ refl live c.in_ok-justified.ensures.refusal in
+    stops _ _ _ _ judged (rw (c.parent-parent.ensures, found.read, c.in_ok-justified.ensures.given) at c.in_err-test_proposal.ensures)
+    c.from_residual-in_err-test_proposal.ensures
 
-pub returns-in_default-tested-2 : goal.returns-in_default-tested-2
-unfolding tested
-returns-in_default-tested-2 c =
-    let found : Found (memory c.args.table.now c.args.log.now c.args.blocks.now) c.args.replica c.args.block c.args.justification c.args.list.now c.in-Found.r = found_replica _ _ _ (prepare_at _ _ _ _ _) c.find_replica-found.ensures c.in-Found.is in
-    let first_tested : c.need-tested-2.result ≡ tested (first_needs (memory c.args.table.now c.args.log.now c.args.blocks.now) c.args.replica c.args.block c.args.justification c.args.list.now) =
-    let numbers = c.test_justification-tested.ensures c.args.log.now c.args.blocks.now in
-    rw (c.need-tested-2.ensures, c.need-tested.ensures, numbers, found.read) in
-    let first : Known (memory c.args.table.now c.args.log.now c.args.blocks.now) c.args.replica c.args.block c.args.justification c.args.list.now = let r = found in
-    known _ _ _ _ _ r first_tested c.in-Passed.is in
-    let given :
-    (Proposes (memory c.args.table.now c.args.log.now c.args.blocks.now) c.args.replica c.args.block c.args.justification c.args.list.now) c.in-By.justified = judged _ _ _ _ first.at c.judge-judgement.ensures c.in-By.is in
-    let last_tested :
-    c.test_proposal-tested.result ≡ tested (last_needs (memory c.args.table.now c.args.log.now c.args.blocks.now) c.args.replica c.args.block c.args.justification c.args.list.now) =
-    rw (c.parent-parent.ensures, found.read, given.given) at c.test_proposal-tested.ensures in
-    let g = given in
-    failed (last_needs (memory c.args.table.now c.args.log.now c.args.blocks.now) c.args.replica c.args.block c.args.justification c.args.list.now) refl last_tested (memory c.args.table.now c.args.log.now c.args.blocks.now) _ g.at
-    c.in_default-tested-2.is c.refusal-in_default-tested-2.ensures c.refused-in_default-tested-2.ensures
+pub issue-requires-clause-issuable : goal.issue-requires-clause-issuable
+issue-requires-clause-issuable c =
+    let found = preparing _ _ c.args.block c.args.justification c.args.list.now c.in_ok-r.ensures.refusal c.in_ok-r.ensures.found in
+    issuable _ _ found.ready
 
-pub issue-requires : goal.issue-requires
-unfolding every tested
-issue-requires c =
-    let found : Found (memory c.args.table.now c.args.log.now c.args.blocks.now) c.args.replica c.args.block c.args.justification c.args.list.now c.in-Found.r = found_replica _ _ _ (prepare_at _ _ _ _ _) c.find_replica-found.ensures c.in-Found.is in
-    let first_tested : c.need-tested-2.result ≡ tested (first_needs (memory c.args.table.now c.args.log.now c.args.blocks.now) c.args.replica c.args.block c.args.justification c.args.list.now) =
-    let numbers = c.test_justification-tested.ensures c.args.log.now c.args.blocks.now in
-    rw (c.need-tested-2.ensures, c.need-tested.ensures, numbers, found.read) in
-    let first : Known (memory c.args.table.now c.args.log.now c.args.blocks.now) c.args.replica c.args.block c.args.justification c.args.list.now = let r = found in
-    known _ _ _ _ _ r first_tested c.in-Passed.is in
-    let k = first in
-    record { issuable = issuable _ _ k.ready; settable = record { paired = refl; within = refl } }
+pub issue-requires-clause-settable : goal.issue-requires-clause-settable
+unfolding every
+issue-requires-clause-settable c = record { paired = refl; within = refl }
 
 pub returns : goal.returns
-unfolding prepare_rule tested
+unfolding prepare_rule
 returns c =
-    let found : Found (memory c.args.table.now c.args.log.now c.args.blocks.now) c.args.replica c.args.block c.args.justification c.args.list.now c.in-Found.r = found_replica _ _ _ (prepare_at _ _ _ _ _) c.find_replica-found.ensures c.in-Found.is in
-    let first_tested : c.need-tested-2.result ≡ tested (first_needs (memory c.args.table.now c.args.log.now c.args.blocks.now) c.args.replica c.args.block c.args.justification c.args.list.now) =
-    let numbers = c.test_justification-tested.ensures c.args.log.now c.args.blocks.now in
-    rw (c.need-tested-2.ensures, c.need-tested.ensures, numbers, found.read) in
-    let first : Known (memory c.args.table.now c.args.log.now c.args.blocks.now) c.args.replica c.args.block c.args.justification c.args.list.now = let r = found in
-    known _ _ _ _ _ r first_tested c.in-Passed.is in
-    let given :
-    (Proposes (memory c.args.table.now c.args.log.now c.args.blocks.now) c.args.replica c.args.block c.args.justification c.args.list.now) c.in-By.justified = judged _ _ _ _ first.at c.judge-judgement.ensures c.in-By.is in
-    let last_tested :
-    c.test_proposal-tested.result ≡ tested (last_needs (memory c.args.table.now c.args.log.now c.args.blocks.now) c.args.replica c.args.block c.args.justification c.args.list.now) =
-    rw (c.parent-parent.ensures, found.read, given.given) at c.test_proposal-tested.ensures in
-    let g = given in
-    let r = found in
-    let told = c.in-Passed-tested.is in
-    let proposal = c.of_kind-c.ensures in
-    issues _ _ _ _ _ (passed (last_needs (memory c.args.table.now c.args.log.now c.args.blocks.now) c.args.replica c.args.block c.args.justification c.args.list.now) refl last_tested _ g.at told) refl
-    (rw (proposal, g.given, r.read) refl) (c.issue.ensures _)
+    let found = preparing _ _ c.args.block _ _ c.in_ok-r.ensures.refusal c.in_ok-r.ensures.found in
+    let numbered = on _ _ refl found.at c.in_ok-test_justification.ensures in
+    let added = need_on _ _ numbered c.in_ok-need.ensures in
+    let live = need_on _ _ added (rw found.read at c.in_ok-need-2.ensures) in
+    let judged = on _ _ refl live c.in_ok-justified.ensures.refusal in
+    let given = c.in_ok-justified.ensures.given in
+    let at_slot = on _ _ refl judged (rw (c.parent-parent.ensures, found.read, given) at c.in_ok-test_proposal.ensures) in
+    issues _ _ _ _ _ at_slot refl (rw (c.of_kind-c.ensures, given, found.read) refl) (c.issue.ensures _)

@@ -5,10 +5,7 @@ use Rattle.protocol.specs.Memory.{Certificate, ceiling}
 use Rattle.protocol.specs.Outcome.{Need, ◌else◌, wrong_certificate}
 use Rattle.protocol.specs.Calls.{proposal_view, justified_block, is_justified}
 use Rattle.quorum.specs.inner.Lists.{certificate_in, Listed}
-use Rattle.checks.specs.inner.Verdicts.{verdict}
 use Rattle.checker.specs.declared.justification.Justified.{Justified}
-use Rattle.checker.specs.declared.justification.Judgement.{Judgement}
-use Rattle.checker.specs.declared.justification.Judgement.TheVariants.{By, Refused}
 
 -- Of the numbers of a justification: their certificates are in the log, there is a first one, and its view has a next one.
 pub record Justifying (log numbers : List ℕ) : Type 0 where
@@ -21,11 +18,3 @@ justified_by j cs = record { view = proposal_view j cs; block = justified_block 
 
 abbrev pub judgement_needs : ℕ → Justification → List Certificate → List Need
 judgement_needs i j cs = is_justified i j cs else wrong_certificate ∷ []
-
-unfoldable pub judgement_of : ℕ → Justification → List Certificate → Judgement
-judgement_of i j cs = verdict (judgement_needs i j cs) (By (justified_by j cs)) Refused
-
--- The number that it holds; 0, "accepted", where it holds none.
-abbrev pub judgement_refusal : Judgement → ℕ
-judgement_refusal (By justified) = 0
-judgement_refusal (Refused number) = number

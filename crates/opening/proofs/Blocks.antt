@@ -1,43 +1,41 @@
 -- The ways that a block call goes, and what its code counts on.
 use Prim.Native.Nat.{ℕ, ◌+◌, ◌≤◌, ◌<◌}
-use mathlib.Core.Path.{◌≡◌, refl, sym, ◌∙◌}
-use mathlib.Core.Bool.{true, false}
+use mathlib.Core.Path.{◌≡◌}
+use mathlib.Core.Bool.{true}
+use mathlib.Core.List.{List, [], ◌∷◌}
+use Rattle.std.specs.Prelude.{Result, Ok}
 use lib.ListN.{length, set}
 use lib.Seq.{sets}
 use lib.Dec.{ltb}
-use Rattle.protocol.specs.Memory.{Memory, memory, block_count_at, block_count, row_start, block_words, block_at, kept_height, block_record}
+use Rattle.protocol.specs.Memory.{Memory, block_count_at, block_count, row_start, block_words, block_at, kept_height, block_record}
 use Rattle.protocol.specs.Memory.{max_blocks, append_block}
 use Rattle.protocol.specs.Form.{well_formed}
-use Rattle.protocol.specs.Outcome.{first_refusal, acceptance, follow, refusal, wrong_form, unknown_number, no_room}
+use Rattle.protocol.specs.declared.Values.{Values}
+use Rattle.protocol.specs.declared.Refusal.{Refusal}
+use Rattle.protocol.specs.Outcome.{◌else◌, follow, told, left, wrong_form, unknown_number, no_room}
 use Rattle.protocol.specs.FirstNeeds.{is_block}
 use Rattle.protocol.specs.Calls.{block}
 use Rattle.protocol.proofs.logic.Booleans.{tests}
 use Rattle.protocol.proofs.memory.Formed.{formed, sizes}
 use Rattle.form.proofs.Within.{height_below}
-use Rattle.protocol.proofs.calls.Needs.{refuses, accepts, fails, holds}
+use Rattle.checks.proofs.Passing.{At, start, accepts}
 
 module _ (m : Memory) (p : ℕ) where
-  pub no_form : well_formed m ≡ false → refusal wrong_form m ≡ follow m (block m p)
+  pub begun : At (block m p)
+      (well_formed m else wrong_form
+      ∷ is_block m p else unknown_number
+      ∷ ltb (block_at (block_count m)) (length m.blocks) else no_room
+      ∷ [])
   unfolding block
-  no_form e = refuses m _ wrong_form (sym (fails _ e)) (λ z. omega tests)
+  begun = start _
 
-  module _ (form : well_formed m ≡ true) where
-    pub unknown : is_block m p ≡ false → refusal unknown_number m ≡ follow m (block m p)
-    unfolding block
-    unknown e = refuses m _ unknown_number (sym (holds _ _ form ∙ fails _ e)) (λ z. omega tests)
-
-    module _ (known : is_block m p ≡ true) where
-      pub full : ltb (block_at (block_count m)) (length m.blocks) ≡ false → refusal no_room m ≡ follow m (block m p)
-      unfolding block
-      full e = refuses m _ no_room (sym (holds _ _ form ∙ holds _ _ known ∙ fails _ e)) (λ z. omega tests)
-
-      pub adds : ltb (block_at (block_count m)) (length m.blocks) ≡ true
-          → acceptance (block_count m) 0
-          (memory (set m.table block_count_at (block_count m + 1)) m.log
-          (sets m.blocks (block_at (block_count m)) (block_record p (kept_height m p + 1))))
-          ≡ follow m (block m p)
-      unfolding block append_block first_refusal
-      adds e = accepts m (block m p) (rw (form, known, e) refl)
+  pub adds : {a : Result Values Refusal} {t b : List ℕ} → At (block m p) []
+      → a ≡ Ok (record { first = block_count m; second = 0 })
+      → t ≡ set m.table block_count_at (block_count m + 1)
+      → b ≡ sets m.blocks (block_at (block_count m)) (block_record p (kept_height m p + 1))
+      → left (told a) t m.log b ≡ follow m (block m p)
+  unfolding block append_block
+  adds at answer table blocks = accepts m at answer (rw (table, blocks))
 
 -- What the code counts on once all three tests are passed: the words that it reads and writes are there, and no sum is too large.
 pub record Ready (m : Memory) (p : ℕ) : Type 0 where

@@ -8,8 +8,8 @@ ghost use Rattle.protocol.specs.Calls.{fresh_replica, fresh_header as fresh_head
 ghost use Rattle.opening.specs.inner.Fresh.{fresh_rows as fresh_rows_rule};
 
 use blocks::ROOT;
-use checks::{accepted, refused};
-use protocol::{Answer, NO_ROOM, OUT_OF_RANGE, UNKNOWN_NUMBER, WRONG_FORM, WRONG_STEPS};
+use checks::{accepted, need};
+use protocol::{Answer, Refusal};
 use table::{
     BLOCK_COUNT_AT, BOOT_AT, CERTIFICATE_COUNT_AT, DECIDED_BLOCK_AT, DECIDED_VIEW_AT,
     FAULT_BOUND_AT, FLAG_AT, LIVE, LOWERED, MIN_VIEW_AT, STATUS_AT, STORED_BLOCK_AT,
@@ -41,10 +41,8 @@ fn fresh_rows(table: &mut [u32], replicas: u32, limit: u32)
     requires { row_at replicas ≤ length table.old }
     ensures { table.new ≡ fresh_rows_rule table.old limit replicas }
 {
-    let mut i: u32 = 0;
-    while i < replicas {
-        fresh_row(table, i, limit);
-        i += 1;
+    for replica in 0..replicas {
+        fresh_row(table, replica, limit);
     }
 }
 
@@ -71,15 +69,9 @@ pub fn open_ledger(
     ensures { outcome result table.new log.new blocks.new
         ≡ outcome_by (λ m. opening_rule m f list.now) table.old log.old blocks.old }
 {
-    if !form::is_fault_bound(f) {
-        return refused(OUT_OF_RANGE);
-    }
-    if !counter::steps_allowed(list) {
-        return refused(WRONG_STEPS);
-    }
-    if !form::lengths_fit(table, log, blocks, f) {
-        return refused(WRONG_FORM);
-    }
+    need(form::is_fault_bound(f), Refusal::OutOfRange)?;
+    need(counter::steps_allowed(list), Refusal::WrongSteps)?;
+    need(form::lengths_fit(table, log, blocks, f), Refusal::WrongForm)?;
     fresh_header(table, blocks, f);
     let limit = counter::open_steps(table, list);
     let replicas = table::replica_count(f);
@@ -92,18 +84,12 @@ pub fn block(table: &mut [u32], log: &mut [u32], blocks: &mut [u32], parent: u32
     ensures { outcome result table.new log.new blocks.new
         ≡ outcome_by (λ m. block_rule m parent) table.old log.old blocks.old }
 {
-    if form::is_well_formed(table, log, blocks) {
-        let count = table[BLOCK_COUNT_AT];
-        if count <= parent {
-            return refused(UNKNOWN_NUMBER);
-        }
-        if blocks.len() <= blocks::block_at(count) {
-            return refused(NO_ROOM);
-        }
-        let height = blocks::height(blocks, parent) + 1;
-        table[BLOCK_COUNT_AT] = count + 1;
-        blocks::set_block(blocks, count, parent, height);
-        return accepted(count, 0);
-    }
-    refused(WRONG_FORM)
+    need(form::is_well_formed(table, log, blocks), Refusal::WrongForm)?;
+    let count = table[BLOCK_COUNT_AT];
+    need(parent < count, Refusal::UnknownNumber)?;
+    need(blocks::block_at(count) < blocks.len(), Refusal::NoRoom)?;
+    let height = blocks::height(blocks, parent) + 1;
+    table[BLOCK_COUNT_AT] = count + 1;
+    blocks::set_block(blocks, count, parent, height);
+    accepted(count, 0)
 }

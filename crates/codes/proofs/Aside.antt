@@ -4,8 +4,7 @@ use mathlib.Core.Path.{◌≡◌, refl, ap}
 use mathlib.Core.List.{List, [], ◌∷◌}
 use lib.ListN.{get_or}
 use Rattle.protocol.specs.Memory.{memory}
-use Rattle.codes.specs.declared.Coded.{Coded}
-use Rattle.codes.specs.Codes.{claimed_word, no_call, code_table, coded_call}
+use Rattle.codes.specs.Codes.{Coded, claimed_word, no_call, code_table, coded_call}
 
 table_aside : (t l b : List ℕ) (replica number : ℕ) (list : List ℕ)
     → code_table (memory t l []) replica number list ≡ code_table (memory t l b) replica number list

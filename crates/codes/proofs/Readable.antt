@@ -7,11 +7,11 @@ use mathlib.Core.List.{List, [], ◌∷◌}
 use lib.ListN.{drop, get_or}
 use Rattle.protocol.specs.declared.Call.{Call}
 use Rattle.protocol.specs.Memory.{Memory}
-use Rattle.protocol.specs.Outcome.{unreadable}
 use Rattle.protocol.specs.Theorems.{is_opening}
-use Rattle.codes.specs.declared.Coded.{Coded}
-use Rattle.codes.specs.declared.Coded.TheVariants.{Of, Refused}
-use Rattle.codes.specs.Codes.{no_call, when, code_table, coded_call}
+use Rattle.protocol.specs.declared.Refusal.{Refusal}
+use Rattle.protocol.specs.declared.Refusal.TheVariants.{Unreadable}
+use Rattle.std.specs.Prelude.{Ok, Err}
+use Rattle.codes.specs.Codes.{Coded, no_call, when, code_table, coded_call}
 
 same_unreadable : (t : Bool) (call call' : Call) → when t call ≡ no_call → when t call' ≡ no_call
 unfolding when
@@ -30,8 +30,8 @@ each_at P (coded ∷ rest) (suc k) past h = each_at P rest k past h.1
 
 -- What is refused is refused as unreadable.
 abbrev OnlyUnreadable : Coded → Type 0
-OnlyUnreadable (Of call) = Unit {0}
-OnlyUnreadable (Refused refusal) = refusal ≡ unreadable
+OnlyUnreadable (Ok call) = Unit {0}
+OnlyUnreadable (Err refusal) = refusal ≡ Unreadable
 
 only_unreadable : (t : Bool) (call : Call) → OnlyUnreadable (when t call)
 unfolding when
@@ -40,8 +40,8 @@ only_unreadable false call = refl
 
 -- No call of these is an opening.
 abbrev NoOpening : Coded → Type 0
-NoOpening (Of call) = is_opening call ≡ false
-NoOpening (Refused refusal) = Unit {0}
+NoOpening (Ok call) = is_opening call ≡ false
+NoOpening (Err refusal) = Unit {0}
 
 none : (t : Bool) (call : Call) → is_opening call ≡ false → NoOpening (when t call)
 unfolding when
@@ -59,13 +59,13 @@ module _ (replica number : ℕ) (list : List ℕ) where
   unreadable_anywhere m m' (suc (suc (suc zero))) e = same_unreadable _ _ _ e
   unreadable_anywhere m m' (suc (suc (suc (suc code)))) e = e
 
-  pub refused_unreadable : (m : Memory) (code : ℕ) {refusal : ℕ} → coded_call m code replica number list ≡ Refused refusal
-      → refusal ≡ unreadable
+  pub refused_unreadable : (m : Memory) (code : ℕ) {refusal : Refusal} → coded_call m code replica number list ≡ Err refusal
+      → refusal ≡ Unreadable
   unfolding code_table
   refused_unreadable m code e =
       rw e at (each_at OnlyUnreadable (code_table m replica number list) code refl (search only_unreadable))
 
-  pub no_opening : (m : Memory) (code : ℕ) {call : Call} → (code ≡ 0 → ⊥) → coded_call m code replica number list ≡ Of call
+  pub no_opening : (m : Memory) (code : ℕ) {call : Call} → (code ≡ 0 → ⊥) → coded_call m code replica number list ≡ Ok call
       → is_opening call ≡ false
   unfolding code_table
   no_opening m zero n e = absurd (n refl)

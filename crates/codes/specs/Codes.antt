@@ -1,14 +1,13 @@
 -- The thirteen call codes (document 01, "Script program").
-use Rattle.std.specs.Prelude.{ℕ, Bool, cond, ◌&&◌, List, [], ◌∷◌, length, get_or, leb, eqb}
+use Rattle.std.specs.Prelude.{Result, Ok, Err, ℕ, Bool, cond, ◌&&◌, List, [], ◌∷◌, length, get_or, leb, eqb}
 use Rattle.protocol.specs.declared.Call.{Call}
 use Rattle.protocol.specs.declared.Call.TheVariants.{Open, Block, Prepare, Store, View, Accumulate, Decide, Reboot, Reserve, Request}
 use Rattle.protocol.specs.declared.Call.TheVariants.{Reply, Recover}
 use Rattle.protocol.specs.declared.Justification.TheVariants.{Acc, Commits}
 use Rattle.protocol.specs.Memory.{Memory, certificate_word, view_at, proposed_block_at}
-use Rattle.protocol.specs.Outcome.{unreadable}
+use Rattle.protocol.specs.declared.Refusal.{Refusal}
+use Rattle.protocol.specs.declared.Refusal.TheVariants.{Unreadable}
 use Rattle.protocol.specs.Quorum.{is_issued}
-use Rattle.codes.specs.declared.Coded.{Coded}
-use Rattle.codes.specs.declared.Coded.TheVariants.{Of, Refused}
 
 abbrev pub max_list : ℕ
 max_list = 31
@@ -29,12 +28,16 @@ unfoldable pub claimed_word : Memory → List ℕ → ℕ → ℕ
 claimed_word m [] k = 0
 claimed_word m (number ∷ rest) k = cond (is_issued m number) (certificate_word m number k) 0
 
+-- The call of a code, or a refusal.
+abbrev pub Coded : Type 0
+Coded = Result Call Refusal
+
 -- "Anything else [..] returns 10."
 abbrev pub no_call : Coded
-no_call = Refused unreadable
+no_call = Err Unreadable
 
 unfoldable pub when : Bool → Call → Coded
-when t call = cond t (Of call) no_call
+when t call = cond t (Ok call) no_call
 
 -- "Codes: 0 open (f as box), 1 block, 2 prepare on ACC (block as number, ACC as the one list field), 3 prepare on commits, 4 store, 5 view,
 -- 6 accumulate, 7 decide, 8 reboot, 9 reserve, 10 request, 11 reply, 12 recover."

@@ -4,39 +4,19 @@
 ghost use Rattle.std.specs.Prelude.{◌≡◌, [], get_or};
 ghost use Rattle.protocol.specs.Memory.{memory, view_at, proposed_block_at};
 ghost use Rattle.codes.specs.Codes.{is_plain, is_short as is_short_rule, claimed_word, when, coded_call as coded_call_rule};
-ghost use Rattle.codes.specs.inner.Refusals.{code_refusal};
 
 use certificate_log::{PROPOSED_BLOCK_AT, VIEW_AT};
-use protocol::{ACCEPTED, Call, Justification, UNREADABLE};
+use protocol::{Call, Justification, Refusal};
 use table::CERTIFICATE_COUNT_AT;
 
 // The most numbers that a list may have.
 const MAX_LIST: usize = 31;
 
-// The call of a code, or the refusal that a caller hands up.
-#[derive(Clone, Copy)]
-pub enum Coded {
-    Of(Call),
-    Refused(u32),
-}
-
-// The refusal that it holds, for a caller to hand up.
-impl Coded {
-    pub fn refusal(self) -> u32
-        ensures { result ≡ code_refusal self }
-    {
-        match self {
-            Coded::Of(_) => ACCEPTED,
-            Coded::Refused(number) => number,
-        }
-    }
-}
-
 // A call without a list, whose unused argument is 0.
 fn is_plain(unused: u32, list: &[u32]) -> bool
     ensures { result ≡ is_plain unused list.now }
 {
-    (unused == 0) & (list.len() == 0)
+    (unused == 0) & (list.is_empty())
 }
 
 // A call with a list, whose unused argument is 0.
@@ -46,13 +26,14 @@ fn is_short(unused: u32, list: &[u32]) -> bool
     (unused == 0) & (list.len() <= MAX_LIST)
 }
 
-fn coded_when(test: bool, call: Call) -> Coded
+#[tactic(auto, unfolding(crate::specs::Codes::when))]
+fn coded_when(test: bool, call: Call) -> Result<Call, Refusal>
     ensures { result ≡ when test call }
 {
     if test {
-        Coded::Of(call)
+        Ok(call)
     } else {
-        Coded::Refused(UNREADABLE)
+        Err(Refusal::Unreadable)
     }
 }
 
@@ -63,36 +44,33 @@ struct Claim {
     block: u32,
 }
 
-// A word of the log, 0 past its end.
-fn word_at(log: &[u32], index: usize) -> u32
-    ensures { result ≡ get_or log.now index 0 }
+// A word of a slice, 0 past its end.
+fn word_at(words: &[u32], index: usize) -> u32
+    ensures { result ≡ get_or words.now index 0 }
 {
-    if log.len() <= index {
-        return 0;
-    }
-    log[index]
+    *words.get(index).unwrap_or(&0)
 }
 
 // Those of the list's first certificate, each where the certificate is issued and the word is there; else 0.
 fn claimed(table: &[u32], log: &[u32], list: &[u32]) -> Claim
-    ensures { (result.view ≡ claimed_word (memory table.now log.now []) list.now view_at)
-        × (result.block ≡ claimed_word (memory table.now log.now []) list.now proposed_block_at) }
+    ensures view { result.view ≡ claimed_word (memory table.now log.now []) list.now view_at }
+    ensures block { result.block ≡ claimed_word (memory table.now log.now []) list.now proposed_block_at }
 {
     let none = Claim { view: 0, block: 0 };
-    if list.len() == 0 {
+    let Some(&number) = list.first() else {
         return none;
-    }
-    if table.len() <= CERTIFICATE_COUNT_AT {
+    };
+    let Some(&count) = table.get(CERTIFICATE_COUNT_AT) else {
         return none;
-    }
-    let number = list[0];
-    if table[CERTIFICATE_COUNT_AT] <= number {
+    };
+    if count <= number {
         return none;
     }
     let start = certificate_log::certificate_at(number);
-    let view = word_at(log, start + VIEW_AT);
-    let block = word_at(log, start + PROPOSED_BLOCK_AT);
-    Claim { view, block }
+    Claim {
+        view: word_at(log, start + VIEW_AT),
+        block: word_at(log, start + PROPOSED_BLOCK_AT),
+    }
 }
 
 // The call of a code.
@@ -103,19 +81,16 @@ pub fn coded_call(
     replica: u32,
     number: u32,
     list: &[u32],
-) -> Coded
+) -> Result<Call, Refusal>
     ensures { result ≡ coded_call_rule (memory table.now log.now []) code replica number list.now }
 {
     match code {
         0 => coded_when(is_short(number, list), Call::Open(replica)),
         1 => coded_when(is_plain(replica, list), Call::Block(number)),
-        2 => {
-            if list.len() == 1 {
-                Coded::Of(Call::Prepare(replica, number, Justification::Acc(list[0])))
-            } else {
-                Coded::Refused(UNREADABLE)
-            }
-        }
+        2 => coded_when(
+            list.len() == 1,
+            Call::Prepare(replica, number, Justification::Acc(word_at(list, 0))),
+        ),
         3 => {
             let c = claimed(table, log, list);
             coded_when(
@@ -132,6 +107,6 @@ pub fn coded_call(
         10 => coded_when(is_plain(number, list), Call::Request(replica)),
         11 => coded_when(is_plain(0, list), Call::Reply(replica, number)),
         12 => coded_when(is_short(number, list), Call::Recover(replica)),
-        _ => Coded::Refused(UNREADABLE),
+        _ => Err(Refusal::Unreadable),
     }
 }

@@ -4,7 +4,9 @@ use mathlib.Core.Path.{◌≡◌, refl, sym, ap, ◌∙◌}
 use mathlib.Core.Bool.{false}
 use mathlib.Core.List.{List, []}
 use native.Mathlib.Omega.{arith}
-use Rattle.protocol.specs.declared.Answer.{Answer}
+use Rattle.std.specs.Prelude.{Result, Ok, Err, IsErr, IsErrAnd}
+use Rattle.protocol.specs.declared.Values.{Values}
+use Rattle.protocol.specs.declared.Refusal.{Refusal}
 use Rattle.protocol.specs.declared.Call.{Call}
 use Rattle.protocol.specs.Memory.{Memory, memory}
 use Rattle.protocol.specs.Form.{well_formed}
@@ -12,39 +14,37 @@ use Rattle.protocol.specs.Outcome.{Outcome, outcome, refusal, wrong_form, unread
 use Rattle.protocol.specs.Runs.{step}
 use Rattle.protocol.proofs.calls.Needs.{refuses}
 use Rattle.protocol.proofs.calls.Rules.{no_form}
-use Rattle.codes.specs.declared.Coded.{Coded}
-use Rattle.codes.specs.declared.Coded.TheVariants.{Of, Refused}
-use Rattle.codes.specs.Codes.{no_call, coded_call}
-use Rattle.codes.specs.inner.Refusals.{code_refusal}
+use Rattle.codes.specs.Codes.{Coded, no_call, coded_call}
+use Rattle.checks.proofs.Passing.{handed_up}
 use Rattle.codes.proofs.Aside.{coded_aside}
 use Rattle.codes.proofs.Readable.{unreadable_anywhere, refused_unreadable, no_opening}
 use Rattle.ledger.specs.Called.{MakeCall, called_by, called}
 
-module _ (t l b : List ℕ) (code replica number : ℕ) (list : List ℕ) (r : Coded)
-    (e : r ≡ coded_call (memory t l []) code replica number list) where
-  pub not_called : {refusal n : ℕ} {a : Answer} → r ≡ Refused refusal → n ≡ code_refusal r → a ≡ record { number = n; first = 0; second = 0 }
-      → outcome a t l b ≡ called (memory t l b) code replica number list
+module _ (t l b : List ℕ) (code replica number : ℕ) (list : List ℕ) where
+  pub not_called : (a : Result Values Refusal) (e : Refusal) → Err e ≡ coded_call (memory t l []) code replica number list
+      → IsErr a × IsErrAnd a (λ r. r ≡ e) → outcome a t l b ≡ called (memory t l b) code replica number list
   unfolding called called_by
-  not_called u x y =
-      rw (y, x, u) (ap (λ (c : Coded). called_by c (memory t l b) list) (sym u ∙ e ∙ coded_aside t l b code replica number list))
+  not_called a e is up =
+      rw (handed_up a e up)
+      (ap (λ (c : Coded). called_by c (memory t l b) list) (is ∙ coded_aside t l b code replica number list))
 
-  pub is_called : {call : Call} {o : Outcome} → r ≡ Of call → o ≡ step (memory t l b) call list
-      → o ≡ called (memory t l b) code replica number list
+  pub is_called : {call : Call} {o : Outcome} → Ok call ≡ coded_call (memory t l []) code replica number list
+      → o ≡ step (memory t l b) call list → o ≡ called (memory t l b) code replica number list
   unfolding called called_by
-  is_called {call} u s =
-      s ∙ ap (λ (x : Coded). called_by x (memory t l b) list) (sym u ∙ e ∙ coded_aside t l b code replica number list)
+  is_called is steps =
+      steps ∙ ap (λ (c : Coded). called_by c (memory t l b) list) (is ∙ coded_aside t l b code replica number list)
 
 -- What holds where there is no call, and of each call that there may be, holds of a call by its code.
 pub by_call : (P : Outcome → Type 0) (m : Memory) (code replica number : ℕ) (list : List ℕ)
     → (coded_call m code replica number list ≡ no_call → P (refusal unreadable m))
-    → ((call : Call) → coded_call m code replica number list ≡ Of call → P (step m call list))
+    → ((call : Call) → coded_call m code replica number list ≡ Ok call → P (step m call list))
     → P (called m code replica number list)
 unfolding called called_by
 by_call P m code replica number list none some = go (coded_call m code replica number list) refl
   where
     go : (c : Coded) → coded_call m code replica number list ≡ c → P (called_by c m list)
-    go (Of call) e = some call e
-    go (Refused n) e = let u = refused_unreadable replica number list m code e in rw u (none (rw u at e))
+    go (Ok call) e = some call e
+    go (Err r) e = let u = refused_unreadable replica number list m code e in rw u (none (rw u at e))
 
 -- A call other than an opening, on memory of wrong form.
 pub called_formless : (m m' : Memory) (code replica number : ℕ) (list : List ℕ) → well_formed m ≡ false → (code ≡ 0 → ⊥)

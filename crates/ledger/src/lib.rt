@@ -7,8 +7,6 @@ ghost use Rattle.protocol.specs.Outcome.{outcome};
 ghost use Rattle.protocol.specs.Runs.{step};
 ghost use Rattle.ledger.specs.Called.{called};
 
-use checks::refused;
-use codes::Coded;
 use protocol::{Answer, Call};
 
 // One of the twelve calls, with the list beside it.
@@ -59,9 +57,6 @@ pub fn call_by_code(
     ensures { outcome result table.new log.new blocks.new
         ≡ called (memory table.old log.old blocks.old) code replica number list.now }
 {
-    let coded = codes::coded_call(table, log, code, replica, number, list);
-    let Coded::Of(call) = coded else {
-        return refused(coded.refusal());
-    };
+    let call = codes::coded_call(table, log, code, replica, number, list)?;
     invoke(table, log, blocks, call, list)
 }

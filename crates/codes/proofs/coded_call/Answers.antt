@@ -1,7 +1,5 @@
 -- One case for each code. A prepare on commits claims the view and the block of its list's first certificate.
-use mathlib.Core.Path.{refl}
-use borrow.Author.Tests.{eq-eqb, ne_eqb}
-use Rattle.codes.specs.Codes.{when, code_table}
+use Rattle.codes.specs.Codes.{code_table}
 use Rattle.codes.proofs.Commits.{unknown_code}
 use borrow.Author.Rules.{rules}
 use Rattle.codes.proofs.coded_call.Goals as goal
@@ -14,19 +12,15 @@ pub returns-in-1 : goal.returns-in-1
 unfolding code_table
 returns-in-1 c = rw c.in-1.is (rw c.is_plain.ensures at c.coded_when-in-1.ensures)
 
-pub returns-then-list-eq1 : goal.returns-then-list-eq1
-unfolding code_table when
-returns-then-list-eq1 c = rw c.in-2.is (let e = eq-eqb _ _ c.if-list-eq1.true in rw e refl)
-
-pub returns-else-list-eq1 : goal.returns-else-list-eq1
-unfolding code_table when
-returns-else-list-eq1 c = rw c.in-2.is (let e = ne_eqb _ _ c.if-list-eq1.false in rw e refl)
+pub returns-in-2 : goal.returns-in-2
+unfolding code_table
+returns-in-2 c = rw c.in-2.is (rw c.word_at.ensures at c.coded_when-in-2.ensures)
 
 pub returns-in-3 : goal.returns-in-3
 unfolding code_table
 returns-in-3 c =
     rw c.in-3.is
-    (rw (c.is_short-in-3.ensures, c.claimed-c.ensures.0, c.claimed-c.ensures.1) at c.coded_when-in-3.ensures)
+    (rw (c.is_short-in-3.ensures, c.claimed-c.ensures.view, c.claimed-c.ensures.block) at c.coded_when-in-3.ensures)
 
 pub returns-in-4 : goal.returns-in-4
 unfolding code_table

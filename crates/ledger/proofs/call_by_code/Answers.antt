@@ -2,12 +2,8 @@
 use Rattle.ledger.proofs.Calling.{not_called, is_called}
 use Rattle.ledger.proofs.call_by_code.Goals as goal
 
-pub returns-in_default : goal.returns-in_default
-returns-in_default c =
-    not_called _ _ _ _ _ _ _ _ c.coded_call-coded.ensures c.in_default.is c.refusal.ensures
-    c.refused.ensures
+pub returns-in_err-call : goal.returns-in_err-call
+returns-in_err-call c = not_called _ _ _ _ _ _ _ _ _ c.in_err-call.ensures c.from_residual.ensures
 
 pub returns : goal.returns
-returns c =
-    is_called _ _ _ _ _ _ _ _ c.coded_call-coded.ensures
-    c.in-Of.is c.invoke.ensures
+returns c = is_called _ _ _ _ _ _ _ c.in_ok-call.ensures c.invoke.ensures

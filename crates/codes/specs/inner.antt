@@ -1,2 +1,0 @@
--- What the contracts of inner functions cite: nothing to believe.
-pub mod Refusals

@@ -76,13 +76,7 @@ fn replicas_formed(table: &[u32], replicas: u32, added: u32) -> bool
     requires { row_at_rule replicas ≤ length table.now }
     ensures { result ≡ all_below replicas (replica_ok table.now added) }
 {
-    let mut formed = true;
-    let mut replica: u32 = 0;
-    while replica < replicas {
-        formed = formed & replica_formed(table, replica, added);
-        replica += 1;
-    }
-    formed
+    (0..replicas).all(|replica| replica_formed(table, replica, added))
 }
 
 // The words, where f, lengths and counts are right.

@@ -25,7 +25,7 @@ use table::{
 pub fn is_fault_bound(f: u32) -> bool
     ensures { result ≡ is_fault_bound_rule f }
 {
-    (1 <= f) & (f <= MAX_FAULT_BOUND)
+    (1..=MAX_FAULT_BOUND).contains(&f)
 }
 
 // The three lengths are those of a ledger for f.
@@ -103,9 +103,6 @@ pub fn is_well_formed(table: &[u32], log: &[u32], blocks: &[u32]) -> bool
     if !is_fault_bound(f) {
         return false;
     }
-    if lengths_fit(table, log, blocks, f) & counts_fit(table, log, blocks) {
-        words_formed(table, log, blocks)
-    } else {
-        false
-    }
+    (lengths_fit(table, log, blocks, f) & counts_fit(table, log, blocks))
+        && words_formed(table, log, blocks)
 }

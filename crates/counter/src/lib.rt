@@ -48,17 +48,24 @@ pub fn steps_allowed(list: &[u32]) -> bool
     list.is_empty() || (list.len() == STEP_COUNT && steps_formed(list, 0))
 }
 
+// The steps that a ledger is opened with, given this list.
+fn opening_steps(list: &[u32]) -> &[u32]
+    ensures { result.now ≡ steps_from list.now }
+{
+    if list.is_empty() {
+        &DEFAULT_STEPS
+    } else {
+        list
+    }
+}
+
 // Writes the steps that a ledger is opened with, and gives the first.
 pub fn open_steps(table: &mut [u32], list: &[u32]) -> u32
     requires { (row_start ≤ length table.old) × (steps_allowed_rule list.now ≡ true) }
     ensures { (table.new ≡ sets table.old (step_at 0) (steps_from list.now))
         × (result ≡ get_or (steps_from list.now) 0 0) }
 {
-    let steps = if list.is_empty() {
-        &DEFAULT_STEPS
-    } else {
-        list
-    };
+    let steps = opening_steps(list);
     table[STEPS_AT..ROW_START].copy_from_slice(steps);
     steps[0]
 }

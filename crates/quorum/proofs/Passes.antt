@@ -3,7 +3,6 @@ use Prim.Native.Nat.{ℕ, ◌+◌, ◌^◌, ◌≤◌, ◌<◌}
 use mathlib.Core.Path.{◌≡◌, refl, sym, ap, ◌∙◌}
 use mathlib.Core.Bool.{Bool, true, false, cond, not, ◌&&◌, ◌||◌, and_assoc, and-true, and-false}
 use mathlib.Core.List.{List, [], ◌∷◌}
-use native.Mathlib.Omega.{arith}
 use native.Mathlib.Numerals.{add-one}
 use lib.Bits.{bit_or}
 use lib.ListN.{length, get_or, drop, drop_of_length-le}
@@ -98,14 +97,6 @@ pub record Best (log list : List ℕ) (i best view : ℕ) : Type 0 where
   pub rest : greatest_from (certificate_in log (get_or list best 0)) (certificates_in log (drop i list)) ≡ greatest (certificates_in log list)
 
 module _ (log list : List ℕ) where
-  pub best_start : (view : ℕ) → 0 < length list → view ≡ (certificate_in log (get_or list 0 0)).of_view → Best log list 0 0 view
-  best_start view h e = record { within = h; view_is = e; rest = start list h }
-    where
-      start : (xs : List ℕ) → 0 < length xs
-          → greatest_from (certificate_in log (get_or xs 0 0)) (certificates_in log (drop 0 xs)) ≡ greatest (certificates_in log xs)
-      start [] h = absurd (omega arith)
-      start (x ∷ xs) h = refl
-
   module _ (i best view : ℕ) (b : Best log list i best view) where
     step : i < length list → (t : Bool)
         → ltb (certificate_in log (get_or list best 0)).of_view (certificate_in log (get_or list i 0)).of_view ≡ t

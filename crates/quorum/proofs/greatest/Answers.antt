@@ -1,9 +1,6 @@
-use Rattle.quorum.proofs.Passes.{best_start, best_taken, best_kept, best_end}
+use Rattle.quorum.proofs.Passes.{best_taken, best_kept, best_end}
 use Rattle.quorum.proofs.greatest.Goals as goal
 use Rattle.quorum.proofs.greatest.Goals.{then-best_view-of_view, else-best_view-of_view}
-
-pub loop-i-init : goal.loop-i-init
-loop-i-init c = best_start _ _ _ c.requires.1 c.certificate_word-best_view.ensures
 
 pub loop-i-preserved : goal.loop-i-preserved
 loop-i-preserved c =

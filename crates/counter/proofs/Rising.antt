@@ -33,7 +33,11 @@ module _ (list : List ℕ) (eight : length list ≡ step_count) where
       (λ e.
       let both = and-true (leb 1 (step 0)) (leb (step last_step) max_step) e in
       all-hold _ (
-        all-below _ _ (λ k l. let low = order 0 k 0 (omega arith) (omega arith) in let high = order k last_step 0 (omega arith) (omega arith) in all-hold _ (omega tests)),
+        all-below _ _
+            (λ k l.
+            let low = order 0 k 0 (omega arith) (omega arith) in
+            let high = order k last_step 0 (omega arith) (omega arith) in
+            all-hold _ (omega tests)),
         (all-below _ _ (λ k l. let o = order k (suc k) 0 (omega arith) (omega arith) in omega tests), tt),
       ))
       (λ e. let low = range e 0 (omega arith) in let high = range e last_step (omega arith) in true_and low.0 high.1)

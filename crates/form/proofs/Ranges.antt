@@ -19,7 +19,8 @@ module _ (test : ℕ → Bool) where
 
   all_numbers : (a n : ℕ) → ((i : ℕ) → a ≤ i → i < a + n → test i ≡ true) → list_all test (range_with_len a n) ≡ true
   all_numbers a zero h = refl
-  all_numbers a (suc n) h = true_and (h a (omega arith) (omega arith)) (all_numbers (a + 1) n (λ i low high. h i (omega arith) (omega arith)))
+  all_numbers a (suc n) h =
+      true_and (h a (omega arith) (omega arith)) (all_numbers (a + 1) n (λ i low high. h i (omega arith) (omega arith)))
 
   pub numbers_below : (n : ℕ) → list_all test (range_with_len 0 n) ≡ all_below n test
   numbers_below n =

@@ -13,6 +13,7 @@ pub returns : goal.returns
 returns c =
     let start = c.args.start in
     let words = c.args.words.now in
-    let eight : length (take (start + step_count - start) (drop start words)) ≡ step_count = omega (arith, c.requires, length-take {A = ℕ}, length-drop {A = ℕ}) in
+    let eight : length (take (start + step_count - start) (drop start words)) ≡ step_count =
+    omega (arith, c.requires, length-take {A = ℕ}, length-drop {A = ℕ}) in
     sorted_formed _ eight _ c.is_sorted.ensures.cases
     ∙ steps_same _ _ (λ k l. get_or-take (start + step_count - start) (drop start words) k 0 (omega arith) ∙ get_or-drop start words k 0)

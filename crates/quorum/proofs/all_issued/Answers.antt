@@ -8,5 +8,6 @@ use Rattle.quorum.proofs.all_issued.Goals as goal
 
 pub returns : goal.returns
 returns c =
-    all_from_yields_List (λ x. ltb x c.args.count) _ _ _ c.all.ensures.ran (YieldsList-from_slice c.args.list.now cc) (λ x b q k. search rules)
+    all_from_yields_List (λ x. ltb x c.args.count) _ _ _ c.all.ensures.ran (YieldsList-from_slice c.args.list.now cc)
+    (λ x b q k. search rules)
     ∙ every_is_all (λ x. ltb x c.args.count) c.args.list.now

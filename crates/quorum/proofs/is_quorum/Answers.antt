@@ -10,7 +10,8 @@ loop-number-preserved g c =
     λ test h.
     let l = c.loop-number in
     let a = c.args in
-    rw (h c.certificate_in-c.result c.wanted.result c.wanted.ensures, c.is_seen.ensures, c.with_signer-seen.ensures, c.certificate_in-c.ensures)
+    let same = h c.certificate_in-c.result c.wanted.result c.wanted.ensures in
+    rw (same, c.is_seen.ensures, c.with_signer-seen.ensures, c.certificate_in-c.ensures)
     (passes_step test a.log.now a.list.now l.number-index l.seen l.ok c.loop-number-test.true)
     ∙ l.invariant test h
 

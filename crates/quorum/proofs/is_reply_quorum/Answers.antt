@@ -13,6 +13,7 @@ returns c =
     let a = c.args in
     c.is_quorum.ensures (is_reply_to a.replica a.boot a.view)
     (λ x r p.
-    let read : r ≡ ((((eqb x.kind REPLY && eqb x.subject a.replica) && eqb x.subject_boot a.boot) && eqb x.view a.view) && not (eqb x.signer a.replica)) =
+    let read : r
+    ≡ ((((eqb x.kind REPLY && eqb x.subject a.replica) && eqb x.subject_boot a.boot) && eqb x.view a.view) && not (eqb x.signer a.replica)) =
     search rules in
     read ∙ joined_all _ (_ ∷ _ ∷ _ ∷ _ ∷ []))

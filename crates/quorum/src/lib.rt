@@ -49,7 +49,7 @@ fn is_quorum<W: Fn(Certificate) -> bool>(log: &[u32], list: &[u32], wanted: W) -
     ok
 }
 
-// The log and the list stay two parameters: each caller has them apart and asks once or twice, and clauses over a struct of both are longer.
+// The log and the list stay two parameters: each caller has them apart and asks once or twice, and clauses over a struct of both grow.
 pub fn is_commit_quorum(log: &[u32], list: &[u32], view: u32, block: u32) -> bool
     requires { Listed log.now list.now }
     ensures { result ≡ is_commit_quorum_rule view block (certificates_in log.now list.now) }

@@ -11,9 +11,10 @@ use Rattle.quorum.proofs.is_reply_quorum.Goals as goal
 pub returns : goal.returns
 returns c =
     let a = c.args in
-    c.is_quorum.ensures (is_reply_to a.replica a.boot a.view)
+    let replica = a.replica in
+    c.is_quorum.ensures (is_reply_to replica a.boot a.view)
     (λ x r p.
     let read : r
-    ≡ ((((eqb x.kind REPLY && eqb x.subject a.replica) && eqb x.subject_boot a.boot) && eqb x.view a.view) && not (eqb x.signer a.replica)) =
+    ≡ ((((eqb x.kind REPLY && eqb x.subject replica) && eqb x.subject_boot a.boot) && eqb x.view a.view) && not (eqb x.signer replica)) =
     search rules in
     read ∙ joined_all _ (_ ∷ _ ∷ _ ∷ _ ∷ []))

@@ -11,7 +11,7 @@ use lib.Dec.{eqb}
 use Rattle.protocol.specs.Memory.{Memory, step_count, last_step, kept_step}
 use Rattle.protocol.specs.Form.{all_hold, all_below, steps_formed}
 use Rattle.protocol.specs.Counter.{default_steps, steps_from, steps_allowed, counter_step}
-use Rattle.protocol.proofs.logic.Booleans.{tests, each}
+use Rattle.protocol.proofs.logic.Booleans.{tests}
 use Rattle.protocol.proofs.memory.Formed.{Formed, StepBounds, step_bounds, steps_same}
 use Rattle.counter.specs.inner.Rising.{step_in}
 use Rattle.protocol.proofs.logic.Joined.{joined_all}
@@ -50,10 +50,6 @@ module _ (list : List ℕ) where
   others_refused some other =
       let q : eqb (length list) step_count ≡ false = omega tests in
       rw (given_from list some, q) refl
-
-  pub allowed_eight : steps_allowed list ≡ true → (length list ≡ 0 → ⊥) → length list ≡ step_count
-  unfolding steps_allowed
-  allowed_eight e some = let h = each _ (rw (given_from list some) at e) in omega tests
 
 -- ---- the steps, written
 

@@ -8,7 +8,7 @@ ghost use Rattle.protocol.specs.Form.{max_step, steps_formed as steps_formed_rul
 ghost use Rattle.protocol.specs.Counter.{steps_from, steps_allowed as steps_allowed_rule, counter_step as counter_step_rule};
 ghost use Rattle.counter.specs.inner.Rising.{step_in};
 
-use table::{STEP_COUNT, STEPS_AT};
+use table::{ROW_START, STEP_COUNT, STEPS_AT};
 
 pub const MAX_STEP: u32 = 4096;
 
@@ -28,8 +28,7 @@ pub fn counter_step(table: &[u32], boot: u32) -> u32
     requires { row_start ≤ length table.now }
     ensures { (l b : List ℕ) → result ≡ counter_step_rule (memory table.now l b) boot }
 {
-    let step = if boot < LAST_STEP { boot } else { LAST_STEP };
-    table[STEPS_AT + (step as usize)]
+    table[STEPS_AT + boot.min(LAST_STEP) as usize]
 }
 
 // Eight steps, from an index on. As none is smaller than the one before, it is enough that the first is at least 1 and the last at most
@@ -38,40 +37,25 @@ pub fn steps_formed(words: &[u32], start: usize) -> bool
     requires { start + step_count ≤ length words.now }
     ensures { result ≡ steps_formed_rule (step_in words.now start) }
 {
-    let mut formed = true;
-    let mut least: u32 = 1;
-    let mut k: usize = 0;
-    while k < STEP_COUNT {
-        let step = words[start + k];
-        formed = formed & (least <= step);
-        least = step;
-        k += 1;
-    }
-    formed & (least <= MAX_STEP)
+    let steps = &words[start..start + STEP_COUNT];
+    steps.is_sorted() & (1 <= steps[0]) & (steps[STEP_COUNT - 1] <= MAX_STEP)
 }
 
 // Whether a ledger may be opened with this list: of no steps, or of eight that have their form.
 pub fn steps_allowed(list: &[u32]) -> bool
     ensures { result ≡ steps_allowed_rule list.now }
 {
-    if list.len() == 0 {
-        return true;
-    }
-    if list.len() == STEP_COUNT {
-        return steps_formed(list, 0);
-    }
-    false
+    list.is_empty() || (list.len() == STEP_COUNT && steps_formed(list, 0))
 }
 
-// Writes eight steps into the table.
-fn write_steps(table: &mut [u32], steps: &[u32])
-    requires { (row_start ≤ length table.old) × (length steps.now ≡ step_count) }
-    ensures { table.new ≡ sets table.old (step_at 0) steps.now }
+// The steps that a ledger is opened with, given this list.
+fn opening_steps(list: &[u32]) -> &[u32]
+    ensures { result.now ≡ steps_from list.now }
 {
-    let mut k: usize = 0;
-    while k < STEP_COUNT {
-        table[STEPS_AT + k] = steps[k];
-        k += 1;
+    if list.is_empty() {
+        &DEFAULT_STEPS
+    } else {
+        list
     }
 }
 
@@ -81,11 +65,7 @@ pub fn open_steps(table: &mut [u32], list: &[u32]) -> u32
     ensures { (table.new ≡ sets table.old (step_at 0) (steps_from list.now))
         × (result ≡ get_or (steps_from list.now) 0 0) }
 {
-    if list.len() == 0 {
-        let steps = DEFAULT_STEPS;
-        write_steps(table, &steps);
-        return steps[0];
-    }
-    write_steps(table, list);
-    list[0]
+    let steps = opening_steps(list);
+    table[STEPS_AT..ROW_START].copy_from_slice(steps);
+    steps[0]
 }

@@ -17,15 +17,15 @@ use blocks::{BLOCK_WORDS, MAX_BLOCKS};
 use certificate_log::{CERTIFICATE_WORDS, MAX_CERTIFICATES};
 use table::{
     BLOCK_COUNT_AT, BOOT_AT, CEILING, CERTIFICATE_COUNT_AT, DECIDED_BLOCK_AT, DECIDED_VIEW_AT,
-    FAULT_BOUND_AT, FLAG_AT, MAX_FAULT_BOUND, MIN_VIEW_AT, RAISED, RETIRED, ROW_START, STATUS_AT,
-    STEPS_AT, STORED_BLOCK_AT, STORED_VIEW_AT, VIEW_LIMIT_AT,
+    FAULT_BOUND_AT, FLAG_AT, Flag, MAX_FAULT_BOUND, MIN_VIEW_AT, ROW_START, STATUS_AT, STEPS_AT,
+    STORED_BLOCK_AT, STORED_VIEW_AT, Status, VIEW_LIMIT_AT,
 };
 
 // f is 1 to 30.
 pub fn is_fault_bound(f: u32) -> bool
     ensures { result ≡ is_fault_bound_rule f }
 {
-    (1 <= f) & (f <= MAX_FAULT_BOUND)
+    (1..=MAX_FAULT_BOUND).contains(&f)
 }
 
 // The three lengths are those of a ledger for f.
@@ -59,12 +59,12 @@ fn replica_formed(table: &[u32], replica: u32, added: u32) -> bool
     let row = table::row_at(replica);
     let min_view = table[row + MIN_VIEW_AT];
     let view_limit = table[row + VIEW_LIMIT_AT];
-    (table[row + STATUS_AT] <= RETIRED)
+    (table[row + STATUS_AT] <= Status::Retired.word())
         & (table[row + BOOT_AT] <= CEILING)
         & (1 <= min_view)
         & (min_view <= view_limit)
         & (view_limit <= CEILING)
-        & (table[row + FLAG_AT] <= RAISED)
+        & (table[row + FLAG_AT] <= Flag::Raised.word())
         & (table[row + STORED_VIEW_AT] < min_view)
         & (table[row + STORED_BLOCK_AT] < added)
         & (table[row + DECIDED_VIEW_AT] <= CEILING)
@@ -76,13 +76,7 @@ fn replicas_formed(table: &[u32], replicas: u32, added: u32) -> bool
     requires { row_at_rule replicas ≤ length table.now }
     ensures { result ≡ all_below replicas (replica_ok table.now added) }
 {
-    let mut formed = true;
-    let mut replica: u32 = 0;
-    while replica < replicas {
-        formed = formed & replica_formed(table, replica, added);
-        replica += 1;
-    }
-    formed
+    (0..replicas).all(|replica| replica_formed(table, replica, added))
 }
 
 // The words, where f, lengths and counts are right.
@@ -109,9 +103,6 @@ pub fn is_well_formed(table: &[u32], log: &[u32], blocks: &[u32]) -> bool
     if !is_fault_bound(f) {
         return false;
     }
-    if lengths_fit(table, log, blocks, f) & counts_fit(table, log, blocks) {
-        words_formed(table, log, blocks)
-    } else {
-        false
-    }
+    (lengths_fit(table, log, blocks, f) & counts_fit(table, log, blocks))
+        && words_formed(table, log, blocks)
 }

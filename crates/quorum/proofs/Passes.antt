@@ -3,12 +3,12 @@ use Prim.Native.Nat.{ℕ, ◌+◌, ◌^◌, ◌≤◌, ◌<◌}
 use mathlib.Core.Path.{◌≡◌, refl, sym, ap, ◌∙◌}
 use mathlib.Core.Bool.{Bool, true, false, cond, not, ◌&&◌, ◌||◌, and_assoc, and-true, and-false}
 use mathlib.Core.List.{List, [], ◌∷◌}
-use native.Mathlib.Omega.{arith}
 use native.Mathlib.Numerals.{add-one}
 use lib.Bits.{bit_or}
 use lib.ListN.{length, get_or, drop, drop_of_length-le}
 use lib.Seq.{drop-cons}
 use lib.Dec.{ltb, eqb}
+use Rattle.std.specs.List.{list_all}
 use Rattle.protocol.specs.Memory.{Certificate}
 use Rattle.protocol.specs.Form.{all_hold}
 use Rattle.protocol.specs.Quorum.{every, contains, distinct, signers, greatest_from, greatest, is_quorum}
@@ -19,14 +19,10 @@ use Rattle.quorum.proofs.Bits.{holds_none, holds_with}
 
 -- ---- a test of every item
 
-pub every_step : (test : ℕ → Bool) (list : List ℕ) (i : ℕ) (ok : Bool) → i < length list
-    → ((ok && test (get_or list i 0)) && every test (drop (i + 1) list)) ≡ (ok && every test (drop i list))
+pub every_is_all : (test : ℕ → Bool) (list : List ℕ) → list_all test list ≡ every test list
 unfolding every
-every_step test list i ok h = rw (add-one i, drop-cons list i 0) (and_assoc ok _ _)
-
-pub every_end : (test : ℕ → Bool) (list : List ℕ) (i : ℕ) (ok : Bool) → length list ≤ i → (ok && every test (drop i list)) ≡ ok
-unfolding every
-every_end test list i ok h = rw (drop_of_length-le list h, and-true ok) refl
+every_is_all test [] = refl
+every_is_all test (x ∷ xs) = rw (every_is_all test xs) refl
 
 every_true : (test : ℕ → Bool) (xs : List ℕ) → ((x : ℕ) → test x ≡ true) → every test xs ≡ true
 unfolding every
@@ -100,22 +96,7 @@ pub record Best (log list : List ℕ) (i best view : ℕ) : Type 0 where
   pub view_is : view ≡ (certificate_in log (get_or list best 0)).of_view
   pub rest : greatest_from (certificate_in log (get_or list best 0)) (certificates_in log (drop i list)) ≡ greatest (certificates_in log list)
 
-either : (t : Bool) (c : Certificate) → cond t c c ≡ c
-either true c = refl
-either false c = refl
-
 module _ (log list : List ℕ) where
-  pub best_start : (view : ℕ) → 0 < length list → view ≡ (certificate_in log (get_or list 0 0)).of_view → Best log list 1 0 view
-  unfolding greatest_from
-  best_start view h e = record { within = h; view_is = e; rest = start list h }
-    where
-      start : (xs : List ℕ) → 0 < length xs
-          → greatest_from (certificate_in log (get_or xs 0 0)) (certificates_in log (drop 1 xs)) ≡ greatest (certificates_in log xs)
-      start [] h = absurd (omega arith)
-      start (x ∷ xs) h =
-          let c : Certificate = certificate_in log x in
-          ap (λ (d : Certificate). greatest_from d (certificates_in log xs)) (sym (either (ltb c.of_view c.of_view) c))
-
   module _ (i best view : ℕ) (b : Best log list i best view) where
     step : i < length list → (t : Bool)
         → ltb (certificate_in log (get_or list best 0)).of_view (certificate_in log (get_or list i 0)).of_view ≡ t

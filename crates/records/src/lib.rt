@@ -1,7 +1,7 @@
 // Replicas read whole, as records, so that each word is read once; and words of a replica set together.
 #![tactic(auto)]
 
-ghost use Rattle.std.specs.Prelude.{◌≡◌, [], ◌+◌, ◌≤◌, length};
+ghost use Rattle.std.specs.Prelude.{◌≡◌, [], ◌+◌, ◌≤◌, eqb, length};
 ghost use Rattle.protocol.specs.Memory.{
   memory,
   row_at,
@@ -9,9 +9,10 @@ ghost use Rattle.protocol.specs.Memory.{
   replica as replica_at,
   assign,
 };
+ghost use Rattle.table.specs.inner.Words.{status_word, flag_word};
 ghost use Rattle.records.specs.inner.Replicas.{replica_from, assignments, Settable};
 
-use table::{replica_word, set_replica_word};
+use table::{Flag, Status, replica_word, set_replica_word};
 
 #[derive(Clone, Copy)]
 pub struct Replica {
@@ -24,6 +25,20 @@ pub struct Replica {
     pub stored_block: u32,
     pub decided_view: u32,
     pub decided_block: u32,
+}
+
+impl Replica {
+    pub fn is(self, status: Status) -> bool
+        ensures { result ≡ eqb self.status (status_word status) }
+    {
+        self.status == status.word()
+    }
+
+    pub fn has(self, flag: Flag) -> bool
+        ensures { result ≡ eqb self.flag (flag_word flag) }
+    {
+        self.flag == flag.word()
+    }
 }
 
 pub fn replica_in(table: &[u32], replica: u32) -> Replica

@@ -27,12 +27,8 @@ ghost use Rattle.protocol.specs.Memory.{
   stored_block_at,
   decided_view_at,
   decided_block_at,
-  live,
-  recovering,
-  retired,
-  lowered,
-  raised,
 };
+ghost use Rattle.table.specs.inner.Words.{status_word, flag_word};
 
 pub const MAX_FAULT_BOUND: u32 = 30;
 
@@ -78,17 +74,46 @@ pub const DECIDED_VIEW_AT: usize = 7;
 
 pub const DECIDED_BLOCK_AT: usize = 8;
 
-// A replica's status.
-pub const LIVE: u32 = 0;
+#[derive(Clone, Copy, PartialEq, Eq)]
+pub enum Status {
+    Live = 0,
+    Recovering = 1,
+    Retired = 2,
+}
 
-pub const RECOVERING: u32 = 1;
+impl Status {
+    // The word of a row that says it.
+    pub fn word(self) -> u32
+        ensures { result ≡ status_word self }
+    {
+        self as u32
+    }
+}
 
-pub const RETIRED: u32 = 2;
+#[derive(Clone, Copy, PartialEq, Eq)]
+pub enum Flag {
+    Lowered = 0,
+    Raised = 1,
+}
 
-// A replica's flag.
-pub const LOWERED: u32 = 0;
+impl Flag {
+    // The word of a row that says it.
+    pub fn word(self) -> u32
+        ensures { result ≡ flag_word self }
+    {
+        self as u32
+    }
+}
 
-pub const RAISED: u32 = 1;
+pub const LIVE: u32 = Status::Live as u32;
+
+pub const RECOVERING: u32 = Status::Recovering as u32;
+
+pub const RETIRED: u32 = Status::Retired as u32;
+
+pub const LOWERED: u32 = Flag::Lowered as u32;
+
+pub const RAISED: u32 = Flag::Raised as u32;
 
 // The numbers are those of the definitions: nothing calls these functions.
 pub fn limits() -> [u32; 2]
@@ -136,12 +161,6 @@ pub fn row_offsets() -> [usize; REPLICA_WORDS]
         DECIDED_VIEW_AT,
         DECIDED_BLOCK_AT,
     ]
-}
-
-pub fn statuses_and_flags() -> [u32; 5]
-    ensures { result ≡ live ∷ recovering ∷ retired ∷ lowered ∷ raised ∷ [] }
-{
-    [LIVE, RECOVERING, RETIRED, LOWERED, RAISED]
 }
 
 // The number of replicas.

@@ -1,13 +1,28 @@
--- Document 01's steps are written where there is no list, else those of the list.
-use mathlib.Core.Path.{refl}
-use Rattle.counter.proofs.Steps.{default_from, given_from, allowed_eight}
+-- The steps that are copied are eight, as the list is allowed.
+use mathlib.Core.Path.{ap, refl, ◌∙◌}
+use Prim.Native.Nat.{ℕ}
+use lib.ListN.{length, length-take, length-drop}
+use Rattle.std.proofs.lemmas.Slice.{put_mid-paste}
+use Rattle.protocol.specs.Memory.{step_count, steps_at}
+use Rattle.protocol.specs.Counter.{steps_from, steps_allowed}
+use Rattle.protocol.proofs.logic.Booleans.{tests, each}
+use Rattle.counter.proofs.Steps.{all_copied}
 use Rattle.counter.proofs.open_steps.Goals as goal
 
-pub returns-then-list-eq0 : goal.returns-then-list-eq0
-returns-then-list-eq0 c = rw (default_from _ c.if-list-eq0.true) (c.write_steps.ensures, refl)
-
-pub write_steps-requires-2 : goal.write_steps-requires-2
-write_steps-requires-2 c = (c.requires.0, allowed_eight _ c.requires.1 c.if-list-eq0.false)
+pub copy_from_slice-requires : goal.copy_from_slice-requires
+unfolding steps_allowed
+copy_from_slice-requires c =
+    let eight = each _ c.requires.1 in
+    let long = ap length c.opening_steps-steps.ensures in
+    omega (tests, length-take {A = ℕ}, length-drop {A = ℕ})
 
 pub returns : goal.returns
-returns c = rw (given_from _ c.if-list-eq0.false) (c.write_steps-2.ensures, refl)
+unfolding steps_allowed
+returns c =
+    let eight = each _ c.requires.1 in
+    let steps = steps_from c.args.list.now in (
+      put_mid-paste steps_at step_count c.args.table.now c.copy_from_slice.new.self steps (length steps)
+          (c.copy_from_slice.ensures.after ∙ c.opening_steps-steps.ensures) (omega tests) refl
+          ∙ all_copied c.args.table.now steps steps_at (omega (tests, c.requires)),
+      rw c.opening_steps-steps.ensures refl,
+    )

@@ -1,24 +1,19 @@
-use mathlib.Core.Path.{◌≡◌, refl}
-use native.Mathlib.Numerals.{add-one}
+-- The list that is tested is the eight steps from the index on.
+use Prim.Native.Nat.{ℕ, ◌+◌, ◌-◌}
+use mathlib.Core.Path.{◌≡◌, ◌∙◌}
 use native.Mathlib.Omega.{arith}
-use borrow.Author.Rules.{rules}
+use lib.ListN.{length, length-take, length-drop, take, drop}
+use Rattle.std.proofs.lemmas.List.{get_or-take, get_or-drop}
 use Rattle.protocol.specs.Memory.{step_count}
-use Rattle.counter.specs.inner.Rising.{steps_rise}
-use Rattle.counter.proofs.Rising.{rising_formed}
+use Rattle.protocol.proofs.memory.Formed.{steps_same}
+use Rattle.counter.proofs.Rising.{sorted_formed}
 use Rattle.counter.proofs.steps_formed.Goals as goal
-
-pub loop-k-init : goal.loop-k-init
-unfolding steps_rise
-loop-k-init c = (omega arith, (refl, refl))
-
-pub loop-k-preserved : goal.loop-k-preserved
-unfolding steps_rise
-loop-k-preserved c =
-    let inv = c.loop-k.invariant in
-    (search rules, (rw add-one refl, rw (add-one, inv.1.0, inv.1.1) refl))
 
 pub returns : goal.returns
 returns c =
-    let inv = c.loop-k.invariant in
-    let all : c.loop-k.k ≡ step_count = omega arith in
-    rw (inv.1.0, inv.1.1, all) (rising_formed _)
+    let start = c.args.start in
+    let words = c.args.words.now in
+    let eight : length (take (start + step_count - start) (drop start words)) ≡ step_count =
+    omega (arith, c.requires, length-take {A = ℕ}, length-drop {A = ℕ}) in
+    sorted_formed _ eight _ c.is_sorted.ensures.cases
+    ∙ steps_same _ _ (λ k l. get_or-take (start + step_count - start) (drop start words) k 0 (omega arith) ∙ get_or-drop start words k 0)

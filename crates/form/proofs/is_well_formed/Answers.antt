@@ -25,4 +25,6 @@ returns-then-lengths_fit-counts_fit c =
     (rw (c.lengths_fit.ensures, c.counts_fit.ensures) at c.if-lengths_fit-counts_fit.true)
 
 pub returns-else-lengths_fit-counts_fit : goal.returns-else-lengths_fit-counts_fit
-returns-else-lengths_fit-counts_fit c = no_sizes _ (rw (c.lengths_fit.ensures, c.counts_fit.ensures) at c.if-lengths_fit-counts_fit.false)
+returns-else-lengths_fit-counts_fit c =
+    c.if-lengths_fit-counts_fit.false
+    ∙ no_sizes _ (rw (c.lengths_fit.ensures, c.counts_fit.ensures) at c.if-lengths_fit-counts_fit.false)

@@ -4,4 +4,4 @@ use Rattle.form.proofs.replica_formed.Goals as goal
 
 pub returns : goal.returns
 unfolding replica_formed
-returns c = rw c.row_at-row.ensures (replica_order _ _ _ _ _ _ _ _ _ _)
+returns c = rw (c.row_at-row.ensures, c.word.ensures, c.word-2.ensures) (replica_order _ _ _ _ _ _ _ _ _ _)

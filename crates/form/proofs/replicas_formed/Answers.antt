@@ -1,11 +1,15 @@
+use mathlib.Core.Path.{refl, ◌∙◌}
+use native.Mathlib.Omega.{arith}
 use borrow.Author.Rules.{rules}
-use Rattle.protocol.specs.Form.{all_below}
-use Rattle.protocol.proofs.logic.Below.{one_more}
+use Rattle.std.proofs.lemmas.Iterator.{YieldsList-from_range}
+use Rattle.std.proofs.lemmas.Iterator.Search.{all_from_yields_List}
+use Rattle.form.specs.inner.Parts.{replica_ok}
+use Rattle.form.proofs.Ranges.{numbers_below}
 use Rattle.form.proofs.replicas_formed.Goals as goal
 
-pub loop-replica-init : goal.loop-replica-init
-unfolding all_below
-loop-replica-init c = search rules
-
-pub loop-replica-preserved : goal.loop-replica-preserved
-loop-replica-preserved c = (search rules, rw (c.loop-replica.invariant.1, c.replica_formed-formed.ensures) (one_more _ _))
+pub returns : goal.returns
+returns c =
+    let test = replica_ok c.args.table.now c.args.added in
+    all_from_yields_List test _ _ _ c.all.ensures.ran (YieldsList-from_range 0 c.args.replicas c.args.replicas refl (omega arith))
+    (λ x b q k. search rules)
+    ∙ numbers_below test c.args.replicas

@@ -1,17 +1,13 @@
-use mathlib.Core.Path.{sym, ◌∙◌}
-use lib.Dec.{ltb}
+use mathlib.Core.Path.{◌∙◌}
 use borrow.Author.Rules.{rules}
-use Rattle.quorum.proofs.Passes.{every_step, every_end}
+use lib.Dec.{ltb}
+use Rattle.std.proofs.lemmas.Iterator.{YieldsList-from_slice}
+use Rattle.std.proofs.lemmas.Iterator.Search.{all_from_yields_List}
+use Rattle.quorum.proofs.Passes.{every_is_all}
 use Rattle.quorum.proofs.all_issued.Goals as goal
-
-pub loop-i-preserved : goal.loop-i-preserved
-loop-i-preserved c =
-    let a = c.args in
-    let l = c.loop-i in
-    (search rules, every_step (λ x. ltb x a.count) a.list.now l.i l.ok c.loop-i-test.true ∙ l.invariant.1)
 
 pub returns : goal.returns
 returns c =
-    let a = c.args in
-    let l = c.loop-i in
-    sym (every_end (λ x. ltb x a.count) a.list.now l.i l.ok c.loop-i-test.false) ∙ l.invariant.1
+    all_from_yields_List (λ x. ltb x c.args.count) _ _ _ c.all.ensures.ran (YieldsList-from_slice c.args.list.now cc)
+    (λ x b q k. search rules)
+    ∙ every_is_all (λ x. ltb x c.args.count) c.args.list.now

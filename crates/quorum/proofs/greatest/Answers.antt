@@ -1,20 +1,12 @@
-use borrow.Author.Rules.{rules}
-use Rattle.quorum.proofs.Passes.{best_start, best_taken, best_kept, best_end}
+use Rattle.quorum.proofs.Passes.{best_taken, best_kept, best_end}
 use Rattle.quorum.proofs.greatest.Goals as goal
 use Rattle.quorum.proofs.greatest.Goals.{then-best_view-of_view, else-best_view-of_view}
-
-pub loop-i-init : goal.loop-i-init
-loop-i-init c =
-    (search rules, best_start _ _ _ c.requires.1 c.certificate_word-best_view.ensures)
 
 pub loop-i-preserved : goal.loop-i-preserved
 loop-i-preserved c =
     let read = c.certificate_word-of_view.ensures in
     let l = c.loop-i in
-    let b = l.invariant.1 in (
-      search rules,
-      (elim c.if-best_view-of_view.branch [ then-best_view-of_view w ↦ rw (w.best-is, w.best_view-is) (best_taken _ _ l.i l.best l.best_view b _ c.loop-i-test.true read w.if-best_view-of_view.true) | else-best_view-of_view w ↦ rw (w.best-is, w.best_view-is) (best_kept _ _ l.i l.best l.best_view b _ c.loop-i-test.true read w.if-best_view-of_view.false) ]),
-    )
+    elim c.if-best_view-of_view.branch [ then-best_view-of_view w ↦ rw (w.best-is, w.best_view-is) (best_taken _ _ l.i l.best l.best_view l.invariant _ c.loop-i-test.true read w.if-best_view-of_view.true) | else-best_view-of_view w ↦ rw (w.best-is, w.best_view-is) (best_kept _ _ l.i l.best l.best_view l.invariant _ c.loop-i-test.true read w.if-best_view-of_view.false) ]
 
 pub returns : goal.returns
-returns c = best_end _ _ _ _ _ c.loop-i.invariant.1 c.loop-i-test.false
+returns c = best_end _ _ _ _ _ c.loop-i.invariant c.loop-i-test.false

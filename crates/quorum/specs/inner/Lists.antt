@@ -2,9 +2,9 @@
 use Rattle.std.specs.Prelude.{ℕ, ◌+◌, ◌≤◌, ◌<◌, ◌≡◌, Bool, List, [], length, get_or}
 use Rattle.protocol.specs.Memory.{Certificate, memory, certificate_words, certificate_at, certificate}
 use Rattle.protocol.specs.Memory.{max_certificates}
-use Rattle.protocol.specs.Quorum.{certificates_of, is_commit_of, is_new_view_of, is_reply_to, greatest}
-use Rattle.quorum.specs.declared.Wanted.{Wanted}
-use Rattle.quorum.specs.declared.Wanted.TheVariants.{Commit, NewView, Reply}
+use Rattle.protocol.specs.Quorum.{certificates_of, greatest}
+use Rattle.certificate_log.specs.declared.Certificate as Log
+use Rattle.certificate_log.specs.inner.Certificates.{certificate_of}
 
 -- Certificates are read from the log alone: in any memory with this log they are the same.
 abbrev pub certificate_in : List ℕ → ℕ → Certificate
@@ -27,11 +27,9 @@ pub record Listed (log list : List ℕ) : Type 0 where
   pub in_log : (i : ℕ) → i < length list → InLog log (get_or list i 0)
   pub signed : (i : ℕ) → i < length list → (certificate_in log (get_or list i 0)).signer < max_signers
 
--- What each certificate of a quorum has to be, for each of the three.
-abbrev pub wants : Wanted → Certificate → Bool
-wants (Commit view block) = is_commit_of view block
-wants (NewView view) = is_new_view_of view
-wants (Reply subject boot view) = is_reply_to subject boot view
+-- The answers of what is asked of each certificate are those of a test of the definitions.
+abbrev pub Tests : (Log.Certificate → Bool → Type 0) → (Certificate → Bool) → Type 0
+Tests answers test = (c : Log.Certificate) (r : Bool) → answers c r → r ≡ test (certificate_of c)
 
 -- An index of the list, where its greatest certificate stands.
 pub record Greatest (log list : List ℕ) (r : ℕ) : Type 0 where

@@ -19,20 +19,19 @@ pub fn issue(
     table: &mut [u32],
     log: &mut [u32],
     replica: u32,
-    offsets: &[usize],
-    values: &[u32],
+    words: &[(usize, u32)],
     c: Certificate,
 ) -> Answer
     requires issuable { Issuable table.old log.old replica }
-    requires settable { Settable offsets.now values.now }
+    requires settable { Settable words.now }
     ensures { (b : List ℕ) → outcome result table.new log.new b
-        ≡ outcome_by (λ m. issuing m [] replica (assignments offsets.now values.now) (certificate_of c))
+        ≡ outcome_by (λ m. issuing m [] replica (assignments words.now) (certificate_of c))
         table.old log.old b }
 {
     let filed = certificates::file(table, log, c);
     let Filed::At(number, which) = filed else {
         return refused(filed.refusal());
     };
-    records::set_words(table, replica, offsets, values);
+    records::set_words(table, replica, words);
     accepted(number, which)
 }

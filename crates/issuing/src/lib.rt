@@ -17,17 +17,16 @@ pub fn issue(
     table: &mut [u32],
     log: &mut [u32],
     replica: u32,
-    offsets: &[usize],
-    words: &[u32],
+    words: &[(usize, u32)],
     c: Certificate,
 ) -> Answer
     requires issuable { Issuable table.old log.old replica }
-    requires settable { Settable offsets.now words.now }
+    requires settable { Settable words.now }
     ensures { (b : List ℕ) → outcome result table.new log.new b
-        ≡ outcome_by (λ m. issuing m [] replica (assignments offsets.now words.now) (certificate_of c))
+        ≡ outcome_by (λ m. issuing m [] replica (assignments words.now) (certificate_of c))
         table.old log.old b }
 {
     let values = certificates::file(table, log, c)?;
-    records::set_words(table, replica, offsets, words);
+    records::set_words(table, replica, words);
     Ok(values)
 }

@@ -59,16 +59,12 @@ pub fn replica_in(table: &[u32], replica: u32) -> Replica
 }
 
 // Sets words of a replica, each by its offset in the row.
-pub fn set_words(table: &mut [u32], replica: u32, offsets: &[usize], values: &[u32])
+pub fn set_words(table: &mut [u32], replica: u32, words: &[(usize, u32)])
     requires replica_words_in_bounds { row_at replica + replica_words ≤ length table.old }
-    requires settable { Settable offsets.now values.now }
-    ensures { table.new
-        ≡ assign table.old (row_at replica) (assignments offsets.now values.now) }
+    requires settable { Settable words.now }
+    ensures { table.new ≡ assign table.old (row_at replica) (assignments words.now) }
 {
-    let mut i = 0;
-    while i < offsets.len() {
-        let offset = offsets[i];
-        set_replica_word(table, replica, offset, values[i]);
-        i += 1;
+    for &(offset, value) in words {
+        set_replica_word(table, replica, offset, value);
     }
 }

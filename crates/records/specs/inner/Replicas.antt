@@ -1,8 +1,8 @@
 -- A replica of the code as the rules have it, one of the rules as the code has it, and words set together.
-use Rattle.std.specs.Prelude.{ℕ, ◌≡◌, true, List, [], ◌∷◌, length, ltb}
+use Rattle.std.specs.Prelude.{ℕ, ◌≡◌, true, List, map, ltb}
+use Rattle.std.specs.List.{list_all}
 use Rattle.protocol.specs.Memory as Memory
 use Rattle.protocol.specs.Memory.{Assignment, ◌becomes◌, replica_words}
-use Rattle.protocol.specs.Quorum.{every}
 use Rattle.records.specs.declared.Replica.{Replica}
 
 abbrev pub replica_of : Replica → Memory.Replica
@@ -33,13 +33,10 @@ replica_from r =
       decided_block = r.decided_block;
     }
 
--- Each offset of the row with its new value.
-abbrev pub assignments : List ℕ → List ℕ → List Assignment
-assignments [] values = []
-assignments (offset ∷ offsets) [] = []
-assignments (offset ∷ offsets) (value ∷ values) = (offset becomes value) ∷ assignments offsets values
+-- Each word that is set, by its offset in the row and its new value.
+abbrev pub assignments : List (ℕ × ℕ) → List Assignment
+assignments words = map (λ w. w.0 becomes w.1) words
 
--- As many values as offsets, and each offset is one of the row's.
-pub record Settable (offsets values : List ℕ) : Type 0 where
-  pub paired : length offsets ≡ length values
-  pub within : every (λ k. ltb k replica_words) offsets ≡ true
+-- Each offset is one of the row's.
+abbrev pub Settable : List (ℕ × ℕ) → Type 0
+Settable words = list_all (λ w. ltb w.0 replica_words) words ≡ true

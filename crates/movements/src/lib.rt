@@ -100,13 +100,9 @@ pub fn all_allowed(movements: &[u32], replicas: u32, added: u32) -> bool
     ensures { result
         ≡ all_below (movement_count movements.now) (λ k. movement_allowed replicas added (movement movements.now k)) }
 {
-    let count = movements.len() / MOVEMENT_WORDS;
-    let mut place: usize = 0;
-    while place < count {
-        if !is_allowed(movement_in(movements, place), replicas, added) {
-            return false;
-        }
-        place += 1;
-    }
-    true
+    (0..movements.len() / MOVEMENT_WORDS).all(|place| is_allowed(
+        movement_in(movements, place),
+        replicas,
+        added,
+    ))
 }

@@ -27,11 +27,6 @@ one_tallied w taker count slot some le = go (slot - 1) (count - slot) slot (omeg
         → tallied (tally_of taker (entries_from w next n)) (entry w k) taker ≡ tally_of taker (entries_from w k more)
     go k n next e more f = rw (e, f) refl
 
-pub all_tallied : (w : List ℕ) (taker slot : ℕ) → slot ≡ 0 → tally_from w taker (waiting_count w) slot ≡ tally_of taker (entries w)
-all_tallied w taker slot e =
-    let z : waiting_count w - slot ≡ waiting_count w = omega arith in
-    rw (z, e) refl
-
 pub few_pallets : (w : List ℕ) (taker n slot : ℕ) → ((k : ℕ) → k < slot + n → (entry w k).pallets ≤ max_pallets)
     → pallets_for taker (entries_from w slot n) ≤ n * max_pallets
 few_pallets w taker n slot few =

@@ -6,7 +6,4 @@ use Rattle.arrivals.proofs.Tallies.{tally_from}
 use Rattle.arrivals.proofs.tally.Given as goal
 
 abbrev pub invariant-loop-slot : goal.invariant-loop-slot
-invariant-loop-slot l = (l.slot ≤ waiting_count l.waiting) × (l.so_far ≡ tally_from l.waiting l.taker (waiting_count l.waiting) l.slot)
-
-abbrev pub decreases-loop-slot : goal.decreases-loop-slot
-decreases-loop-slot l = l.slot
+invariant-loop-slot l = l.so_far ≡ tally_from l.waiting l.taker (waiting_count l.waiting) l.slot

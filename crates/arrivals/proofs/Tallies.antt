@@ -4,7 +4,7 @@ use mathlib.Core.Path.{◌≡◌, refl}
 use mathlib.Core.List.{List}
 use native.Mathlib.Omega.{arith}
 use Rattle.movements.specs.Movements.{max_pallets}
-use Rattle.entries.specs.Entries.{waiting_count, entry, entries_from, entries, pallets_for, earliest_for}
+use Rattle.entries.specs.Entries.{entry, entries_from, pallets_for, earliest_for}
 use Rattle.entries.proofs.Words.{from_length}
 use Rattle.entries.proofs.Lists.{all_from, pallets_small}
 use Rattle.arrivals.specs.declared.TakerTally.{TakerTally}

@@ -1,13 +1,11 @@
-use Prim.Native.Nat.{◌*◌, ◌/◌, ◌≤◌}
+use Prim.Native.Nat.{◌*◌, ◌/◌}
 use native.Mathlib.Omega.{arith}
 use mathlib.Core.Path.{◌≡◌}
 use mathlib.Core.Bool.{true, false}
 use borrow.Author.Tests.{tests}
 use Rattle.std.proofs.Common.{rules}
-use Rattle.std.specs.Option.{unwrap_or}
 use Rattle.std.proofs.lemmas.Iterator.{first_from_Range}
 use Rattle.entries.specs.Entries.{entry}
-use Rattle.arrivals.specs.inner.Found.{NoneBelow}
 use Rattle.arrivals.proofs.Finding.{four, groups_passed, found_from}
 use Rattle.arrivals.proofs.find.Goals as goal
 

@@ -1,5 +1,4 @@
 -- The tally so far is that of the entries passed, from the last on.
-use Prim.Native.Nat.{◌≤◌}
 use mathlib.Core.Path.{◌≡◌}
 use Rattle.entries.specs.Entries.{waiting_count}
 use Rattle.arrivals.proofs.Tallies.{tally_from}

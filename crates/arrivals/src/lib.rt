@@ -29,7 +29,6 @@ use entries::{
     ENTRIES_AT, ENTRY_GIVER_AT, ENTRY_PALLETS_AT, ENTRY_TAKER_AT, ENTRY_WIDTH, Entry, IDENTITY_AT,
     MAX_WAITING, PLACES_AT, TAKER_WORDS, TAKERS_AT, WAITING_COUNT_AT, WAITING_WORDS,
 };
-use movements::MAX_PALLETS;
 
 // How many entries a search looks at in one turn.
 const GROUP: usize = 4;
@@ -72,12 +71,7 @@ pub fn entry_in(waiting: &[u32], slot: usize) -> Entry
 pub fn is_allowed(e: Entry, replicas: u32) -> bool
     ensures { result ≡ entry_allowed replicas e }
 {
-    (e.identity != 0)
-        & (e.giver < replicas)
-        & (e.taker < replicas)
-        & (e.giver != e.taker)
-        & (1 <= e.pallets)
-        & (e.pallets <= MAX_PALLETS)
+    (e.identity != 0) & e.transfer().is_allowed(replicas)
 }
 
 // Every entry below a count. Without a branch: leaving at the first that fails is slower.

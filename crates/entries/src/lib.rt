@@ -18,6 +18,8 @@ ghost use Rattle.entries.specs.Entries.{
   waiting_words,
 };
 
+use movements::Transfer;
+
 // The identity that its dispatcher gave it, the replica whose firm gives, the one whose firm takes, how many.
 #[derive(Clone, Copy)]
 pub struct Entry {
@@ -25,6 +27,18 @@ pub struct Entry {
     pub giver: u32,
     pub taker: u32,
     pub pallets: u32,
+}
+
+impl Entry {
+    pub fn transfer(self) -> Transfer
+        ensures { result ≡ record { giver = self.giver; taker = self.taker; pallets = self.pallets } }
+    {
+        Transfer {
+            giver: self.giver,
+            taker: self.taker,
+            pallets: self.pallets,
+        }
+    }
 }
 
 pub const MAX_WAITING: u32 = 512;

@@ -172,7 +172,7 @@ fn fits(
 {
     let e = arrivals::entry_in(waiting, slot);
     let unused = waiting[arrivals::place_at(place)] == 0;
-    if !((x.giver == e.giver) & (x.taker == e.taker) & (x.pallets == e.pallets) & unused) {
+    if !((x.transfer() == e.transfer()) & unused) {
         return false;
     }
     let decided = records::replica_in(table, replica).decided_block;

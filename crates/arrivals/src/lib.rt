@@ -88,14 +88,9 @@ fn entries_formed(waiting: &[u32], count: usize, replicas: u32) -> bool
 pub fn is_formed(waiting: &[u32], replicas: u32) -> bool
     ensures { result ≡ waiting_formed replicas waiting.now }
 {
-    if waiting.len() != WAITING_WORDS {
-        return false;
-    }
-    let count = waiting[WAITING_COUNT_AT];
-    if MAX_WAITING < count {
-        return false;
-    }
-    entries_formed(waiting, count as usize, replicas)
+    waiting.len() == WAITING_WORDS
+        && waiting[WAITING_COUNT_AT] <= MAX_WAITING
+        && entries_formed(waiting, waiting[WAITING_COUNT_AT] as usize, replicas)
 }
 
 // The identity of the entry in a slot.

@@ -38,7 +38,11 @@ none_of_four w identity slot e k from to is =
 
 pub groups_passed : (w : List ℕ) (identity groups : ℕ) (found : Option ℕ)
     → MatchOption found ((k : ℕ) → 0 ≤ k → k < groups → four w identity (4 * k) ≡ false)
-    (λ group. (0 ≤ group) × (group < groups) × (four w identity (4 * group) ≡ true) × ((k : ℕ) → 0 ≤ k → k < group → four w identity (4 * k) ≡ false))
+    (λ group.
+    (0 ≤ group)
+    × (group < groups)
+    × (four w identity (4 * group) ≡ true)
+    × ((k : ℕ) → 0 ≤ k → k < group → four w identity (4 * k) ≡ false))
     → (unwrap_or found groups ≤ groups) × NoneBelow w identity (4 * unwrap_or found groups)
 groups_passed w identity groups None none =
     (omega arith, λ k l. none_of_four w identity (4 * (k / 4)) (none (k / 4) (omega arith) (omega arith)) k (omega arith) (omega arith))
@@ -48,7 +52,11 @@ groups_passed w identity groups (Some group) one =
 -- None before a start, and the first from it on.
 pub found_from : (w : List ℕ) (identity start count : ℕ) (found : Option ℕ) → NoneBelow w identity start
     → MatchOption found ((k : ℕ) → start ≤ k → k < count → (entry w k).identity ≡ identity → ⊥)
-    (λ slot. (start ≤ slot) × (slot < count) × ((entry w slot).identity ≡ identity) × ((k : ℕ) → start ≤ k → k < slot → (entry w k).identity ≡ identity → ⊥))
+    (λ slot.
+    (start ≤ slot)
+    × (slot < count)
+    × ((entry w slot).identity ≡ identity)
+    × ((k : ℕ) → start ≤ k → k < slot → (entry w k).identity ≡ identity → ⊥))
     → Found w identity count found
 found_from w identity start count None before none = λ k l.
     by-test (ltb k start) (λ e. before k (omega tests)) (λ e. none k (omega tests) l)

@@ -1,9 +1,8 @@
 // The further slice's words (document 02, #108): its form; finding an entry, appending one and taking one out; the two words of a taker.
 #![tactic(auto)]
 
-ghost use Rattle.std.specs.Prelude.{◌≡◌, [], ◌∷◌, ◌++◌, ℕ, ◌+◌, ◌-◌, ◌*◌, ◌≤◌, ◌<◌, length, drop, replicate};
+ghost use Rattle.std.specs.Prelude.{◌≡◌, [], ◌∷◌, ◌++◌, ◌+◌, ◌*◌, ◌≤◌, ◌<◌, length, replicate};
 ghost use Rattle.std.proofs.lemmas.List.Edits.{sets};
-ghost use Rattle.std.proofs.Math.Seq.{paste};
 ghost use Rattle.protocol.specs.Form.{all_below};
 ghost use Rattle.protocol.specs.inner.Groups.{any_holds};
 ghost use Rattle.movements.specs.Movements.{max_pallets};
@@ -11,7 +10,6 @@ ghost use Rattle.entries.specs.Entries.{
   max_waiting,
   waiting_words,
   waiting_count,
-  entry_width,
   entry_at,
   kept_pallets_at,
   place_at as place_at_rule,

@@ -1,7 +1,8 @@
 -- What finding an entry tells, and what a taker's words may be written from.
 use Rattle.std.specs.Prelude.{ℕ, ◌+◌, ◌-◌, ◌≤◌, ◌<◌, ◌≡◌, Bool, cond, List, ◌++◌, length, eqb, Option, None, Some}
 use Rattle.movements.specs.Movements.{max_pallets}
-use Rattle.entries.specs.Entries.{max_waiting, max_replicas, waiting_words, waiting_count, entry_at, entry_width, entry, entries_from, pallets_for, earliest_for}
+use Rattle.entries.specs.Entries.{max_waiting, max_replicas, waiting_words, waiting_count, entry_at, entry_width, entry}
+use Rattle.entries.specs.Entries.{entries_from, pallets_for, earliest_for}
 use Rattle.entries.specs.declared.Entry.{Entry}
 use Rattle.arrivals.specs.declared.TakerTally.{TakerTally}
 

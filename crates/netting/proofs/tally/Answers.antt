@@ -51,8 +51,10 @@ add-requires-in-loop-place c =
 
 pub loop-place-preserved : goal.loop-place-preserved
 loop-place-preserved c =
+    let h = c.loop-place.invariant in
+    let within = c.loop-place-test.true in
     let next : c.loop-place.place + 1 ≡ suc c.loop-place.place = omega arith in
     let now = rw c.movement_in-x.ensures at (granted c.is_allowed.ensures c.if-not-is_allowed.false) in
-    let few = moved_few _ _ c.loop-place.place _ (step _ _ _ _ _ c.requires _ c.loop-place.place c.loop-place-test.true c.loop-place.invariant now) in
-    rw (next, c.add-in-loop-place.ensures, c.add.ensures, c.counted_pallets-pallets.ensures, c.movement_in-x.ensures, given _ few, taken _ few)
-    (goes_on _ _ _ _ _ c.requires _ c.loop-place.place c.loop-place-test.true c.loop-place.invariant now)
+    let few = moved_few _ _ c.loop-place.place _ (step _ _ _ _ _ c.requires _ c.loop-place.place within h now) in
+    rw (next, c.add-in-loop-place.ensures, c.add.ensures, c.counted_pallets-pallets.ensures, c.movement_in-x.ensures)
+    (rw (given _ few, taken _ few) (goes_on _ _ _ _ _ c.requires _ c.loop-place.place within h now))

@@ -41,6 +41,7 @@ impl Entry {
     }
 }
 
+// C lends the slice as words, and a store keeps them: so where each stands is a number.
 pub const MAX_WAITING: u32 = 512;
 
 pub const WAITING_COUNT_AT: usize = 0;

@@ -61,6 +61,7 @@ impl Movement {
     }
 }
 
+// C lends movements as words: so where each word of one stands is a number.
 pub const MOVEMENT_WORDS: usize = 4;
 
 pub const MOVEMENT_BLOCK_AT: usize = 0;
@@ -122,7 +123,7 @@ pub fn is_allowed(x: Movement, replicas: u32, added: u32) -> bool
     (x.block != 0) & (x.block < added) & x.transfer().is_allowed(replicas)
 }
 
-// Whether every movement of a list does, up to the first that does not.
+// Whether every movement of a list does, up to the first that does not. Over places: over chunks of words it is slower.
 pub fn all_allowed(movements: &[u32], replicas: u32, added: u32) -> bool
     requires { is_movement_list_rule movements.now ≡ true }
     ensures { result

@@ -123,7 +123,7 @@ pub fn is_allowed(x: Movement, replicas: u32, added: u32) -> bool
     (x.block != 0) & (x.block < added) & x.transfer().is_allowed(replicas)
 }
 
-// Whether every movement of a list does, up to the first that does not. Over places: over chunks of words it is slower.
+// Whether every movement of a list does, up to the first that does not.
 pub fn all_allowed(movements: &[u32], replicas: u32, added: u32) -> bool
     requires { is_movement_list_rule movements.now ≡ true }
     ensures { result

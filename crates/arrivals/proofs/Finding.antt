@@ -1,53 +1,71 @@
 -- What the slot of an identity tells of the entries: whether it waits, its entry, and the entries without it.
-use Prim.Native.Nat.{ℕ, zero, suc, ◌+◌, ◌-◌, ◌≤◌, ◌<◌}
+use Prim.Native.Nat.{ℕ, zero, suc, ◌+◌, ◌*◌, ◌-◌, ◌/◌, ◌≤◌, ◌<◌}
 use mathlib.Core.Path.{◌≡◌, refl, ap, ◌∙◌}
-use mathlib.Core.Bool.{true, false}
+use mathlib.Core.Bool.{Bool, true, false}
 use mathlib.Core.List.{List, [], ◌∷◌, ◌++◌}
 use native.Mathlib.Omega.{arith}
 use borrow.Author.Tests.{eqb-false}
 use lib.Dec.{ltb, eqb}
+use Rattle.std.specs.Prelude.{Option, None, Some}
+use Rattle.std.specs.Option.{MatchOption, unwrap_or, is_some}
 use Rattle.protocol.specs.inner.Groups.{any_holds}
 use Rattle.protocol.proofs.logic.Booleans.{tests, by-test}
 use Rattle.protocol.proofs.logic.Joined.{none_of}
 use Rattle.entries.specs.declared.Entry.{Entry}
 use Rattle.entries.specs.Entries.{waiting_count, entry, entries_from, entries, is_waiting, entry_of, without}
 use Rattle.entries.proofs.Words.{from_append}
-use Rattle.arrivals.specs.inner.Found.{Found, has_identity, closed_up}
+use Rattle.arrivals.specs.inner.Found.{NoneBelow, FirstWith, Found, has_identity, closed_up}
 
--- Entries passed, one and four at a time, of which none has the identity.
-abbrev pub NoneFrom : List ℕ → ℕ → ℕ → ℕ → Type 0
-NoneFrom w identity from to = (k : ℕ) → from ≤ k → k < to → (entry w k).identity ≡ identity → ⊥
-
-pub none_more : (w : List ℕ) (identity from slot : ℕ) → NoneFrom w identity from slot → ((entry w slot).identity ≡ identity → ⊥)
-    → NoneFrom w identity from (slot + 1)
-none_more w identity from slot none other k le l is =
-    by-test (eqb k slot) (λ e. let q : k ≡ slot = omega tests in other (rw q at is)) (λ e. none k le (omega tests) is)
-
-pub none_of_four : (w : List ℕ) (identity from slot : ℕ) → NoneFrom w identity from slot
-    → any_holds
+-- Entries passed, four at a time, of which none has the identity.
+abbrev pub four : List ℕ → ℕ → ℕ → Bool
+four w identity slot =
+    any_holds
     (has_identity w identity slot
     ∷ has_identity w identity (slot + 1)
     ∷ has_identity w identity (slot + 2)
     ∷ has_identity w identity (slot + 3)
     ∷ [])
-    ≡ false
-    → NoneFrom w identity from (slot + 4)
-none_of_four w identity from slot none e =
+
+none_of_four : (w : List ℕ) (identity slot : ℕ) → four w identity slot ≡ false → (k : ℕ) → slot ≤ k → k < slot + 4
+    → (entry w k).identity ≡ identity → ⊥
+none_of_four w identity slot e k from to is =
     let has = has_identity w identity in
     let t = none_of (has slot ∷ has (slot + 1) ∷ has (slot + 2) ∷ has (slot + 3) ∷ []) e in
-    let two : slot + 1 + 1 ≡ slot + 2 = omega arith in
-    let three : slot + 2 + 1 ≡ slot + 3 = omega arith in
-    let four : slot + 3 + 1 ≡ slot + 4 = omega arith in
-    let one = none_more w identity from slot none (eqb-false _ _ t.0) in
-    let second = rw two at (none_more w identity from (slot + 1) one (eqb-false _ _ t.1.0)) in
-    let third = rw three at (none_more w identity from (slot + 2) second (eqb-false _ _ t.1.1.0)) in
-    rw four at (none_more w identity from (slot + 3) third (eqb-false _ _ t.1.1.1.0))
+    by-test (eqb k slot) (λ q. let z : k ≡ slot = omega tests in eqb-false _ _ t.0 (rw z at is))
+    (λ a. by-test (eqb k (slot + 1)) (λ q. let z : k ≡ slot + 1 = omega tests in eqb-false _ _ t.1.0 (rw z at is))
+    (λ b. by-test (eqb k (slot + 2)) (λ q. let z : k ≡ slot + 2 = omega tests in eqb-false _ _ t.1.1.0 (rw z at is))
+    (λ c. let z : k ≡ slot + 3 = omega tests in eqb-false _ _ t.1.1.1.0 (rw z at is))))
 
--- None before a slot, and none from it on up to another.
-pub none_both : (w : List ℕ) (identity start slot : ℕ) → ((k : ℕ) → k < start → (entry w k).identity ≡ identity → ⊥)
-    → NoneFrom w identity start slot → (k : ℕ) → k < slot → (entry w k).identity ≡ identity → ⊥
-none_both w identity start slot before from k l is =
-    by-test (ltb k start) (λ e. before k (omega tests) is) (λ e. from k (omega tests) l is)
+pub groups_passed : (w : List ℕ) (identity groups : ℕ) (found : Option ℕ)
+    → MatchOption found ((k : ℕ) → 0 ≤ k → k < groups → four w identity (4 * k) ≡ false)
+    (λ group.
+    (0 ≤ group)
+    × (group < groups)
+    × (four w identity (4 * group) ≡ true)
+    × ((k : ℕ) → 0 ≤ k → k < group → four w identity (4 * k) ≡ false))
+    → (unwrap_or found groups ≤ groups) × NoneBelow w identity (4 * unwrap_or found groups)
+groups_passed w identity groups None none =
+    (omega arith, λ k l. none_of_four w identity (4 * (k / 4)) (none (k / 4) (omega arith) (omega arith)) k (omega arith) (omega arith))
+groups_passed w identity groups (Some group) one =
+    (omega arith, λ k l. none_of_four w identity (4 * (k / 4)) (one.3 (k / 4) (omega arith) (omega arith)) k (omega arith) (omega arith))
+
+-- None before a start, and the first from it on.
+pub found_from : (w : List ℕ) (identity start count : ℕ) (found : Option ℕ) → NoneBelow w identity start
+    → MatchOption found ((k : ℕ) → start ≤ k → k < count → (entry w k).identity ≡ identity → ⊥)
+    (λ slot.
+    (start ≤ slot)
+    × (slot < count)
+    × ((entry w slot).identity ≡ identity)
+    × ((k : ℕ) → start ≤ k → k < slot → (entry w k).identity ≡ identity → ⊥))
+    → Found w identity count found
+found_from w identity start count None before none = λ k l.
+    by-test (ltb k start) (λ e. before k (omega tests)) (λ e. none k (omega tests) l)
+found_from w identity start count (Some slot) before one =
+    record {
+      within = one.1;
+      before = λ k l. by-test (ltb k start) (λ e. before k (omega tests)) (λ e. one.3 k (omega tests) l);
+      there = one.2;
+    }
 
 module _ (identity : ℕ) where
   -- Behind entries of which none has the identity, the rest tells.
@@ -81,36 +99,38 @@ module _ (identity : ℕ) where
       by-test (eqb (entry w k).identity identity) (λ t. absurd (h k (omega arith) (omega tests))) (λ t. t) in
       rw other (none_before w n (suc k) (λ j l. h j (omega arith)))
 
-  module _ (w : List ℕ) (slot : ℕ) (f : Found w identity (waiting_count w) slot) where
-    pub not_found : waiting_count w ≤ slot → is_waiting identity (entries w) ≡ false
-    not_found l =
-        let e : slot ≡ waiting_count w = omega (arith, f.within) in
-        none_before w (waiting_count w) 0 (λ j b. f.before j (omega arith))
+  pub not_found : (w : List ℕ) → NoneBelow w identity (waiting_count w) → is_waiting identity (entries w) ≡ false
+  not_found w none = none_before w (waiting_count w) 0 (λ j b. none j (omega arith))
 
-    module _ (l : slot < waiting_count w) where
-      cut : entries w ≡ entries_from w 0 slot ++ (entry w slot ∷ entries_from w (slot + 1) (waiting_count w - (slot + 1)))
-      unfolding entries_from
-      cut =
-          let m = waiting_count w - (slot + 1) in
-          let n : waiting_count w ≡ slot + suc m = omega arith in
-          let k : slot + 1 ≡ suc slot = omega arith in
-          let z : 0 + slot ≡ slot = omega arith in
-          ap (entries_from w 0) n ∙ from_append w 0 slot (suc m) ∙ rw (z, k) refl
+  module _ (w : List ℕ) (slot : ℕ) (f : FirstWith w identity (waiting_count w) slot) where
+    cut : entries w ≡ entries_from w 0 slot ++ (entry w slot ∷ entries_from w (slot + 1) (waiting_count w - (slot + 1)))
+    unfolding entries_from
+    cut =
+        let m = waiting_count w - (slot + 1) in
+        let n : waiting_count w ≡ slot + suc m = omega (arith, f.within) in
+        let k : slot + 1 ≡ suc slot = omega arith in
+        let z : 0 + slot ≡ slot = omega arith in
+        ap (entries_from w 0) n ∙ from_append w 0 slot (suc m) ∙ rw (z, k) refl
 
-      own : eqb (entry w slot).identity identity ≡ true
-      own = omega (tests, f.there l)
+    own : eqb (entry w slot).identity identity ≡ true
+    own = omega (tests, f.there)
 
-      before : is_waiting identity (entries_from w 0 slot) ≡ false
-      before = none_before w slot 0 (λ j b. f.before j (omega arith))
+    before : is_waiting identity (entries_from w 0 slot) ≡ false
+    before = none_before w slot 0 (λ j b. f.before j (omega arith))
 
-      pub found : is_waiting identity (entries w) ≡ true
-      unfolding is_waiting
-      found = ap (is_waiting identity) cut ∙ waits_later (entries_from w 0 slot) _ before ∙ rw own refl
+    pub found : is_waiting identity (entries w) ≡ true
+    unfolding is_waiting
+    found = ap (is_waiting identity) cut ∙ waits_later (entries_from w 0 slot) _ before ∙ rw own refl
 
-      pub found_entry : entry_of identity (entries w) ≡ entry w slot
-      unfolding entry_of
-      found_entry = ap (entry_of identity) cut ∙ found_later (entries_from w 0 slot) _ before ∙ rw own refl
+    pub found_entry : entry_of identity (entries w) ≡ entry w slot
+    unfolding entry_of
+    found_entry = ap (entry_of identity) cut ∙ found_later (entries_from w 0 slot) _ before ∙ rw own refl
 
-      pub found_others : without identity (entries w) ≡ closed_up w slot
-      unfolding without
-      found_others = ap (without identity) cut ∙ removed_later (entries_from w 0 slot) _ before ∙ rw own refl
+    pub found_others : without identity (entries w) ≡ closed_up w slot
+    unfolding without
+    found_others = ap (without identity) cut ∙ removed_later (entries_from w 0 slot) _ before ∙ rw own refl
+
+  -- Whether one was found is whether it waits.
+  pub waits : (w : List ℕ) (found : Option ℕ) → Found w identity (waiting_count w) found → is_waiting identity (entries w) ≡ is_some found
+  waits w None none = not_found w none
+  waits w (Some slot) f = found w slot f

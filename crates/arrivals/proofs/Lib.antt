@@ -1,5 +1,4 @@
 -- What the code's proofs share.
-pub mod Moving
 pub mod Tallies
 pub mod Holding
 pub mod Finding

@@ -18,6 +18,8 @@ ghost use Rattle.entries.specs.Entries.{
   waiting_words,
 };
 
+use movements::Transfer;
+
 // The identity that its dispatcher gave it, the replica whose firm gives, the one whose firm takes, how many.
 #[derive(Clone, Copy)]
 pub struct Entry {
@@ -27,6 +29,19 @@ pub struct Entry {
     pub pallets: u32,
 }
 
+impl Entry {
+    pub fn transfer(self) -> Transfer
+        ensures { result ≡ record { giver = self.giver; taker = self.taker; pallets = self.pallets } }
+    {
+        Transfer {
+            giver: self.giver,
+            taker: self.taker,
+            pallets: self.pallets,
+        }
+    }
+}
+
+// C lends the slice as words, and a store keeps them: so where each stands is a number.
 pub const MAX_WAITING: u32 = 512;
 
 pub const WAITING_COUNT_AT: usize = 0;

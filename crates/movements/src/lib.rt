@@ -2,7 +2,7 @@
 #![tactic(auto)]
 
 ghost use Rattle.std.specs.Prelude.{◌≡◌, true, [], ◌∷◌, ◌+◌, ◌≤◌, length};
-ghost use Rattle.protocol.specs.Form.{all_below};
+ghost use Rattle.protocol.specs.Form.{all_hold, all_below};
 ghost use Rattle.movements.specs.Movements.{
   movement_words,
   movement_block_at,
@@ -14,6 +14,7 @@ ghost use Rattle.movements.specs.Movements.{
   movement_at,
   movement,
   movement_count,
+  transfer_tests,
   movement_allowed,
   is_movement_list as is_movement_list_rule,
 };
@@ -27,6 +28,40 @@ pub struct Movement {
     pub pallets: u32,
 }
 
+// What changes hands, whoever enters it and whichever block has it.
+#[derive(Clone, Copy, PartialEq, Eq)]
+pub struct Transfer {
+    pub giver: u32,
+    pub taker: u32,
+    pub pallets: u32,
+}
+
+impl Transfer {
+    // Whether it keeps the rules, where there are so many replicas.
+    pub fn is_allowed(self, replicas: u32) -> bool
+        ensures { result ≡ all_hold (transfer_tests replicas self.giver self.taker self.pallets) }
+    {
+        (self.giver < replicas)
+            & (self.taker < replicas)
+            & (self.giver != self.taker)
+            & (1 <= self.pallets)
+            & (self.pallets <= MAX_PALLETS)
+    }
+}
+
+impl Movement {
+    pub fn transfer(self) -> Transfer
+        ensures { result ≡ record { giver = self.giver; taker = self.taker; pallets = self.pallets } }
+    {
+        Transfer {
+            giver: self.giver,
+            taker: self.taker,
+            pallets: self.pallets,
+        }
+    }
+}
+
+// C lends movements as words: so where each word of one stands is a number.
 pub const MOVEMENT_WORDS: usize = 4;
 
 pub const MOVEMENT_BLOCK_AT: usize = 0;
@@ -85,13 +120,7 @@ pub fn movement_in(movements: &[u32], place: usize) -> Movement
 pub fn is_allowed(x: Movement, replicas: u32, added: u32) -> bool
     ensures { result ≡ movement_allowed replicas added x }
 {
-    (x.block != 0)
-        & (x.block < added)
-        & (x.giver < replicas)
-        & (x.taker < replicas)
-        & (x.giver != x.taker)
-        & (1 <= x.pallets)
-        & (x.pallets <= MAX_PALLETS)
+    (x.block != 0) & (x.block < added) & x.transfer().is_allowed(replicas)
 }
 
 // Whether every movement of a list does, up to the first that does not.
@@ -100,13 +129,9 @@ pub fn all_allowed(movements: &[u32], replicas: u32, added: u32) -> bool
     ensures { result
         ≡ all_below (movement_count movements.now) (λ k. movement_allowed replicas added (movement movements.now k)) }
 {
-    let count = movements.len() / MOVEMENT_WORDS;
-    let mut place: usize = 0;
-    while place < count {
-        if !is_allowed(movement_in(movements, place), replicas, added) {
-            return false;
-        }
-        place += 1;
-    }
-    true
+    (0..movements.len() / MOVEMENT_WORDS).all(|place| is_allowed(
+        movement_in(movements, place),
+        replicas,
+        added,
+    ))
 }

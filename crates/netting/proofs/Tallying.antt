@@ -7,7 +7,7 @@ use native.Mathlib.Omega.{arith}
 use lib.Dec.{eqb}
 use lib.ListN.{length, get_or, set, length-set}
 use lib.Seq.{get_or-set_same, get_or-set_other}
-use lib.IntN.{ℤ, pos, ◌+ℤ◌, ◌-ℤ◌}
+use lib.IntN.{ℤ, pos, neg_ℤ, ◌+ℤ◌, ◌-ℤ◌}
 use Rattle.protocol.specs.Form.{all_below}
 use Rattle.protocol.proofs.logic.Booleans.{tests, by-test, by_cond, true_and, at_below}
 use Rattle.protocol.proofs.logic.Below.{refuted_one}
@@ -19,6 +19,7 @@ use Rattle.netting.specs.Theorems.{max_balance}
 use Rattle.netting.specs.inner.Tallies.{marked, Movable, Talliable, Tallied}
 use Rattle.netting.proofs.Signed.{less_plus, less_minus, less_small}
 use Rattle.netting.proofs.Nettings.{pallets_small}
+use Rattle.netting.proofs.Moving.{given_small}
 
 -- Every firm's balance is what it received less what it gave.
 abbrev pub Differ : List ℤ → (ℕ → ℕ) → (ℕ → ℕ) → Type 0
@@ -60,7 +61,7 @@ module _ (counts : Movement → Bool) (movements : List ℕ) (k : ℕ) (xs : Lis
   abbrev gave : List ℤ
   gave = set xs (movement movements k).giver (get_or xs (movement movements k).giver (pos 0) -ℤ pos moved)
 
-  moved_few : moved ≤ max_pallets
+  pub moved_few : moved ≤ max_pallets
   moved_few = by_cond (λ (p : ℕ). p ≤ max_pallets) (counts (movement movements k)) (λ e. h.few k (omega arith)) (λ e. omega arith)
 
   small_before : (side : Movement → ℕ) (i : ℕ) → pallets_of side counts movements k i ≤ max_balance
@@ -68,11 +69,11 @@ module _ (counts : Movement → Bool) (movements : List ℕ) (k : ℕ) (xs : Lis
       let s = h.short in
       pallets_small side counts movements k i (λ j l. h.few j (omega arith)) (omega arith)
 
-  pub giver_movable : Movable xs (movement movements k).giver moved
+  pub giver_movable : Movable xs (movement movements k).giver (neg_ℤ (pos moved))
   giver_movable =
       record {
         there = h.giver;
-        few = moved_few;
+        few = given_small moved moved_few;
         small = rw (h.balances _ h.giver) (less_small _ _ max_balance (small_before _ _) (small_before _ _));
       }
 
@@ -87,7 +88,7 @@ module _ (counts : Movement → Bool) (movements : List ℕ) (k : ℕ) (xs : Lis
   taker_there : (movement movements k).taker < length gave
   taker_there = rw (length-set xs (movement movements k).giver _) h.taker
 
-  pub taker_movable : Movable gave (movement movements k).taker moved
+  pub taker_movable : Movable gave (movement movements k).taker (pos moved)
   taker_movable =
       record {
         there = taker_there;

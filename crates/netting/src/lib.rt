@@ -1,7 +1,7 @@
 // Netting of movements: a firm's balance of pallets at a chosen block (document 02, #101).
 #![tactic(auto)]
 
-ghost use Rattle.std.specs.Prelude.{◌≡◌, cond, ◌<◌, length, get_or, set, pos, ◌+ℤ◌, ◌-ℤ◌};
+ghost use Rattle.std.specs.Prelude.{◌≡◌, cond, ◌<◌, length, get_or, set, pos, ◌+ℤ◌};
 ghost use Rattle.protocol.specs.Memory.{memory};
 ghost use Rattle.netting.specs.Netting.{balance_told, netting_outcome, netting};
 ghost use Rattle.netting.specs.inner.Tallies.{
@@ -56,24 +56,13 @@ fn counted_pallets(marks: &[bool], x: Movement) -> u32
     (marks[block] as u32) * x.pallets
 }
 
-// A firm receives pallets.
-fn receive(balances: &mut [i32], firm: u32, pallets: u32)
+// Adds pallets to a firm's balance: below 0 where it gives them.
+fn add(balances: &mut [i32], firm: u32, pallets: i32)
     requires { Movable balances.old firm pallets }
     ensures { balances.new
-        ≡ set balances.old firm (get_or balances.old firm (pos 0) +ℤ pos pallets) }
+        ≡ set balances.old firm (get_or balances.old firm (pos 0) +ℤ pallets) }
 {
-    let at = firm as usize;
-    balances[at] = balances[at] + (pallets as i32);
-}
-
-// A firm gives pallets.
-fn give(balances: &mut [i32], firm: u32, pallets: u32)
-    requires { Movable balances.old firm pallets }
-    ensures { balances.new
-        ≡ set balances.old firm (get_or balances.old firm (pos 0) -ℤ pos pallets) }
-{
-    let at = firm as usize;
-    balances[at] = balances[at] - (pallets as i32);
+    balances[firm as usize] += pallets;
 }
 
 // Whether every movement keeps the rules; and then the balances of all firms. One pass, up to the first movement that breaks them; those
@@ -82,17 +71,14 @@ fn tally(movements: &[u32], marks: &[bool], replicas: u32, added: u32, balances:
     requires { Talliable movements.now marks.now replicas added balances.old }
     ensures { Tallied movements.now marks.now replicas added result balances.new }
 {
-    let count = movements.len() / MOVEMENT_WORDS;
-    let mut place: usize = 0;
-    while place < count {
+    for place in 0..movements.len() / MOVEMENT_WORDS {
         let x = movements::movement_in(movements, place);
         if !movements::is_allowed(x, replicas, added) {
             return false;
         }
-        let pallets = counted_pallets(marks, x);
-        give(balances, x.giver, pallets);
-        receive(balances, x.taker, pallets);
-        place += 1;
+        let pallets = counted_pallets(marks, x) as i32;
+        add(balances, x.giver, -pallets);
+        add(balances, x.taker, pallets);
     }
     true
 }

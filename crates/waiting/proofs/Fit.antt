@@ -6,7 +6,7 @@ use Rattle.protocol.specs.Form.{all_hold}
 
 -- Of giver, taker, pallets, the unused place, and the line.
 module _ (line : Bool) where
-  pub fit_fails : (a b c u : Bool) → (((a && b) && c) && u) ≡ false
+  pub fit_fails : (a b c u : Bool) → ((a && (b && c)) && u) ≡ false
       → false ≡ all_hold (all_hold (a ∷ b ∷ c ∷ []) ∷ line ∷ not (not u) ∷ [])
   unfolding all_hold
   fit_fails false b c u h = refl
@@ -19,7 +19,7 @@ module _ (line : Bool) where
       last false = refl
   fit_fails true true true true h = cc
 
-  pub fit_goes : (a b c u : Bool) → (((a && b) && c) && u) ≡ true
+  pub fit_goes : (a b c u : Bool) → ((a && (b && c)) && u) ≡ true
       → line ≡ all_hold (all_hold (a ∷ b ∷ c ∷ []) ∷ line ∷ not (not u) ∷ [])
   unfolding all_hold
   fit_goes true true true true h = last line

@@ -13,7 +13,7 @@ use Rattle.entries.specs.Waiting.{Lent, departed}
 use Rattle.entries.proofs.Words.{entries_held, holding_length, holding_count, refreshed_length}
 use Rattle.entries.proofs.Lists.{All, all_joined, all_from, from_all}
 use Rattle.entries.proofs.Slices.{is-allowed, slice_count, joined_length}
-use Rattle.arrivals.specs.inner.Found.{Found, closed_up, Removable, Refreshable}
+use Rattle.arrivals.specs.inner.Found.{FirstWith, closed_up, Removable, Refreshable}
 use Rattle.arrivals.proofs.Holding.{closed_length}
 use Rattle.arrivals.proofs.Finding.{found_entry, found_others}
 use Rattle.waiting.specs.inner.Parts.{Leavable, left_by}
@@ -75,6 +75,5 @@ entered_refreshable s h e allowed room =
     (all_from P s.waiting 0 (waiting_count s.waiting) (λ i from below. few_each s h i (omega arith))) own.few) (omega arith)
 
 -- The entry of an identity, found in a slot, has departed.
-pub left_departed : (w : List ℕ) (identity slot : ℕ) → Found w identity (waiting_count w) slot → slot < waiting_count w
-    → left_by w slot ≡ departed w identity
-left_departed w identity slot f l = rw (found_others identity w slot f l, found_entry identity w slot f l) refl
+pub left_departed : (w : List ℕ) (identity slot : ℕ) → FirstWith w identity (waiting_count w) slot → left_by w slot ≡ departed w identity
+left_departed w identity slot f = rw (found_others identity w slot f, found_entry identity w slot f) refl

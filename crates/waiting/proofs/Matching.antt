@@ -22,7 +22,7 @@ use Rattle.movements.proofs.Allowed.{list_short}
 use Rattle.ancestry.proofs.Fitting.{ancestry_fits}
 use Rattle.entries.specs.Entries.{waiting_count, entries, is_waiting}
 use Rattle.entries.specs.Waiting.{Lent, Match, match_rule, waiting_rule, waiting_step}
-use Rattle.arrivals.specs.inner.Found.{Found}
+use Rattle.arrivals.specs.inner.Found.{FirstWith}
 use Rattle.arrivals.proofs.Finding.{found, found_entry}
 use Rattle.waiting.specs.inner.Parts.{listed_needs, Fitting, movement_fits}
 use Rattle.waiting.proofs.Known.{Known, known}
@@ -86,7 +86,7 @@ module _ (s : Lent) (movements : List ℕ) (i identity place : ℕ) where
     unfolding waiting_rule match_rule first_refusal
     match_gone t = rw (h.list, h.ready.memory, h.ready.waiting, own_test, inside_test, h.all, t) refl
 
-    module _ (slot : ℕ) (f : Found s.waiting identity (waiting_count s.waiting) slot) (there : slot < waiting_count s.waiting) where
+    module _ (slot : ℕ) (f : FirstWith s.waiting identity (waiting_count s.waiting) slot) where
       abbrev fits_in : Bool
       fits_in = movement_fits s.memory.table s.memory.blocks s.waiting (movement movements place) i slot place
 
@@ -100,8 +100,8 @@ module _ (s : Lent) (movements : List ℕ) (i identity place : ℕ) where
             own_test,
             inside_test,
             h.all,
-            found identity s.waiting slot f there,
-            found_entry identity s.waiting slot f there,
+            found identity s.waiting slot f,
+            found_entry identity s.waiting slot f,
           )
           (three_fail _ _ _ wrong_certificate e)
 
@@ -115,8 +115,8 @@ module _ (s : Lent) (movements : List ℕ) (i identity place : ℕ) where
             own_test,
             inside_test,
             h.all,
-            found identity s.waiting slot f there,
-            found_entry identity s.waiting slot f there,
+            found identity s.waiting slot f,
+            found_entry identity s.waiting slot f,
           )
           (three_hold _ _ _ wrong_certificate e)
 

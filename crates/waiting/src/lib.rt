@@ -80,7 +80,7 @@ pub fn enter(table: &[u32], log: &[u32], blocks: &[u32], waiting: &mut [u32], e:
         return refused(WRONG_MOVEMENT);
     }
     let count = waiting[WAITING_COUNT_AT] as usize;
-    if arrivals::find(waiting, e.identity, count) < count {
+    if arrivals::find(waiting, e.identity, count).is_some() {
         return refused(WRONG_IDENTITY);
     }
     if (MAX_WAITING as usize) <= count {
@@ -117,10 +117,9 @@ pub fn withdraw(
         return refused(WRONG_FORM);
     }
     let count = waiting[WAITING_COUNT_AT] as usize;
-    let slot = arrivals::find(waiting, identity, count);
-    if count <= slot {
+    let Some(slot) = arrivals::find(waiting, identity, count) else {
         return refused(WRONG_IDENTITY);
-    }
+    };
     leave(waiting, slot);
     accepted(0, 0)
 }
@@ -173,7 +172,7 @@ fn fits(
 {
     let e = arrivals::entry_in(waiting, slot);
     let unused = waiting[arrivals::place_at(place)] == 0;
-    if !((x.giver == e.giver) & (x.taker == e.taker) & (x.pallets == e.pallets) & unused) {
+    if !((x.transfer() == e.transfer()) & unused) {
         return false;
     }
     let decided = records::replica_in(table, replica).decided_block;
@@ -203,10 +202,9 @@ pub fn match_entry(
         return refused(tested.refusal());
     };
     let count = waiting[WAITING_COUNT_AT] as usize;
-    let slot = arrivals::find(waiting, identity, count);
-    if count <= slot {
+    let Some(slot) = arrivals::find(waiting, identity, count) else {
         return refused(WRONG_IDENTITY);
-    }
+    };
     let x = movements::movement_in(movements, place as usize);
     if !fits(table, blocks, waiting, x, replica, slot, place) {
         return refused(WRONG_CERTIFICATE);

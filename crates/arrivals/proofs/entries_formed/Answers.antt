@@ -1,18 +1,18 @@
-use mathlib.Core.Path.{refl}
 use native.Mathlib.Omega.{arith}
-use Rattle.protocol.specs.Form.{all_below}
-use Rattle.protocol.proofs.logic.Below.{one_more}
-use Rattle.arrivals.proofs.entries_formed.Invariants.{test}
+use mathlib.Core.Path.{refl, ◌∙◌}
+use mathlib.Core.Bool.{true, ◌&&◌}
+use borrow.Author.Tests.{tests}
+use Rattle.std.proofs.Common.{rules}
+use Rattle.std.proofs.lemmas.Iterator.{YieldsList-from_range}
+use Rattle.std.proofs.lemmas.Iterator.Consumers.{fold_from_yields_List}
+use Rattle.entries.specs.Entries.{entry, entry_allowed}
+use Rattle.movements.proofs.Ranges.{all_folded}
 use Rattle.arrivals.proofs.entries_formed.Goals as goal
 
-pub loop-slot-init : goal.loop-slot-init
-unfolding all_below
-loop-slot-init c = (omega arith, refl)
-
-pub loop-slot-preserved : goal.loop-slot-preserved
-loop-slot-preserved c =
-    let a = c.args in (
-      omega (arith, c.loop-slot-test.true),
-      rw (c.is_allowed-formed.ensures, c.entry_in.ensures, c.loop-slot.invariant.1)
-          (one_more (test a.waiting.now a.replicas) c.loop-slot.slot),
-    )
+pub returns : goal.returns
+returns c =
+    let a = c.args in
+    fold_from_yields_List _ (λ so_far k. so_far && entry_allowed a.replicas (entry a.waiting.now k)) true _ c.fold.ensures.ran
+    (YieldsList-from_range 0 a.count a.count refl (omega arith))
+    (λ z x b q k. search (rules, tests))
+    ∙ all_folded _ a.count

@@ -1,12 +1,8 @@
 -- The tally so far is that of the entries passed, from the last on.
-use Prim.Native.Nat.{◌≤◌}
 use mathlib.Core.Path.{◌≡◌}
 use Rattle.entries.specs.Entries.{waiting_count}
 use Rattle.arrivals.proofs.Tallies.{tally_from}
 use Rattle.arrivals.proofs.tally.Given as goal
 
 abbrev pub invariant-loop-slot : goal.invariant-loop-slot
-invariant-loop-slot l = (l.slot ≤ waiting_count l.waiting) × (l.so_far ≡ tally_from l.waiting l.taker (waiting_count l.waiting) l.slot)
-
-abbrev pub decreases-loop-slot : goal.decreases-loop-slot
-decreases-loop-slot l = l.slot
+invariant-loop-slot l = l.so_far ≡ tally_from l.waiting l.taker (waiting_count l.waiting) l.slot

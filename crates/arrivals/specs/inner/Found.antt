@@ -1,15 +1,31 @@
 -- What finding an entry tells, and what a taker's words may be written from.
-use Rattle.std.specs.Prelude.{ℕ, ◌+◌, ◌-◌, ◌≤◌, ◌<◌, ◌≡◌, Bool, cond, List, ◌++◌, length, eqb}
+use Rattle.std.specs.Prelude.{ℕ, ◌+◌, ◌-◌, ◌≤◌, ◌<◌, ◌≡◌, Bool, cond, List, ◌++◌, length, eqb, Option, None, Some}
 use Rattle.movements.specs.Movements.{max_pallets}
-use Rattle.entries.specs.Entries.{max_waiting, max_replicas, waiting_words, waiting_count, entry, entries_from, pallets_for, earliest_for}
+use Rattle.entries.specs.Entries.{max_waiting, max_replicas, waiting_words, waiting_count, entry_at, entry_width, entry}
+use Rattle.entries.specs.Entries.{entries_from, pallets_for, earliest_for}
 use Rattle.entries.specs.declared.Entry.{Entry}
 use Rattle.arrivals.specs.declared.TakerTally.{TakerTally}
 
--- A slot up to a count: no entry before it has the identity, and its own has, unless it is the count.
-pub record Found (w : List ℕ) (identity count slot : ℕ) : Type 0 where
-  pub within : slot ≤ count
-  pub before : (k : ℕ) → k < slot → (entry w k).identity ≡ identity → ⊥
-  pub there : slot < count → (entry w slot).identity ≡ identity
+-- A slice that has the words of a slot, and those of so many slots.
+abbrev pub HasSlot : List ℕ → ℕ → Type 0
+HasSlot w slot = (entry_at slot + entry_width ≤ length w) × (entry_at slot ≤ waiting_words)
+
+abbrev pub HasSlots : List ℕ → ℕ → Type 0
+HasSlots w count = (entry_at count ≤ length w) × (entry_at count ≤ waiting_words)
+
+-- No entry below a slot has the identity.
+abbrev pub NoneBelow : List ℕ → ℕ → ℕ → Type 0
+NoneBelow w identity slot = (k : ℕ) → k < slot → (entry w k).identity ≡ identity → ⊥
+
+-- The slot of the first entry below a count that has the identity, or none where no entry below it has.
+pub record FirstWith (w : List ℕ) (identity count slot : ℕ) : Type 0 where
+  pub within : slot < count
+  pub before : NoneBelow w identity slot
+  pub there : (entry w slot).identity ≡ identity
+
+abbrev pub Found : List ℕ → ℕ → ℕ → Option ℕ → Type 0
+Found w identity count None = NoneBelow w identity count
+Found w identity count (Some slot) = FirstWith w identity count slot
 
 abbrev pub has_identity : List ℕ → ℕ → ℕ → Bool
 has_identity w identity k = eqb (entry w k).identity identity

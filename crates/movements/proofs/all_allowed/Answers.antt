@@ -1,25 +1,17 @@
-use mathlib.Core.Path.{refl}
 use native.Mathlib.Omega.{arith}
-use Rattle.protocol.specs.Form.{all_below}
-use Rattle.protocol.proofs.logic.Below.{next, refuted_one}
-use Rattle.protocol.proofs.logic.Joined.{denied, granted}
-use Rattle.movements.proofs.all_allowed.Invariants.{test}
+use mathlib.Core.Path.{refl, ◌∙◌}
+use borrow.Author.Tests.{tests}
+use Rattle.std.proofs.Common.{rules}
+use Rattle.std.proofs.lemmas.Iterator.{YieldsList-from_range}
+use Rattle.std.proofs.lemmas.Iterator.Search.{all_from_yields_List}
+use Rattle.movements.specs.Movements.{movement, movement_count, movement_allowed}
+use Rattle.movements.proofs.Ranges.{all_of_range}
 use Rattle.movements.proofs.all_allowed.Goals as goal
 
-pub loop-place-init : goal.loop-place-init
-unfolding all_below
-loop-place-init c = (omega arith, refl)
-
-pub returns-then-not-is_allowed : goal.returns-then-not-is_allowed
-returns-then-not-is_allowed c =
+pub returns : goal.returns
+returns c =
     let a = c.args in
-    refuted_one (test a.movements.now a.replicas a.added) c.loop-place.place _ c.loop-place-test.true
-    (rw c.movement_in.ensures at (denied c.is_allowed.ensures c.if-not-is_allowed.true))
-
-pub loop-place-preserved : goal.loop-place-preserved
-loop-place-preserved c =
-    let a = c.args in (
-      omega (arith, c.loop-place-test.true),
-      next (test a.movements.now a.replicas a.added) c.loop-place.place c.loop-place.invariant.1
-          (rw c.movement_in.ensures at (granted c.is_allowed.ensures c.if-not-is_allowed.false)),
-    )
+    all_from_yields_List (λ k. movement_allowed a.replicas a.added (movement a.movements.now k)) _ _ _ c.all.ensures.ran
+    (YieldsList-from_range 0 _ (movement_count a.movements.now) refl (omega arith))
+    (λ x b q k. search (rules, tests))
+    ∙ all_of_range _ (movement_count a.movements.now)

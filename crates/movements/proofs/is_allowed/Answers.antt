@@ -1,8 +1,9 @@
-use mathlib.Core.List.{[], ◌∷◌}
-use Rattle.protocol.proofs.logic.Joined.{joined_all}
+use mathlib.Core.Path.{refl}
+use Rattle.std.proofs.Math.Bool.{and_assoc}
+use Rattle.protocol.specs.Form.{all_hold}
 use Rattle.movements.specs.Movements.{movement_allowed}
 use Rattle.movements.proofs.is_allowed.Goals as goal
 
 pub returns : goal.returns
-unfolding movement_allowed
-returns c = joined_all _ (_ ∷ _ ∷ _ ∷ _ ∷ _ ∷ _ ∷ [])
+unfolding movement_allowed all_hold
+returns c = rw (c.is_allowed.ensures, c.transfer.ensures, and_assoc) refl

@@ -10,10 +10,10 @@ use Rattle.ancestry.specs.inner.AncestryFits.{AncestryFits}
 use Rattle.netting.specs.Netting.{balance_after, balance_by}
 use Rattle.netting.specs.Theorems.{max_balance}
 
--- Pallets may be added to a firm's balance, or taken from it.
-pub record Movable (balances : List ℤ) (firm pallets : ℕ) : Type 0 where
+-- Pallets may be added to a firm's balance.
+pub record Movable (balances : List ℤ) (firm : ℕ) (pallets : ℤ) : Type 0 where
   pub there : firm < length balances
-  pub few : pallets ≤ max_pallets
+  pub few : nat_abs pallets ≤ max_pallets
   pub small : nat_abs (get_or balances firm (pos 0)) ≤ max_balance
 
 -- A movement counts where its block is marked.

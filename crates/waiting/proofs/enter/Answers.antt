@@ -1,9 +1,9 @@
 use native.Mathlib.Omega.{arith}
-use mathlib.Core.Path.{refl, ap}
+use mathlib.Core.Path.{refl, sym, ap, ◌∙◌}
 use Rattle.protocol.specs.Memory.{memory}
 use Rattle.protocol.proofs.logic.Joined.{denied, granted}
 use Rattle.entries.specs.Waiting.{lent, Enter, waiting_rule, enter_rule}
-use Rattle.arrivals.proofs.Finding.{not_found, found}
+use Rattle.arrivals.proofs.Finding.{waits}
 use Rattle.waiting.proofs.Answering.{stops, passes}
 use Rattle.waiting.proofs.Known.{known}
 use Rattle.waiting.proofs.Leaving.{entered_refreshable}
@@ -34,19 +34,19 @@ find-requires c =
     let h = known _ (granted c.is_ready.ensures c.if-not-is_ready.false) in
     (omega (arith, h.size, h.few), omega (arith, h.few))
 
-pub returns-then-find-count : goal.returns-then-find-count
-returns-then-find-count c =
+pub returns-then-is_some : goal.returns-then-is_some
+returns-then-is_some c =
     let h = known _ (granted c.is_ready.ensures c.if-not-is_ready.false) in
-    stops _ (Enter _) 13 c.refused-then-find-count.ensures
+    stops _ (Enter _) 13 c.refused-then-is_some.ensures
     (enter_again _ _ h (rw c.replica_count.ensures at (granted c.is_allowed.ensures c.if-not-is_allowed.false))
-    (found _ _ _ c.find.ensures c.if-find-count.true)) (λ z. omega arith)
+    (waits _ _ c.find.result c.find.ensures ∙ sym c.is_some.ensures ∙ c.if-is_some.true)) (λ z. omega arith)
 
 pub returns-then-count : goal.returns-then-count
 returns-then-count c =
     let h = known _ (granted c.is_ready.ensures c.if-not-is_ready.false) in
     stops _ (Enter _) 14 c.refused-then-count.ensures
     (enter_full _ _ h (rw c.replica_count.ensures at (granted c.is_allowed.ensures c.if-not-is_allowed.false))
-    (not_found _ _ _ c.find.ensures (omega (arith, c.if-find-count.false))) c.if-count.true) (λ z. omega arith)
+    (waits _ _ c.find.result c.find.ensures ∙ sym c.is_some.ensures ∙ c.if-is_some.false) c.if-count.true) (λ z. omega arith)
 
 pub append-requires : goal.append-requires
 append-requires c =
@@ -71,4 +71,4 @@ returns c =
     passes (lent m a.waiting.now) (Enter a.e) c.accepted.ensures
     (ap (lent m) (rw (c.refresh.ensures, c.append.ensures) refl))
     (enter_passes _ a.e h (rw c.replica_count.ensures at (granted c.is_allowed.ensures c.if-not-is_allowed.false))
-    (not_found _ _ _ c.find.ensures (omega (arith, c.if-find-count.false))) (omega (arith, c.if-count.false)))
+    (waits _ _ c.find.result c.find.ensures ∙ sym c.is_some.ensures ∙ c.if-is_some.false) (omega (arith, c.if-count.false)))

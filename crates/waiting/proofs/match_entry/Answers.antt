@@ -25,18 +25,18 @@ returns-in_default c =
 pub bounds-waiting-0 : goal.bounds-waiting-0
 bounds-waiting-0 c = omega (arith, (listed _ _ _ 0 _ c.test_movements-tested.ensures c.in-Passed.is).ready.size)
 
-pub find-slot-requires : goal.find-slot-requires
-find-slot-requires c =
+pub find-requires : goal.find-requires
+find-requires c =
     let h = listed _ _ _ 0 _ c.test_movements-tested.ensures c.in-Passed.is in
     (omega (arith, h.ready.size, h.ready.few), omega (arith, h.ready.few))
 
-pub returns-then-count-slot : goal.returns-then-count-slot
-returns-then-count-slot c =
+pub returns-in_default-find : goal.returns-in_default-find
+returns-in_default-find c =
     let a = c.args in
     let h = listed _ _ _ a.identity _ c.test_movements-tested.ensures c.in-Passed.is in
     ap (with _)
-    (stops _ (Match _ _ _ _) 13 c.refused-then-count-slot.ensures
-    (match_gone _ _ _ _ _ h (not_found _ _ _ c.find-slot.ensures c.if-count-slot.true)) (λ z. omega arith))
+    (stops _ (Match _ _ _ _) 13 c.refused-in_default-find.ensures
+    (match_gone _ _ _ _ _ h (not_found _ _ c.in_default-find.ensures)) (λ z. omega arith))
 
 pub movement_in-x-requires : goal.movement_in-x-requires
 movement_in-x-requires c =
@@ -46,7 +46,7 @@ movement_in-x-requires c =
 pub fits-requires : goal.fits-requires
 fits-requires c =
     let h = listed _ _ _ 0 _ c.test_movements-tested.ensures c.in-Passed.is in
-    fitting _ _ _ _ _ h _ (omega (arith, c.if-count-slot.false))
+    fitting _ _ _ _ _ h _ c.in-Some.ensures.within
 
 pub returns-then-not-fits : goal.returns-then-not-fits
 returns-then-not-fits c =
@@ -54,13 +54,13 @@ returns-then-not-fits c =
     let h = listed _ _ _ a.identity _ c.test_movements-tested.ensures c.in-Passed.is in
     ap (with _)
     (stops _ (Match _ _ _ _) 5 c.refused-then-not-fits.ensures
-    (match_unfit _ _ _ _ _ h _ c.find-slot.ensures (omega (arith, c.if-count-slot.false))
+    (match_unfit _ _ _ _ _ h _ c.in-Some.ensures
     (rw c.movement_in-x.ensures at (denied c.fits.ensures c.if-not-fits.true))) (λ z. omega arith))
 
 pub leave-requires : goal.leave-requires
 leave-requires c =
     let h = listed _ _ _ 0 _ c.test_movements-tested.ensures c.in-Passed.is in
-    leavable _ h.ready _ (omega (arith, c.if-count-slot.false))
+    leavable _ h.ready _ c.in-Some.ensures.within
 
 pub bounds-waiting-place_at : goal.bounds-waiting-place_at
 bounds-waiting-place_at c =
@@ -81,6 +81,6 @@ returns c =
     (ap (lent m)
     (rw c.place_at.ensures
     (ap (λ (w : List ℕ). set w (place_at a.place) 1)
-    (c.leave.ensures ∙ left_departed a.waiting.now a.identity _ c.find-slot.ensures (omega (arith, c.if-count-slot.false))))))
-    (match_passes _ _ _ _ _ h _ c.find-slot.ensures (omega (arith, c.if-count-slot.false))
+    (c.leave.ensures ∙ left_departed a.waiting.now a.identity _ c.in-Some.ensures))))
+    (match_passes _ _ _ _ _ h _ c.in-Some.ensures
     (rw c.movement_in-x.ensures at (granted c.fits.ensures c.if-not-fits.false))))

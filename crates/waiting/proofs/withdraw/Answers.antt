@@ -18,21 +18,21 @@ returns-then-not-is_ready c =
 pub bounds-waiting-0 : goal.bounds-waiting-0
 bounds-waiting-0 c = omega (arith, (known _ (granted c.is_ready.ensures c.if-not-is_ready.false)).size)
 
-pub find-slot-requires : goal.find-slot-requires
-find-slot-requires c =
+pub find-requires : goal.find-requires
+find-requires c =
     let h = known _ (granted c.is_ready.ensures c.if-not-is_ready.false) in
     (omega (arith, h.size, h.few), omega (arith, h.few))
 
-pub returns-then-count-slot : goal.returns-then-count-slot
-returns-then-count-slot c =
+pub returns-in_default : goal.returns-in_default
+returns-in_default c =
     let h = known _ (granted c.is_ready.ensures c.if-not-is_ready.false) in
-    stops _ (Withdraw _) 13 c.refused-then-count-slot.ensures (withdraw_gone _ _ h (not_found _ _ _ c.find-slot.ensures c.if-count-slot.true))
+    stops _ (Withdraw _) 13 c.refused-in_default.ensures (withdraw_gone _ _ h (not_found _ _ c.in_default.ensures))
     (λ z. omega arith)
 
 pub leave-requires : goal.leave-requires
 leave-requires c =
     let h = known _ (granted c.is_ready.ensures c.if-not-is_ready.false) in
-    leavable _ h _ (omega (arith, c.if-count-slot.false))
+    leavable _ h _ c.in-Some.ensures.within
 
 pub returns : goal.returns
 unfolding waiting_rule withdraw_rule
@@ -41,5 +41,5 @@ returns c =
     let m = memory a.table.now a.log.now a.blocks.now in
     let h = known (lent m a.waiting.now) (granted c.is_ready.ensures c.if-not-is_ready.false) in
     passes (lent m a.waiting.now) (Withdraw _) c.accepted.ensures
-    (ap (lent m) (c.leave.ensures ∙ left_departed a.waiting.now a.identity _ c.find-slot.ensures (omega (arith, c.if-count-slot.false))))
-    (withdraw_passes _ _ h (found _ _ _ c.find-slot.ensures (omega (arith, c.if-count-slot.false))))
+    (ap (lent m) (c.leave.ensures ∙ left_departed a.waiting.now a.identity _ c.in-Some.ensures))
+    (withdraw_passes _ _ h (found _ _ _ c.in-Some.ensures))

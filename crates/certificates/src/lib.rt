@@ -17,10 +17,7 @@ ghost use Rattle.certificates.specs.inner.Filing.{
   filing_refusal,
 };
 
-use certificate_log::{
-    CERTIFICATE_WORDS, Certificate, KIND_AT, OF_VIEW_AT, PROPOSED_BLOCK_AT, SIGNER_AT,
-    SIGNER_BOOT_AT, SUBJECT_AT, SUBJECT_BOOT_AT, VIEW_AT,
-};
+use certificate_log::{CERTIFICATE_WORDS, Certificate, VIEW_AT};
 use protocol::{ACCEPTED, NO_ROOM};
 use table::CERTIFICATE_COUNT_AT;
 
@@ -56,19 +53,17 @@ impl Filed {
     }
 }
 
-// Whether the certificate whose words start at an index equals this one.
-fn is_equal(log: &[u32], start: usize, c: Certificate) -> bool
+// Whether the certificate whose words start at an index has these words. All are compared and joined by `&`: a comparison of slices
+// leaves at the first that differs, and is slower where many agree in the first.
+fn is_equal(log: &[u32], start: usize, words: &[u32; CERTIFICATE_WORDS]) -> bool
     requires { start + certificate_words ≤ length log.now }
-    ensures { result ≡ equal_from log.now start (words (certificate_of c)) }
+    ensures { result ≡ equal_from log.now start words.now }
 {
-    (log[start + KIND_AT] == c.kind)
-        & (log[start + SIGNER_AT] == c.signer)
-        & (log[start + VIEW_AT] == c.view)
-        & (log[start + PROPOSED_BLOCK_AT] == c.block)
-        & (log[start + OF_VIEW_AT] == c.of_view)
-        & (log[start + SUBJECT_AT] == c.subject)
-        & (log[start + SUBJECT_BOOT_AT] == c.subject_boot)
-        & (log[start + SIGNER_BOOT_AT] == c.signer_boot)
+    let mut equal = true;
+    for (i, word) in words.iter().enumerate() {
+        equal &= log[start + i] == *word;
+    }
+    equal
 }
 
 // Whether a certificate of the log is of another view.
@@ -97,19 +92,15 @@ fn find(log: &[u32], count: u32, c: Certificate) -> u32
     ensures { result ≡ first_below count (is_equal_rule log.now (words (certificate_of c))) }
 {
     let end = count as usize;
-    let view = c.view;
-    let mut number: usize = 0;
-    while number + 4 <= end {
-        if !four_of_other_views(log, number, view) {
-            break;
-        }
-        number += 4;
+    let mut first: usize = 0;
+    while first + 4 <= end && four_of_other_views(log, first, c.view) {
+        first += 4;
     }
-    while number < end {
-        if is_equal(log, CERTIFICATE_WORDS * number, c) {
+    let words = c.words();
+    for number in first..end {
+        if is_equal(log, CERTIFICATE_WORDS * number, &words) {
             return number as u32;
         }
-        number += 1;
     }
     count
 }
@@ -122,14 +113,7 @@ fn append(table: &mut [u32], log: &mut [u32], c: Certificate)
 {
     let count = table[CERTIFICATE_COUNT_AT];
     let start = CERTIFICATE_WORDS * (count as usize);
-    log[start + KIND_AT] = c.kind;
-    log[start + SIGNER_AT] = c.signer;
-    log[start + VIEW_AT] = c.view;
-    log[start + PROPOSED_BLOCK_AT] = c.block;
-    log[start + OF_VIEW_AT] = c.of_view;
-    log[start + SUBJECT_AT] = c.subject;
-    log[start + SUBJECT_BOOT_AT] = c.subject_boot;
-    log[start + SIGNER_BOOT_AT] = c.signer_boot;
+    log[start..start + CERTIFICATE_WORDS].copy_from_slice(&c.words());
     table[CERTIFICATE_COUNT_AT] = count + 1;
 }
 

@@ -85,35 +85,35 @@ fn four_of_other_views(log: &[u32], number: usize, view: u32) -> bool
         & is_of_other_view(log, number + 3, view)
 }
 
-// The first of so many certificates that equals this one, or their count. Four of other views are passed at a time, up to
+// The first of so many certificates that has these words, or their count. Four of other views are passed at a time, up to
 // the first four with one of its view.
-fn find(log: &[u32], count: u32, c: Certificate) -> u32
+fn find(log: &[u32], count: u32, words: &[u32; CERTIFICATE_WORDS]) -> u32
     requires { certificate_at count ≤ length log.now }
-    ensures { result ≡ first_below count (is_equal_rule log.now (words (certificate_of c))) }
+    ensures { result ≡ first_below count (is_equal_rule log.now words.now) }
 {
     let end = count as usize;
+    let view = words[VIEW_AT];
     let mut first: usize = 0;
-    while first + 4 <= end && four_of_other_views(log, first, c.view) {
+    while first + 4 <= end && four_of_other_views(log, first, view) {
         first += 4;
     }
-    let words = c.words();
     for number in first..end {
-        if is_equal(log, CERTIFICATE_WORDS * number, &words) {
+        if is_equal(log, CERTIFICATE_WORDS * number, words) {
             return number as u32;
         }
     }
     count
 }
 
-// Writes a certificate at the log's next slot, and counts it.
-fn append(table: &mut [u32], log: &mut [u32], c: Certificate)
+// Writes a certificate of these words at the log's next slot, and counts it.
+fn append(table: &mut [u32], log: &mut [u32], words: &[u32; CERTIFICATE_WORDS])
     requires { LogHasRoom table.old log.old }
     ensures { (b : List ℕ) → memory table.new log.new b
-        ≡ append_certificate (memory table.old log.old b) (words (certificate_of c)) }
+        ≡ append_certificate (memory table.old log.old b) words.now }
 {
     let count = table[CERTIFICATE_COUNT_AT];
     let start = CERTIFICATE_WORDS * (count as usize);
-    log[start..start + CERTIFICATE_WORDS].copy_from_slice(&c.words());
+    log[start..start + CERTIFICATE_WORDS].copy_from_slice(words);
     table[CERTIFICATE_COUNT_AT] = count + 1;
 }
 
@@ -124,13 +124,14 @@ pub fn file(table: &mut [u32], log: &mut [u32], c: Certificate) -> Filed
     ensures { (b : List ℕ) → leaves result table.new log.new b
         ≡ filing (memory table.old log.old b) (words (certificate_of c)) }
 {
+    let words = c.words();
     let count = table[CERTIFICATE_COUNT_AT];
-    let number = find(log, count, c);
+    let number = find(log, count, &words);
     if number < count {
         return Filed::At(number, FOUND);
     }
     if CERTIFICATE_WORDS * (count as usize) < log.len() {
-        append(table, log, c);
+        append(table, log, &words);
         return Filed::At(number, APPENDED);
     }
     Filed::Refused(NO_ROOM)

@@ -6,14 +6,11 @@ use Rattle.protocol.specs.Form.{all_below}
 use Rattle.blocks.specs.inner.Records.{block_ok}
 use Rattle.blocks.proofs.blocks_formed.Given as goal
 
+abbrev pub invariant-loop-first : goal.invariant-loop-first
+invariant-loop-first l = (1 ≤ l.first) × ((l.first ≤ l.added) × (all_below l.first (block_ok l.blocks) ≡ true))
+
+abbrev pub decreases-loop-first : goal.decreases-loop-first
+decreases-loop-first l = l.added - l.first
+
 abbrev pub invariant-loop-block : goal.invariant-loop-block
-invariant-loop-block l = (1 ≤ l.block) × ((l.block ≤ l.added) × (all_below l.block (block_ok l.blocks) ≡ true))
-
-abbrev pub decreases-loop-block : goal.decreases-loop-block
-decreases-loop-block l = l.added - l.block
-
-abbrev pub invariant-loop-block-2 : goal.invariant-loop-block-2
-invariant-loop-block-2 l = (1 ≤ l.block) × ((l.block ≤ l.added) × (all_below l.block (block_ok l.blocks) ≡ true))
-
-abbrev pub decreases-loop-block-2 : goal.decreases-loop-block-2
-decreases-loop-block-2 l = l.added - l.block
+invariant-loop-block l = all_below l.block (block_ok l.blocks) ≡ true

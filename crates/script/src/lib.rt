@@ -22,7 +22,7 @@ ghost use Rattle.script.specs.inner.Reading.{line_read};
 use checks::refused;
 use field::COLUMNS;
 use protocol::{ACCEPTED, Answer, UNREADABLE};
-use reader::Read;
+use reader::Reader;
 
 // A line's fields.
 const MIN_FIELDS: usize = 3;
@@ -45,37 +45,22 @@ pub const LINE_FEED: u8 = 10;
 // Four fields and a line feed.
 pub const ANSWER_BYTES: usize = 4 * COLUMNS + 1;
 
-// Reads the numbers of a line, field after field; gives the column reached, the line's end, or the refusal.
-fn read_numbers(line: &[u8], given: &mut [u32]) -> Read
+// Reads the numbers of a line, field after field; gives how many there are, or none where it is no line of numbers.
+fn read_numbers(line: &[u8], given: &mut [u32]) -> Option<usize>
     requires { length given.old ≡ max_fields }
     ensures value { result ≡ line_read line.now }
     ensures given_after { has_numbers line.now ≡ true
         → take (field_count line.now) given.new ≡ numbers line.now (field_count line.now) }
 {
     let count = line.len() / COLUMNS;
-    if COLUMNS * count != line.len() {
-        return Read::Refused(UNREADABLE);
+    if COLUMNS * count != line.len() || count < MIN_FIELDS || MAX_FIELDS < count {
+        return None;
     }
-    if count < MIN_FIELDS {
-        return Read::Refused(UNREADABLE);
+    let mut reader = Reader { line, column: 0 };
+    for place in &mut given[..count] {
+        *place = reader.next()?;
     }
-    if MAX_FIELDS < count {
-        return Read::Refused(UNREADABLE);
-    }
-    let mut column = 0;
-    let mut i = 0;
-    // The last field ends where the line does. By this test the compiler knows the column after the loop, which `<` would not tell it.
-    while column != line.len() {
-        let mut number = 0;
-        let read = reader::read_field(line, column, &mut number);
-        let Read::To(next) = read else {
-            return read;
-        };
-        given[i] = number;
-        i += 1;
-        column = next;
-    }
-    Read::To(column)
+    Some(count)
 }
 
 // How many words of the table are lent for f.
@@ -155,11 +140,9 @@ pub fn answer_line(
         line.now }
 {
     let mut given = [0u32; MAX_FIELDS];
-    let read = read_numbers(line, &mut given);
-    let Read::To(column) = read else {
-        return refused(read.refusal());
+    let Some(count) = read_numbers(line, &mut given) else {
+        return refused(UNREADABLE);
     };
-    let count = column / COLUMNS;
     answer_numbers(table, log, blocks, fault_bound, &given[..count])
 }
 

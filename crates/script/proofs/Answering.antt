@@ -1,7 +1,10 @@
 -- The ways that a line is answered.
 use Rattle.std.proofs.Common.{ℕ, ◌≤◌, ◌≡◌, refl, true, false, List, take, None, Some}
-use Rattle.protocol.specs.declared.Answer.{Answer}
-use Rattle.protocol.specs.Outcome.{told, unreadable}
+use Rattle.std.specs.Prelude.{Result, Err}
+use Rattle.protocol.specs.declared.Values.{Values}
+use Rattle.protocol.specs.declared.Refusal.{Refusal}
+use Rattle.protocol.specs.declared.Refusal.TheVariants.{Unreadable}
+use Rattle.protocol.specs.Outcome.{told}
 use Rattle.protocol.proofs.logic.Booleans.{by-test}
 use Rattle.script.specs.Lines.{min_fields, max_fields, field_count, numbers, has_numbers}
 use Rattle.script.specs.inner.Reading.{line_read}
@@ -21,11 +24,9 @@ module _ (line : List ℕ) where
   count e = let r = is_read e in let d = readable line r.0 in rw r.1 (d.enough, d.few)
 
   module _ (s : Session) where
-    pub line_refused : {a : Answer} → None ≡ line_read line
-        → a ≡ record { number = unreadable; first = 0; second = 0 }
-        → ◌≡◌ {A = Answered} (record { answer = told a; session = s }) (answer_line s line)
+    pub line_refused : None ≡ line_read line → ◌≡◌ {A = Answered} (record { answer = told (Err Unreadable); session = s }) (answer_line s line)
     unfolding answer_line
-    line_refused e y = rw (not_readable e, y) refl
+    line_refused e = rw (not_readable e) refl
 
     pub line_answered : {n : ℕ} (held : List ℕ) {o : Answered} → Some n ≡ line_read line
         → (has_numbers line ≡ true → take (field_count line) held ≡ numbers line (field_count line))

@@ -19,9 +19,8 @@ ghost use Rattle.script.specs.Session.{
 ghost use Rattle.script.specs.Text.{answer_text, answer_bytes, Printable};
 ghost use Rattle.script.specs.inner.Reading.{line_read};
 
-use checks::refused;
 use field::COLUMNS;
-use protocol::{ACCEPTED, Answer, UNREADABLE};
+use protocol::{Answer, Refusal};
 use reader::Reader;
 
 // A line's fields.
@@ -120,7 +119,7 @@ fn answer_numbers(
 {
     let f = fault_bound_for(*fault_bound, given[CODE_FIELD], given[REPLICA_FIELD]);
     let answer = call_lent(table, log, blocks, f, given);
-    if answer.number == ACCEPTED {
+    if answer.is_ok() {
         *fault_bound = f;
     }
     answer
@@ -141,7 +140,7 @@ pub fn answer_line(
 {
     let mut given = [0u32; MAX_FIELDS];
     let Some(count) = read_numbers(line, &mut given) else {
-        return refused(UNREADABLE);
+        return Err(Refusal::Unreadable);
     };
     answer_numbers(table, log, blocks, fault_bound, &given[..count])
 }
@@ -161,9 +160,10 @@ pub fn put_answer(text: &mut [u8], at: usize, line: u32, answer: Answer)
     requires line_le_max_number { (line ≤ max_number) × Printable (told answer) }
     ensures { take (at + answer_bytes) text.new ≡ take at text.old ++ answer_text line (told answer) }
 {
+    let values = protocol::values_of(answer);
     put_number(text, at, line);
-    put_number(text, at + COLUMNS, answer.number);
-    put_number(text, at + 2 * COLUMNS, answer.first);
-    put_number(text, at + 3 * COLUMNS, answer.second);
+    put_number(text, at + COLUMNS, protocol::number_of(answer));
+    put_number(text, at + 2 * COLUMNS, values.first);
+    put_number(text, at + 3 * COLUMNS, values.second);
     text[at + 4 * COLUMNS] = LINE_FEED;
 }

@@ -5,7 +5,7 @@ use Rattle.script.proofs.Answering.{count, line_refused, line_answered}
 use Rattle.script.proofs.answer_line.Goals as goal
 
 pub returns-in_default : goal.returns-in_default
-returns-in_default c = line_refused _ _ c.in_default.ensures.value c.refused.ensures
+returns-in_default c = line_refused _ _ c.in_default.ensures.value
 
 pub slice_bounds-given-end : goal.slice_bounds-given-end
 slice_bounds-given-end c = omega (arith, count _ c.in-Some.ensures.value)

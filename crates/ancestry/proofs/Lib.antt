@@ -2,4 +2,3 @@
 pub mod Fitting
 pub mod Walks
 pub mod Marking
-pub mod Nearing

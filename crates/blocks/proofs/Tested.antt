@@ -1,25 +1,16 @@
 -- The test of a block, once those before it hold: what it may read, and that its two comparisons are the form of the block.
 use Prim.Native.Nat.{ℕ, ◌+◌, ◌≤◌, ◌<◌}
 use mathlib.Core.Path.{◌≡◌, sym}
-use mathlib.Core.Bool.{true, false}
+use mathlib.Core.Bool.{false}
 use mathlib.Core.List.{List}
 use native.Mathlib.Omega.{arith}
 use lib.Dec.{eqb}
-use Rattle.protocol.specs.Form.{all_below}
 use Rattle.protocol.proofs.logic.Booleans.{tests, by-test, at_below}
 use Rattle.protocol.proofs.memory.Blocks.{child_formed, child_form, height_bounded}
 use Rattle.blocks.specs.inner.Records.{parent_in, height_in, block_ok, Testable}
 use Rattle.protocol.proofs.logic.Joined.{same_test}
 
 module _ (blocks : List ℕ) (b more : ℕ) (t : Testable blocks b more) where
-  -- The blocks after the first.
-  pub after : (k n : ℕ) → k + n ≤ more → all_below (b + k) (block_ok blocks) ≡ true → Testable blocks (b + k) n
-  after k n le all =
-      let some = t.child in
-      let few = t.few in
-      let within = t.in_slice in
-      record { child = omega arith; few = omega arith; in_slice = omega arith; before = all }
-
   -- The parent is not below the block.
   pub not_below : b ≤ parent_in blocks b → false ≡ block_ok blocks b
   not_below le =

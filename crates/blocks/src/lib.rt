@@ -6,7 +6,6 @@ ghost use Rattle.std.specs.Prelude.{◌≡◌, [], ◌∷◌, ◌+◌, ◌≤◌
 ghost use Rattle.std.proofs.lemmas.List.Edits.{sets};
 ghost use Rattle.protocol.specs.Memory.{block_words, parent_at, height_at, block_at as block_at_rule, block_record, max_blocks};
 ghost use Rattle.protocol.specs.Form.{all_below};
-ghost use Rattle.protocol.specs.inner.Groups.{two_ok, four_ok};
 ghost use Rattle.blocks.specs.inner.Records.{parent_in, height_in, block_ok, Testable};
 
 pub const BLOCK_WORDS: usize = 2;
@@ -89,27 +88,6 @@ fn block_formed(blocks: &[u32], block: usize) -> bool
     blocks[at + HEIGHT_AT] == blocks[BLOCK_WORDS * parent + HEIGHT_AT] + 1
 }
 
-// Two blocks, one after the other, and four: the compiler inlines them. They leave at the first that fails.
-fn two_formed(blocks: &[u32], block: usize) -> bool
-    requires { Testable blocks.now block 2 }
-    ensures { result ≡ two_ok (block_ok blocks.now) block }
-{
-    if !block_formed(blocks, block) {
-        return false;
-    }
-    block_formed(blocks, block + 1)
-}
-
-fn four_formed(blocks: &[u32], block: usize) -> bool
-    requires { Testable blocks.now block 4 }
-    ensures { result ≡ four_ok (block_ok blocks.now) block }
-{
-    if !two_formed(blocks, block) {
-        return false;
-    }
-    two_formed(blocks, block + 2)
-}
-
 // Every added block, up to the first that fails.
 pub fn blocks_formed(blocks: &[u32], added: u32) -> bool
     requires { (1 ≤ added) × (added ≤ max_blocks) × (block_at_rule added ≤ length blocks.now) }
@@ -119,18 +97,10 @@ pub fn blocks_formed(blocks: &[u32], added: u32) -> bool
         return false;
     }
     let end = added as usize;
-    let mut block: usize = 1;
-    while block + 4 <= end {
-        if !four_formed(blocks, block) {
-            return false;
-        }
-        block += 4;
-    }
-    while block < end {
+    for block in 1..end {
         if !block_formed(blocks, block) {
             return false;
         }
-        block += 1;
     }
     true
 }

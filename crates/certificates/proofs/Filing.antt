@@ -1,17 +1,19 @@
 -- What filing a certificate gives, and what that tells; and its words, written.
 use Prim.Native.Nat.{ℕ, ◌+◌, ◌≤◌, ◌<◌}
-use mathlib.Core.Path.{◌≡◌, sym}
+use mathlib.Core.Path.{◌≡◌, refl, sym, ◌∙◌}
 use mathlib.Core.Bool.{true, false}
 use mathlib.Core.List.{List}
-use native.Mathlib.Omega.{arith}
 use lib.ListN.{length, set}
 use lib.Dec.{ltb}
 use Rattle.protocol.specs.Memory.{Memory, memory, certificate_count_at, certificate_at, append_certificate}
-use Rattle.protocol.specs.Certificates.{first_below, has_words, number_for, is_filed, found, appended, found_or_appended, log_has_room, can_file}
+use Rattle.protocol.specs.Certificates.{first_below, has_words, number_for, is_filed, found, appended, log_has_room, can_file}
 use Rattle.protocol.specs.Certificates.{file}
 use Rattle.protocol.specs.Outcome.{first_refusal, answered, follow, accepted, refused, left, outcome_by, no_room}
-use Rattle.protocol.proofs.logic.Booleans.{tests, by-test}
-use Rattle.protocol.proofs.memory.Words.{stored, stored_all}
+use Rattle.protocol.proofs.logic.Booleans.{tests}
+use Rattle.std.proofs.lemmas.Slice.{put_mid-paste}
+use Rattle.std.proofs.lemmas.List.Edits.{sets, sets-eq}
+use borrow.Rule.Slice.PartMut.{put_mid}
+use lib.Seq.{take-length}
 use Rattle.certificate_log.specs.inner.LogFits.{count_in}
 use Rattle.certificates.specs.inner.Filing.{equal_from, is_equal, filing}
 
@@ -41,10 +43,15 @@ module _ (t l ws : List ℕ) (n : ℕ) (e : n ≡ first_below (count_in t) (is_e
       let full : log_has_room (memory t l b) ≡ false = omega tests in
       rw (searched, q, full)
 
--- ---- words, written one after the other
+-- ---- words, copied to the next slot
 
-pub written : (t l b ws : List ℕ)
-    → memory (set t certificate_count_at (count_in t + 1)) (stored l (certificate_at (count_in t)) 0 ws) b
+copied : (l ys ws : List ℕ) (start k : ℕ) → ys ≡ ws → k ≡ length ws → start + length ws ≤ length l → put_mid start k l ys ≡ sets l start ws
+copied l ys ws start k same size fits =
+    put_mid-paste start k l ys ws (length ws) same (sym size) refl
+    ∙ rw (take-length ws) (sym (sets-eq ws l start fits))
+
+pub written : (t l b ys ws : List ℕ) (k : ℕ) → ys ≡ ws → k ≡ length ws → certificate_at (count_in t) + length ws ≤ length l
+    → memory (set t certificate_count_at (count_in t + 1)) (put_mid (certificate_at (count_in t)) k l ys) b
     ≡ append_certificate (memory t l b) ws
 unfolding append_certificate
-written t l b ws = rw (stored_all ws l (certificate_at (count_in t)))
+written t l b ys ws k same size fits = rw (copied l ys ws (certificate_at (count_in t)) k same size fits)

@@ -16,10 +16,7 @@ ghost use Rattle.certificates.specs.inner.Filing.{
   filing,
 };
 
-use certificate_log::{
-    CERTIFICATE_WORDS, Certificate, KIND_AT, OF_VIEW_AT, PROPOSED_BLOCK_AT, SIGNER_AT,
-    SIGNER_BOOT_AT, SUBJECT_AT, SUBJECT_BOOT_AT, VIEW_AT,
-};
+use certificate_log::{CERTIFICATE_WORDS, Certificate, VIEW_AT};
 use protocol::{Answer, Refusal, Values};
 use table::CERTIFICATE_COUNT_AT;
 
@@ -35,19 +32,17 @@ pub fn filings() -> [u32; 2]
     [FOUND, APPENDED]
 }
 
-// Whether the certificate whose words start at an index equals this one.
-fn is_equal(log: &[u32], start: usize, c: Certificate) -> bool
+// Whether the certificate whose words start at an index has these words. All are compared and joined by `&`: a comparison of slices
+// leaves at the first that differs, and is slower where many agree in the first.
+fn is_equal(log: &[u32], start: usize, words: &[u32; CERTIFICATE_WORDS]) -> bool
     requires { start + certificate_words ≤ length log.now }
-    ensures { result ≡ equal_from log.now start (words (certificate_of c)) }
+    ensures { result ≡ equal_from log.now start words.now }
 {
-    (log[start + KIND_AT] == c.kind)
-        & (log[start + SIGNER_AT] == c.signer)
-        & (log[start + VIEW_AT] == c.view)
-        & (log[start + PROPOSED_BLOCK_AT] == c.block)
-        & (log[start + OF_VIEW_AT] == c.of_view)
-        & (log[start + SUBJECT_AT] == c.subject)
-        & (log[start + SUBJECT_BOOT_AT] == c.subject_boot)
-        & (log[start + SIGNER_BOOT_AT] == c.signer_boot)
+    let mut equal = true;
+    for (i, word) in words.iter().enumerate() {
+        equal &= log[start + i] == *word;
+    }
+    equal
 }
 
 // Whether a certificate of the log is of another view.
@@ -58,7 +53,8 @@ fn is_of_other_view(log: &[u32], number: usize, view: u32) -> bool
     log[CERTIFICATE_WORDS * number + VIEW_AT] != view
 }
 
-// Whether four certificates, one after the other, are all of other views. It has one caller, so the compiler inlines it.
+// Whether four certificates, one after the other, are all of other views. It has one caller, so the compiler inlines it. A loop over four
+// would be longer.
 fn four_of_other_views(log: &[u32], number: usize, view: u32) -> bool
     requires { certificate_at (number + 4) ≤ length log.now }
     ensures { result ≡ four_ok (is_of_other_view_rule log.now view) number }
@@ -69,46 +65,35 @@ fn four_of_other_views(log: &[u32], number: usize, view: u32) -> bool
         & is_of_other_view(log, number + 3, view)
 }
 
-// The first of so many certificates that equals this one, or their count. Four of other views are passed at a time, up to
-// the first four with one of its view.
-fn find(log: &[u32], count: u32, c: Certificate) -> u32
+// The first of so many certificates that has these words, or their count. Four of other views are passed at a time, for speed, up to
+// the first four with one of its view: one at a time takes three times as long.
+fn find(log: &[u32], count: u32, words: &[u32; CERTIFICATE_WORDS]) -> u32
     requires { certificate_at count ≤ length log.now }
-    ensures { result ≡ first_below count (is_equal_rule log.now (words (certificate_of c))) }
+    ensures { result ≡ first_below count (is_equal_rule log.now words.now) }
 {
     let end = count as usize;
-    let view = c.view;
-    let mut number: usize = 0;
-    while number + 4 <= end {
-        if !four_of_other_views(log, number, view) {
-            break;
-        }
-        number += 4;
+    let view = words[VIEW_AT];
+    let mut first: usize = 0;
+    while first + 4 <= end && four_of_other_views(log, first, view) {
+        first += 4;
     }
-    while number < end {
-        if is_equal(log, CERTIFICATE_WORDS * number, c) {
+    for number in first..end {
+        if is_equal(log, CERTIFICATE_WORDS * number, words) {
             return number as u32;
         }
-        number += 1;
     }
     count
 }
 
-// Writes a certificate at the log's next slot, and counts it.
-fn append(table: &mut [u32], log: &mut [u32], c: Certificate)
+// Writes a certificate of these words at the log's next slot, and counts it.
+fn append(table: &mut [u32], log: &mut [u32], words: &[u32; CERTIFICATE_WORDS])
     requires { LogHasRoom table.old log.old }
     ensures { (b : List ℕ) → memory table.new log.new b
-        ≡ append_certificate (memory table.old log.old b) (words (certificate_of c)) }
+        ≡ append_certificate (memory table.old log.old b) words.now }
 {
     let count = table[CERTIFICATE_COUNT_AT];
     let start = CERTIFICATE_WORDS * (count as usize);
-    log[start + KIND_AT] = c.kind;
-    log[start + SIGNER_AT] = c.signer;
-    log[start + VIEW_AT] = c.view;
-    log[start + PROPOSED_BLOCK_AT] = c.block;
-    log[start + OF_VIEW_AT] = c.of_view;
-    log[start + SUBJECT_AT] = c.subject;
-    log[start + SUBJECT_BOOT_AT] = c.subject_boot;
-    log[start + SIGNER_BOOT_AT] = c.signer_boot;
+    log[start..start + CERTIFICATE_WORDS].copy_from_slice(words);
     table[CERTIFICATE_COUNT_AT] = count + 1;
 }
 
@@ -119,8 +104,9 @@ pub fn file(table: &mut [u32], log: &mut [u32], c: Certificate) -> Answer
     ensures { (b : List ℕ) → outcome result table.new log.new b
         ≡ outcome_by (λ m. filing m (words (certificate_of c))) table.old log.old b }
 {
+    let words = c.words();
     let count = table[CERTIFICATE_COUNT_AT];
-    let number = find(log, count, c);
+    let number = find(log, count, &words);
     if number < count {
         return Ok(Values {
             first: number,
@@ -128,7 +114,7 @@ pub fn file(table: &mut [u32], log: &mut [u32], c: Certificate) -> Answer
         });
     }
     if CERTIFICATE_WORDS * (count as usize) < log.len() {
-        append(table, log, c);
+        append(table, log, &words);
         return Ok(Values {
             first: number,
             second: APPENDED,

@@ -1,11 +1,11 @@
 -- A line that is answered.
-use Prim.Native.Nat.{ℕ, suc, ◌+◌, ◌-◌, ◌≤◌}
+use Prim.Native.Nat.{ℕ, suc, ◌+◌, ◌≤◌}
 use mathlib.Core.Path.{◌≡◌, refl, sym, ap, subst, ◌∙◌}
 use mathlib.Core.Bool.{true}
 use mathlib.Core.List.{List, [], ◌∷◌, ◌++◌}
 use native.Mathlib.Omega.{arith}
 use lib.Dec.{ltb}
-use lib.ListN.{length, take, drop}
+use lib.ListN.{length, take}
 use lib.Seq.{length-take-le}
 use Rattle.protocol.specs.declared.Answer.{Answer}
 use Rattle.protocol.specs.Outcome.{told}
@@ -18,7 +18,6 @@ use Rattle.stream.specs.declared.Progress.{Progress}
 use Rattle.stream.specs.Output.{max_lines}
 use Rattle.stream.specs.Stream.{Stream, stream_of, end_line, byte_in, fed, finished}
 use Rattle.stream.specs.inner.Progress.{with_held, begun}
-use Rattle.stream.specs.inner.Holding.{line_so_far, Held}
 use Rattle.stream.proofs.Fed.{line_ended}
 
 -- Where a stream stands after one more answer.
@@ -48,16 +47,10 @@ module _ (p : Progress) (t l b places text line : List ℕ) where
       })
       e)
 
--- A line that ends in a chunk: all of it lies there, or its beginning is held.
-module _ (s : Stream) (line chunk : List ℕ) (held from end : ℕ) {o : Stream} where
-  pub from_chunk : held ≡ 0 → o ≡ end_line (with_held s (take (end - from) (drop from chunk)))
-      → o ≡ end_line (begun s (line_so_far line held chunk from end))
-  from_chunk e u = u ∙ sym (line_ended s (take (end - from) (drop from chunk))) ∙ rw e refl
-
-  pub from_held : {count : ℕ} {places : List ℕ} → Held count places (line_so_far line held chunk from end)
-      → o ≡ end_line (with_held s (take count places))
-      → o ≡ end_line (begun s (line_so_far line held chunk from end))
-  from_held h u = rw h.bytes at u
+-- A line that ends with bytes of a chunk: all of it lies there, or its beginning is held.
+module _ (s : Stream) (line bytes : List ℕ) (held : ℕ) {o : Stream} where
+  pub from_chunk : held ≡ 0 → o ≡ end_line (with_held s bytes) → o ≡ end_line (begun s (take held line ++ bytes))
+  from_chunk e u = u ∙ sym (line_ended s bytes) ∙ rw e refl
 
 -- The end of the input.
 module _ (p : Progress) (t l b line text : List ℕ) where

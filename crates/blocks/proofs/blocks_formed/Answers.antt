@@ -1,8 +1,7 @@
 use mathlib.Core.Path.{refl}
 use native.Mathlib.Omega.{arith}
-use borrow.Author.Rules.{rules}
 use Rattle.protocol.specs.Form.{all_below}
-use Rattle.protocol.proofs.logic.Below.{next, next_four, refuted_one, refuted_four}
+use Rattle.protocol.proofs.logic.Below.{next, refuted_one}
 use Rattle.protocol.proofs.logic.Joined.{denied, granted}
 use Rattle.blocks.specs.inner.Records.{block_ok}
 use Rattle.blocks.proofs.blocks_formed.Goals as goal
@@ -12,26 +11,12 @@ returns-then-not-root_formed c = refuted_one _ 0 _ (omega arith) (denied c.root_
 
 pub loop-block-init : goal.loop-block-init
 unfolding all_below
-loop-block-init c =
-    let blocks = c.args.blocks.now in
-    (omega arith, (omega arith, next (block_ok blocks) 0 refl (granted c.root_formed.ensures c.if-not-root_formed.false)))
-
-pub returns-then-not-four_formed : goal.returns-then-not-four_formed
-returns-then-not-four_formed c =
-    refuted_four _ c.loop-block.block _ (omega arith)
-    (denied c.four_formed.ensures c.if-not-four_formed.true)
-
-pub loop-block-preserved : goal.loop-block-preserved
-loop-block-preserved c =
-    let all = c.loop-block.invariant.1.1 in
-    (search rules, (search rules, next_four _ _ all (granted c.four_formed.ensures c.if-not-four_formed.false)))
+loop-block-init c = next (block_ok c.args.blocks.now) 0 refl (granted c.root_formed.ensures c.if-not-root_formed.false)
 
 pub returns-then-not-block_formed : goal.returns-then-not-block_formed
 returns-then-not-block_formed c =
-    refuted_one _ c.loop-block-2.block _ (omega arith)
+    refuted_one _ c.loop-block.block _ (omega arith)
     (denied c.block_formed.ensures c.if-not-block_formed.true)
 
-pub loop-block-2-preserved : goal.loop-block-2-preserved
-loop-block-2-preserved c =
-    let all = c.loop-block-2.invariant.1.1 in
-    (search rules, (search rules, next _ _ all (granted c.block_formed.ensures c.if-not-block_formed.false)))
+pub loop-block-preserved : goal.loop-block-preserved
+loop-block-preserved c = next _ _ c.loop-block.invariant (granted c.block_formed.ensures c.if-not-block_formed.false)

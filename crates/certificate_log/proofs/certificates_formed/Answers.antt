@@ -6,6 +6,8 @@ use Rattle.protocol.proofs.logic.Below.{next}
 use Rattle.protocol.proofs.logic.Joined.{denied, granted}
 use Rattle.certificate_log.specs.inner.Records.{group_exceeds}
 use Rattle.certificate_log.proofs.Limits.{formed, kind_refutes, limit_refutes, group_formed, group_kinds_refute, group_limits_refute}
+use Rattle.certificate_log.proofs.certificates_formed.Goals.{then-not-has_kind-via-then-not-has_kind}
+use Rattle.certificate_log.proofs.certificates_formed.Goals.{then-not-has_kind-via-else-not-has_kind+then-exceeds}
 use Rattle.certificate_log.proofs.certificates_formed.Goals as goal
 
 pub loop-number-init : goal.loop-number-init
@@ -33,24 +35,23 @@ loop-number-preserved c =
     let limits = ap (group_exceeds _ _ _) (sym loop.invariant.1) ∙ sym c.group_exceeds.ensures ∙ c.if-group_exceeds.false in
     (search rules, omega arith, group_formed _ _ _ pre.1 pre.2 loop.number loop.invariant.2 kinds limits)
 
+pub loop-last-init : goal.loop-last-init
+loop-last-init c = c.loop-number.invariant.2
+
 pub returns-then-not-has_kind : goal.returns-then-not-has_kind
 returns-then-not-has_kind c =
     let pre = c.requires in
-    let loop = c.loop-number-2 in
-    let kind = denied c.has_kind.ensures c.if-not-has_kind.true in
-    kind_refutes _ _ _ pre.1 pre.2 loop.number _ (omega arith) kind
+    let last = c.loop-last.last in
+    elim c.then-not-has_kind.branch [
+      | then-not-has_kind-via-then-not-has_kind w ↦
+          kind_refutes _ _ _ pre.1 pre.2 last _ (omega arith) (denied c.has_kind.ensures w.if-not-has_kind.true)
+      | then-not-has_kind-via-else-not-has_kind+then-exceeds w ↦
+          limit_refutes _ _ _ pre.1 pre.2 last _ (omega arith) (sym w.exceeds.ensures ∙ w.if-exceeds.true)
+    ]
 
-pub returns-then-exceeds : goal.returns-then-exceeds
-returns-then-exceeds c =
+pub loop-last-preserved : goal.loop-last-preserved
+loop-last-preserved c =
     let pre = c.requires in
-    let loop = c.loop-number-2 in
-    let limits = sym c.exceeds.ensures ∙ c.if-exceeds.true in
-    limit_refutes _ _ _ pre.1 pre.2 loop.number _ (omega arith) limits
-
-pub loop-number-2-preserved : goal.loop-number-2-preserved
-loop-number-2-preserved c =
-    let pre = c.requires in
-    let loop = c.loop-number-2 in
     let kind = granted c.has_kind.ensures c.if-not-has_kind.false in
     let limits = sym c.exceeds.ensures ∙ c.if-exceeds.false in
-    (search rules, next _ _ loop.invariant.1 (formed _ _ _ pre.1 pre.2 loop.number kind limits))
+    next _ _ c.loop-last.invariant (formed _ _ _ pre.1 pre.2 c.loop-last.last kind limits)

@@ -13,8 +13,5 @@ invariant-loop-number l = (l.number ≤ l.count) × (l.start ≡ certificate_at 
 abbrev pub decreases-loop-number : goal.decreases-loop-number
 decreases-loop-number l = l.count - l.number
 
-abbrev pub invariant-loop-number-2 : goal.invariant-loop-number-2
-invariant-loop-number-2 l = (l.number ≤ l.count) × (all_below l.number (certificate_ok l.log l.replicas l.added) ≡ true)
-
-abbrev pub decreases-loop-number-2 : goal.decreases-loop-number-2
-decreases-loop-number-2 l = l.count - l.number
+abbrev pub invariant-loop-last : goal.invariant-loop-last
+invariant-loop-last l = all_below l.last (certificate_ok l.log l.replicas l.added) ≡ true

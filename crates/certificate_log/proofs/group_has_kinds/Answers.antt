@@ -1,12 +1,16 @@
-use native.Mathlib.Nat.{add-zero}
+use mathlib.Core.Path.{refl}
 use Rattle.protocol.specs.Form.{all_below}
+use Rattle.protocol.proofs.logic.Below.{one_more, at_end}
 use Rattle.certificate_log.specs.inner.Records.{group_has_kinds}
 use Rattle.certificate_log.proofs.group_has_kinds.Goals as goal
 
+pub loop-i-init : goal.loop-i-init
+unfolding all_below
+loop-i-init c = refl
+
+pub loop-i-preserved : goal.loop-i-preserved
+loop-i-preserved c = rw (c.loop-i.invariant, c.has_kind-all.ensures) (one_more _ c.loop-i.i)
+
 pub returns : goal.returns
-unfolding group_has_kinds all_below
-returns c =
-    rw (c.has_kind.ensures, c.has_kind-2.ensures)
-    (rw (c.has_kind-3.ensures, c.has_kind-4.ensures)
-    (rw (c.has_kind-5.ensures, c.has_kind-6.ensures)
-    (rw (c.has_kind-7.ensures, c.has_kind-8.ensures) (simp add-zero))))
+unfolding group_has_kinds
+returns c = at_end _ c.loop-i.auto.i-end c.loop-i-test.false c.loop-i.invariant

@@ -1,8 +1,10 @@
 -- `append` meets its contract.
-use Rattle.protocol.specs.Memory.{words}
-use Rattle.certificate_log.specs.inner.Certificates.{certificate_of}
+use native.Mathlib.Omega.{arith}
 use Rattle.certificates.proofs.Filing.{written}
 use Rattle.certificates.proofs.append.Goals as goal
 
 pub returns : goal.returns
-returns c b = written c.args.table.now _ b (words (certificate_of c.args.c))
+returns c b =
+    let fits = c.requires.fits in
+    let room = c.requires.room in
+    written c.args.table.now _ b _ c.args.words.now _ c.copy_from_slice.ensures.after (omega arith) (omega arith)

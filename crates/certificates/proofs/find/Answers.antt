@@ -3,24 +3,27 @@ use native.Mathlib.Omega.{arith}
 use Rattle.protocol.specs.Certificates.{first_below}
 use Rattle.protocol.proofs.logic.Joined.{granted}
 use Rattle.certificates.proofs.Equal.{of_other_view}
-use Rattle.certificates.proofs.Search.{none_yet, none_of_four, found}
+use Rattle.certificates.proofs.Search.{none_yet, none_of_four, found, none}
 use Rattle.certificates.proofs.find.Goals as goal
 
-pub loop-number-init : goal.loop-number-init
+pub loop-first-init : goal.loop-first-init
 unfolding first_below
-loop-number-init c = (omega arith, refl)
+loop-first-init c = (omega arith, refl)
 
-pub loop-number-preserved : goal.loop-number-preserved
-loop-number-preserved c =
-    let four = granted c.four_of_other_views.ensures c.if-not-four_of_other_views.false in
-    (omega arith, none_of_four _ _ (of_other_view c.args.log.now c.args.c) _ c.loop-number.invariant.1 four)
+pub loop-first-preserved : goal.loop-first-preserved
+loop-first-preserved c =
+    let four = granted c.four_of_other_views.ensures c.if-four_of_other_views.true in
+    (omega arith, none_of_four _ _ (of_other_view c.args.log.now c.args.words.now) _ c.loop-first.invariant.1 four)
+
+pub loop-number-init : goal.loop-number-init
+loop-number-init c = c.loop-first.invariant.1
 
 pub returns-then-is_equal : goal.returns-then-is_equal
 returns-then-is_equal c =
-    let inv = c.loop-number-2.invariant in
-    sym (found _ _ _ inv.1 (sym c.is_equal.ensures ∙ c.if-is_equal.true) c.loop-number-2-test.true)
+    sym (found _ _ _ c.loop-number.invariant (sym c.is_equal.ensures ∙ c.if-is_equal.true) c.loop-number-test.true)
 
-pub loop-number-2-preserved : goal.loop-number-2-preserved
-loop-number-2-preserved c =
-    let inv = c.loop-number-2.invariant in
-    (omega arith, none_yet _ _ inv.1 (sym c.is_equal.ensures ∙ c.if-is_equal.false))
+pub loop-number-preserved : goal.loop-number-preserved
+loop-number-preserved c = none_yet _ _ c.loop-number.invariant (sym c.is_equal.ensures ∙ c.if-is_equal.false)
+
+pub returns : goal.returns
+returns c = sym (none _ c.loop-number.number _ c.loop-number.invariant (omega arith) (omega arith))

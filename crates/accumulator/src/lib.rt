@@ -5,7 +5,7 @@ ghost use Rattle.std.specs.Prelude.{◌≡◌};
 ghost use Rattle.protocol.specs.Outcome.{outcome, outcome_by};
 ghost use Rattle.protocol.specs.Calls.{accumulate as accumulate_rule, decide as decide_rule};
 
-use certificate_log::{ACC, Certificate, VIEW_AT, certificate_in, certificate_word};
+use certificate_log::{Certificate, Kind, VIEW_AT, certificate_in, certificate_word};
 use checks::{FoundReplica, Tested, accepted, need, refused};
 use issuing::issue;
 use protocol::{Answer, WRONG_CERTIFICATE, WRONG_STATUS};
@@ -40,7 +40,7 @@ pub fn accumulate(
     let best = quorum::greatest(log, list);
     let c = certificate_in(log, list[best]);
     let acc = Certificate {
-        kind: ACC,
+        kind: Kind::Acc.word(),
         signer: replica,
         view,
         block: c.block,

@@ -6,7 +6,7 @@ ghost use Rattle.quorum.specs.inner.Lists.{certificates_in};
 ghost use Rattle.checks.specs.inner.Verdicts.{tested};
 ghost use Rattle.checker.specs.inner.Justifications.{Justifying, judgement_of, judgement_refusal};
 
-use certificate_log::ACC;
+use certificate_log::Kind;
 use checks::{Tested, need};
 use protocol::{ACCEPTED, Justification, UNKNOWN_NUMBER, WRONG_CERTIFICATE};
 use table::CERTIFICATE_COUNT_AT;
@@ -63,7 +63,7 @@ pub fn judge(log: &[u32], replica: u32, justification: Justification, list: &[u3
     match justification {
         Justification::Acc(number) => {
             let acc = certificate_log::certificate_in(log, number);
-            if (acc.kind == ACC) & (acc.signer == replica) {
+            if acc.is(Kind::Acc) & (acc.signer == replica) {
                 return Judgement::By(Justified {
                     view: acc.view,
                     block: acc.block,

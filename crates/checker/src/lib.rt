@@ -14,12 +14,13 @@ ghost use Rattle.protocol.specs.Calls.{
   view as view_rule,
 };
 ghost use Rattle.certificate_log.specs.inner.Certificates.{certificate_of};
+ghost use Rattle.certificate_log.specs.inner.Kinds.{kind_word};
 ghost use Rattle.records.specs.inner.Replicas.{replica_of};
 ghost use Rattle.checks.specs.inner.Verdicts.{tested};
 
 use self::justification::{Judgement, Justified};
 use blocks::ROOT;
-use certificate_log::{COMMIT, Certificate, NEWVIEW, PROP};
+use certificate_log::{Certificate, Kind};
 use checks::{FoundCertificate, FoundReplica, Tested, need, refused};
 use issuing::issue;
 use leader::FIRST_VIEW;
@@ -36,9 +37,9 @@ use table::{
 mod justification;
 
 // A PROP or a COMMIT, signed at a boot of its signer: they name no earlier view and no subject.
-fn of_kind(kind: u32, signer: u32, boot: u32, view: u32, block: u32) -> Certificate
+fn of_kind(kind: Kind, signer: u32, boot: u32, view: u32, block: u32) -> Certificate
     ensures { result ≡ record {
-      kind = kind;
+      kind = kind_word kind;
       signer = signer;
       view = view;
       block = block;
@@ -49,7 +50,7 @@ fn of_kind(kind: u32, signer: u32, boot: u32, view: u32, block: u32) -> Certific
     } }
 {
     Certificate {
-        kind,
+        kind: kind.word(),
         signer,
         view,
         block,
@@ -118,7 +119,7 @@ pub fn prepare(
     };
     let offsets = [FLAG_AT];
     let values = [RAISED];
-    let c = of_kind(PROP, replica, r.boot, justified.view, block);
+    let c = of_kind(Kind::Prop, replica, r.boot, justified.view, block);
     issue(table, log, replica, &offsets, &values, c)
 }
 
@@ -130,7 +131,7 @@ fn test_store(f: u32, r: Replica, p: Certificate) -> Tested
     ensures { result ≡ tested (store_needs f (replica_of r) (certificate_of p)) }
 {
     let tested = need(Tested::Passed, r.status == LIVE, WRONG_STATUS);
-    let tested = need(tested, p.kind == PROP, WRONG_CERTIFICATE);
+    let tested = need(tested, p.is(Kind::Prop), WRONG_CERTIFICATE);
     let tested = need(
         tested,
         leader::leads(f, p.view, p.signer),
@@ -165,7 +166,7 @@ pub fn store(
     };
     let offsets = [STORED_VIEW_AT, STORED_BLOCK_AT, MIN_VIEW_AT, FLAG_AT];
     let values = [p.view, p.block, p.view + 1, LOWERED];
-    let c = of_kind(COMMIT, replica, r.boot, p.view, p.block);
+    let c = of_kind(Kind::Commit, replica, r.boot, p.view, p.block);
     issue(table, log, replica, &offsets, &values, c)
 }
 
@@ -211,7 +212,7 @@ pub fn view(
     let offsets = [FLAG_AT, MIN_VIEW_AT];
     let values = [flag_in(r, view), view];
     let c = Certificate {
-        kind: NEWVIEW,
+        kind: Kind::NewView.word(),
         signer: replica,
         view,
         block: r.stored_block,

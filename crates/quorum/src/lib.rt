@@ -16,8 +16,8 @@ ghost use Rattle.quorum.specs.inner.Lists.{
 ghost use Rattle.quorum.specs.inner.Signers.{holds};
 
 use certificate_log::{
-    COMMIT, KIND_AT, NEWVIEW, OF_VIEW_AT, PROPOSED_BLOCK_AT, REPLY, SIGNER_AT, SUBJECT_AT,
-    SUBJECT_BOOT_AT, VIEW_AT, certificate_word,
+    KIND_AT, Kind, OF_VIEW_AT, PROPOSED_BLOCK_AT, SIGNER_AT, SUBJECT_AT, SUBJECT_BOOT_AT, VIEW_AT,
+    certificate_word,
 };
 
 // What each certificate of a quorum has to be.
@@ -38,12 +38,12 @@ fn is_wanted(log: &[u32], number: u32, wanted: Wanted) -> bool
     let kind = certificate_word(log, number, KIND_AT);
     let in_view = certificate_word(log, number, VIEW_AT);
     match wanted {
-        Wanted::Commit(view, block) => (kind == COMMIT)
+        Wanted::Commit(view, block) => (kind == Kind::Commit.word())
             & (in_view == view)
             & (certificate_word(log, number, PROPOSED_BLOCK_AT) == block),
-        Wanted::NewView(view) => (kind == NEWVIEW) & (in_view == view),
+        Wanted::NewView(view) => (kind == Kind::NewView.word()) & (in_view == view),
         Wanted::Reply(subject, boot, view) => {
-            (kind == REPLY)
+            (kind == Kind::Reply.word())
                 & (certificate_word(log, number, SUBJECT_AT) == subject)
                 & (certificate_word(log, number, SUBJECT_BOOT_AT) == boot)
                 & (in_view == view)

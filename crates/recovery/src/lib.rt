@@ -14,7 +14,7 @@ ghost use Rattle.certificate_log.specs.inner.Certificates.{certificate_of};
 ghost use Rattle.records.specs.inner.Replicas.{replica_of};
 ghost use Rattle.checks.specs.inner.Verdicts.{tested};
 
-use certificate_log::{Certificate, REPLY, REQ};
+use certificate_log::{Certificate, Kind};
 use checks::{FoundCertificate, FoundReplica, Tested, accepted, need, refused};
 use issuing::issue;
 use protocol::{Answer, COUNTER_LIMIT, WRONG_CERTIFICATE, WRONG_STATUS};
@@ -29,7 +29,7 @@ fn req(replica: u32, r: Replica) -> Certificate
 {
     let boot = r.boot;
     Certificate {
-        kind: REQ,
+        kind: Kind::Req.word(),
         signer: replica,
         view: r.min_view,
         block: 0,
@@ -61,7 +61,7 @@ fn test_reply(replica: u32, r: Replica, q: Certificate) -> Tested
     ensures { result ≡ tested (reply_needs replica (replica_of r) (certificate_of q)) }
 {
     let tested = need(Tested::Passed, r.status == LIVE, WRONG_STATUS);
-    let tested = need(tested, q.kind == REQ, WRONG_CERTIFICATE);
+    let tested = need(tested, q.is(Kind::Req), WRONG_CERTIFICATE);
     let tested = need(tested, q.signer != replica, WRONG_CERTIFICATE);
     need(tested, q.view <= r.view_limit, COUNTER_LIMIT)
 }
@@ -72,7 +72,7 @@ fn reply_to(replica: u32, r: Replica, q: Certificate) -> Certificate
         ≡ reply_of replica r.boot q.view r.stored_block r.stored_view q.signer q.subject_boot }
 {
     Certificate {
-        kind: REPLY,
+        kind: Kind::Reply.word(),
         signer: replica,
         view: q.view,
         block: r.stored_block,

@@ -86,7 +86,7 @@ returns c =
     let known : Known = listed in
     let at_slot = passed _ refl own_tested _ known.at c.in-Passed-tested.is in
     let best = c.certificate_in-c.ensures ∙ ap certificate_from c.greatest-best.ensures.is in
-    issues _ _ _ _ _ at_slot refl (simp (view, best, known.read))
+    issues _ _ _ _ _ at_slot refl (simp (c.word.ensures, view, best, known.read))
     (c.issue.ensures _)
 
 pub test_list-listed-requires : goal.test_list-listed-requires

@@ -6,4 +6,4 @@ pub returns : goal.returns
 unfolding tested
 returns c =
     rw (c.need.ensures, c.need-tested-4.ensures, c.need-tested-3.ensures)
-    (rw (c.leads.ensures, c.need-tested-2.ensures, c.need-tested.ensures))
+    (rw (c.leads.ensures, c.need-tested-2.ensures, c.is.ensures, c.need-tested.ensures))

@@ -50,4 +50,4 @@ returns c =
     let told = c.in-Passed.is in
     let flag = c.flag_in.ensures in
     issues _ _ _ _ _ (passed _ refl (rw r.read at c.test_view-tested.ensures) _ r.at told)
-    (rw (flag, r.read) refl) (rw r.read refl) (c.issue.ensures _)
+    (rw (flag, r.read) refl) (rw (c.word.ensures, r.read) refl) (c.issue.ensures _)

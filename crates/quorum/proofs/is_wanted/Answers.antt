@@ -8,6 +8,7 @@ unfolding all_hold
 returns-in-Commit c =
     simp (
       c.in-Commit.is,
+      c.word.ensures,
       c.certificate_word-kind.ensures,
       c.certificate_word-in_view.ensures,
       c.certificate_word.ensures,
@@ -18,7 +19,7 @@ returns-in-Commit c =
 pub returns-in-NewView : goal.returns-in-NewView
 unfolding all_hold
 returns-in-NewView c =
-    simp (c.in-NewView.is, c.certificate_word-kind.ensures, c.certificate_word-in_view.ensures, and-true)
+    simp (c.in-NewView.is, c.word-in-NewView.ensures, c.certificate_word-kind.ensures, c.certificate_word-in_view.ensures, and-true)
 
 pub returns-in-Reply : goal.returns-in-Reply
 unfolding all_hold
@@ -28,6 +29,7 @@ returns-in-Reply c =
     let signer = c.certificate_word-in-Reply-3.ensures in
     simp (
       c.in-Reply.is,
+      c.word-in-Reply.ensures,
       c.certificate_word-kind.ensures,
       c.certificate_word-in_view.ensures,
       subject,

@@ -5,4 +5,4 @@ use Rattle.recovery.proofs.test_reply.Goals as goal
 pub returns : goal.returns
 unfolding tested
 returns c =
-    rw (c.need.ensures, c.need-tested-3.ensures, c.need-tested-2.ensures, c.need-tested.ensures)
+    rw (c.need.ensures, c.need-tested-3.ensures, c.need-tested-2.ensures, c.is.ensures, c.need-tested.ensures)

@@ -8,11 +8,11 @@ use Rattle.checker.specs.inner.Justifications.{judgement_of}
 use Rattle.checker.proofs.Justifications.{quorum_view_bound}
 use Rattle.checker.proofs.justification.judge.Goals as goal
 
-pub returns-then-acc-replica : goal.returns-then-acc-replica
+pub returns-then-is-acc : goal.returns-then-is-acc
 unfolding judgement_of all_hold
-returns-then-acc-replica c =
+returns-then-is-acc c =
     let read = c.certificate_in-acc.ensures in
-    rw (c.in-Acc.is, read) (last _ _ _ (rw and-true (rw read at c.if-acc-replica.true)))
+    rw (c.in-Acc.is, read) (last _ _ _ (rw and-true (rw (c.is.ensures, read) at c.if-is-acc.true)))
 
 pub overflow_add-result : goal.overflow_add-result
 overflow_add-result c =
@@ -27,11 +27,11 @@ returns-then-is_commit_quorum c =
     let quorum = sym c.is_commit_quorum.ensures ∙ c.if-is_commit_quorum.true in
     rw c.in-Commits.is (last _ _ _ quorum)
 
-pub returns-else-acc-replica : goal.returns-else-acc-replica
+pub returns-else-is-acc : goal.returns-else-is-acc
 unfolding judgement_of all_hold
-returns-else-acc-replica c =
+returns-else-is-acc c =
     let read = c.certificate_in-acc.ensures in
-    rw c.in-Acc.is (fails _ _ _ (rw and-true (rw read at c.if-acc-replica.false)))
+    rw c.in-Acc.is (fails _ _ _ (rw and-true (rw (c.is.ensures, read) at c.if-is-acc.false)))
 
 pub returns-else-is_commit_quorum : goal.returns-else-is_commit_quorum
 unfolding judgement_of

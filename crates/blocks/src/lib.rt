@@ -100,8 +100,7 @@ fn four_formed(blocks: &[u32], block: usize) -> bool
         && block_formed(blocks, block + 3)
 }
 
-// Every added block, up to the first that fails. Four a turn: by a `for` with one a turn, or with an inner `for` over four, the test takes
-// a quarter to a half longer.
+// Every added block, up to the first that fails. Four a turn, for speed: a `for` with one a turn takes a tenth longer.
 pub fn blocks_formed(blocks: &[u32], added: u32) -> bool
     requires { (1 ≤ added) × (added ≤ max_blocks) × (block_at_rule added ≤ length blocks.now) }
     ensures { result ≡ all_below added (block_ok blocks.now) }

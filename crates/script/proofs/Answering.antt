@@ -1,8 +1,6 @@
 -- The ways that a line is answered.
 use Rattle.std.proofs.Common.{ℕ, ◌≤◌, ◌≡◌, refl, true, false, List, take, None, Some}
-use Rattle.std.specs.Prelude.{Result, Err}
-use Rattle.protocol.specs.declared.Values.{Values}
-use Rattle.protocol.specs.declared.Refusal.{Refusal}
+use Rattle.std.specs.Prelude.{Err}
 use Rattle.protocol.specs.declared.Refusal.TheVariants.{Unreadable}
 use Rattle.protocol.specs.Outcome.{told}
 use Rattle.protocol.proofs.logic.Booleans.{by-test}

@@ -7,7 +7,9 @@ use native.Mathlib.Omega.{arith}
 use lib.Dec.{ltb}
 use lib.ListN.{length, take}
 use lib.Seq.{length-take-le}
-use Rattle.protocol.specs.declared.Answer.{Answer}
+use Rattle.std.specs.Prelude.{Result}
+use Rattle.protocol.specs.declared.Values.{Values}
+use Rattle.protocol.specs.declared.Refusal.{Refusal}
 use Rattle.protocol.specs.Outcome.{told}
 use Rattle.protocol.proofs.logic.Booleans.{tests, by-test}
 use Rattle.script.specs.Session.{Session, session, Answered, leaves, answer_line}
@@ -24,18 +26,18 @@ use Rattle.stream.proofs.Fed.{line_ended}
 abbrev pub after : Progress → ℕ → Progress
 after p f = record { fault_bound = f; lines = p.lines + 1; held = 0; pending = p.pending + answer_bytes }
 
-pub fits : (s : Session) (line : List ℕ) {a : Answer} {f : ℕ} {t l b : List ℕ} → leaves a f t l b ≡ answer_line s line
+pub fits : (s : Session) (line : List ℕ) (a : Result Values Refusal) {f : ℕ} {t l b : List ℕ} → leaves a f t l b ≡ answer_line s line
     → Printable (told a)
 unfolding AnswersPrintable
-fits s line e = subst (λ (o : Answered). Printable o.answer) (sym e) (answers-printable s line)
+fits s line a e = subst (λ (o : Answered). Printable o.answer) (sym e) (answers-printable s line)
 
 module _ (p : Progress) (t l b places text line : List ℕ) where
-  pub line_answered : {a : Answer} {f : ℕ} {t' l' b' : List ℕ} (text' : List ℕ)
+  pub line_answered : (a : Result Values Refusal) {f : ℕ} {t' l' b' : List ℕ} (text' : List ℕ)
       → leaves a f t' l' b' ≡ answer_line (session p.fault_bound t l b) line
       → take (p.pending + answer_bytes) text' ≡ take p.pending text ++ answer_text (p.lines + 1) (told a)
       → stream_of (after p f) t' l' b' places text' ≡ end_line (with_held (stream_of p t l b places text) line)
   unfolding end_line
-  line_answered {a} {f} {t'} {l'} {b'} text' e x =
+  line_answered a text' e x =
       let one : p.lines + 1 ≡ suc p.lines = omega arith in
       rw (x, one)
       (ap (λ (o : Answered).

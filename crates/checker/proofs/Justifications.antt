@@ -21,10 +21,8 @@ use Rattle.form.proofs.Within.{certificate_bounds}
 use Rattle.quorum.specs.inner.Lists.{certificates_in}
 use Rattle.quorum.proofs.Accepted.{listed, some_listed, commit_at}
 use Rattle.certificate_log.specs.declared.Certificate.{Certificate}
-use Rattle.certificate_log.specs.inner.Certificates.{certificate_from}
 use Rattle.records.specs.declared.Replica.{Replica}
-use Rattle.records.specs.inner.Replicas.{replica_from}
-use Rattle.checks.proofs.Passing.{At, ReplicaFound, found_replica, CertificateFound, found_certificate}
+use Rattle.checks.proofs.Passing.{At, ReplicaGiven, ReplicaFound, found_replica, CertificateGiven, CertificateFound, found_certificate}
 use Rattle.issuing.proofs.Issues.{slot, start}
 use Rattle.checker.specs.declared.justification.Justified.{Justified}
 use Rattle.checker.specs.inner.Justifications.{Justifying, justified_by, judgement_needs}
@@ -72,15 +70,15 @@ module _ (m : Memory) (i b : ℕ) (j : Justification) (list : List ℕ) where
   unfolding prepare
   prepare_at = start _ _ _ _ _ _ refl
 
-  pub preparing : {r : Replica} → 0 ≡ first_refusal (replica_needs m i) → r ≡ replica_from (replica m i)
+  pub preparing : {r : Replica} → ReplicaGiven m i r
       → ReplicaFound m i (prepare m i b j list) (justification_needs m j list ++ after_numbers) r
-  preparing passed read = found_replica m i _ prepare_at passed read
+  preparing given = found_replica m i _ prepare_at given.refusal given.found
 
   -- What a justification's numbers tell, once they are tested.
   pub justifies : Formed m → 0 ≡ first_refusal (justification_needs m j list) → Justifying m.log (numbers_of j list)
   justifies f passed = justifying m j list f (all_needs (justification_needs m j list) refl (sym passed))
 
-module _ (m : Memory) (i : ℕ) {r : Replica} (passed : 0 ≡ first_refusal (replica_needs m i)) (read : r ≡ replica_from (replica m i)) where
+module _ (m : Memory) (i : ℕ) {r : Replica} (given : ReplicaGiven m i r) where
   module _ (number : ℕ) where
     abbrev pub after_number : List Need
     after_number =
@@ -89,13 +87,12 @@ module _ (m : Memory) (i : ℕ) {r : Replica} (passed : 0 ≡ first_refusal (rep
 
     pub storing : ReplicaFound m i (store m i number) (number_needs m number ++ after_number) r
     unfolding store
-    storing = found_replica m i _ (start _ _ _ _ _ _ refl) passed read
+    storing = found_replica m i _ (start _ _ _ _ _ _ refl) given.refusal given.found
 
-    pub storing_prop : {p : Certificate} → 0 ≡ first_refusal (number_needs m number) → p ≡ certificate_from (certificate m number)
-        → CertificateFound m number (store m i number) after_number p
-    storing_prop found is = found_certificate m number _ storing.at found is
+    pub storing_prop : {p : Certificate} → CertificateGiven m number p → CertificateFound m number (store m i number) after_number p
+    storing_prop found = found_certificate m number _ storing.at found.refusal found.found
 
   pub entering : (w : ℕ) → let own = replica m i in
       ReplicaFound m i (view m i w) (view_needs own w ++ slot m (new_view_of i own.boot w own.stored_block own.stored_view)) r
   unfolding view
-  entering w = found_replica m i _ (start _ _ _ _ _ _ refl) passed read
+  entering w = found_replica m i _ (start _ _ _ _ _ _ refl) given.refusal given.found

@@ -104,6 +104,10 @@ module _ {rule : Rule} {t : Bool} (r : Refusal) (rest : List Need) (at : At rule
 
 -- ---- what is found: a replica
 
+-- What `find_replica` tells of one that it gives.
+abbrev pub ReplicaGiven : Memory → ℕ → Replica → Type 0
+ReplicaGiven m i r = record { refusal : 0 ≡ first_refusal (replica_needs m i); found : r ≡ replica_from (replica m i) }
+
 -- What is known of it, whatever the rule; and of a rule, that the rest is still to be tested.
 pub record ReplicaKnown (m : Memory) (i : ℕ) (r : Replica) : Type 0 where
   pub ready : Ready m i
@@ -125,6 +129,11 @@ module _ {Value State : Type 0} {none : Value} (m : Memory) (i : ℕ) {rule : Ru
   found_replica passed is = record { ready = ready m i (sym passed); read = is; at = on (replica_needs m i) rest refl at passed }
 
 -- ---- a certificate
+
+-- What `find_certificate` tells of one that it gives.
+abbrev pub CertificateGiven : Memory → ℕ → Certificate → Type 0
+CertificateGiven m number c =
+    record { refusal : 0 ≡ first_refusal (number_needs m number); found : c ≡ certificate_from (certificate m number) }
 
 pub record CertificateFound (m : Memory) (number : ℕ) (rule : Rule) (rest : List Need) (c : Certificate) : Type 0 where
   pub issued : is_issued m number ≡ true

@@ -15,37 +15,37 @@ returns-in_err-r c = stops _ _ _ _ (start _ _ _ _ _ _ refl) c.in_err-r.ensures.r
 
 pub test_list-requires : goal.test_list-requires
 test_list-requires c =
-    let found = accumulating _ _ c.args.list.now c.in_ok-r.ensures.refusal c.in_ok-r.ensures.found in
+    let found = accumulating c.args.list.now c.in_ok-r.ensures in
     omega (arith, found.ready.sizes)
 
 pub returns-in_err-test_list : goal.returns-in_err-test_list
 returns-in_err-test_list c =
-    let found = accumulating _ _ c.args.list.now c.in_ok-r.ensures.refusal c.in_ok-r.ensures.found in
+    let found = accumulating c.args.list.now c.in_ok-r.ensures in
     stops _ _ _ _ found.at c.in_err-test_list.ensures c.from_residual-in_err-test_list.ensures
 
 pub bounds-list-0 : goal.bounds-list-0
 bounds-list-0 c =
-    let listed = accumulating_list _ _ _ c.in_ok-r.ensures.refusal c.in_ok-r.ensures.found c.in_ok-test_list.ensures in
+    let listed = accumulating_list _ c.in_ok-r.ensures c.in_ok-test_list.ensures in
     listed.some
 
 pub certificate_word-view-requires : goal.certificate_word-view-requires
 certificate_word-view-requires c =
-    let listed = accumulating_list _ _ _ c.in_ok-r.ensures.refusal c.in_ok-r.ensures.found c.in_ok-test_list.ensures in
+    let listed = accumulating_list _ c.in_ok-r.ensures c.in_ok-test_list.ensures in
     omega (arith, listed.there 0)
 
 pub is_new_view_quorum-agreed-requires : goal.is_new_view_quorum-agreed-requires
 is_new_view_quorum-agreed-requires c =
-    let listed = accumulating_list _ _ _ c.in_ok-r.ensures.refusal c.in_ok-r.ensures.found c.in_ok-test_list.ensures in
+    let listed = accumulating_list _ c.in_ok-r.ensures c.in_ok-test_list.ensures in
     listed.all
 
 pub returns-in_err-need : goal.returns-in_err-need
 returns-in_err-need c =
-    let listed = accumulating_list _ _ _ c.in_ok-r.ensures.refusal c.in_ok-r.ensures.found c.in_ok-test_list.ensures in
+    let listed = accumulating_list _ c.in_ok-r.ensures c.in_ok-test_list.ensures in
     need_stops _ _ listed.at _ _ (rw (c.is.ensures, listed.read) at c.in_err-need.ensures) c.from_residual-in_err-need.ensures
 
 pub returns-in_err-need-2 : goal.returns-in_err-need-2
 returns-in_err-need-2 c =
-    let listed = accumulating_list _ _ _ c.in_ok-r.ensures.refusal c.in_ok-r.ensures.found c.in_ok-test_list.ensures in
+    let listed = accumulating_list _ c.in_ok-r.ensures c.in_ok-test_list.ensures in
     let view = c.certificate_word-view.ensures ∙ ap (λ (x : Certificate). x.view) listed.first in
     let live = need_on _ _ listed.at (rw (c.is.ensures, listed.read) at c.in_ok-need.ensures) in
     need_stops _ _ live _ _ (rw (c.is_new_view_quorum-agreed.ensures, view) at c.in_err-need-2.ensures)
@@ -53,23 +53,23 @@ returns-in_err-need-2 c =
 
 pub greatest-best-requires : goal.greatest-best-requires
 greatest-best-requires c =
-    let listed = accumulating_list _ _ _ c.in_ok-r.ensures.refusal c.in_ok-r.ensures.found c.in_ok-test_list.ensures in
+    let listed = accumulating_list _ c.in_ok-r.ensures c.in_ok-test_list.ensures in
     (listed.all, listed.some)
 
 pub certificate_in-c-requires : goal.certificate_in-c-requires
 certificate_in-c-requires c =
-    let listed = accumulating_list _ _ _ c.in_ok-r.ensures.refusal c.in_ok-r.ensures.found c.in_ok-test_list.ensures in
+    let listed = accumulating_list _ c.in_ok-r.ensures c.in_ok-test_list.ensures in
     listed.there c.greatest-best.result
 
 pub issue-requires : goal.issue-requires
 issue-requires c =
-    let listed = accumulating_list _ _ _ c.in_ok-r.ensures.refusal c.in_ok-r.ensures.found c.in_ok-test_list.ensures in
+    let listed = accumulating_list _ c.in_ok-r.ensures c.in_ok-test_list.ensures in
     record { issuable = issuable _ _ listed.ready; settable = refl }
 
 pub returns : goal.returns
 unfolding accumulate_rule
 returns c =
-    let listed = accumulating_list _ _ _ c.in_ok-r.ensures.refusal c.in_ok-r.ensures.found c.in_ok-test_list.ensures in
+    let listed = accumulating_list _ c.in_ok-r.ensures c.in_ok-test_list.ensures in
     let view = c.certificate_word-view.ensures ∙ ap (λ (x : Certificate). x.view) listed.first in
     let best = c.certificate_in-c.ensures ∙ ap certificate_from c.greatest-best.ensures.is in
     let live = need_on _ _ listed.at (rw (c.is.ensures, listed.read) at c.in_ok-need.ensures) in

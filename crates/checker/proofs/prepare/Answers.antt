@@ -13,40 +13,40 @@ returns-in_err-r c = stops _ _ _ _ (prepare_at _ _ _ _ _) c.in_err-r.ensures.ref
 
 pub test_justification-requires : goal.test_justification-requires
 test_justification-requires c =
-    let found = preparing _ _ c.args.block c.args.justification c.args.list.now c.in_ok-r.ensures.refusal c.in_ok-r.ensures.found in
+    let found = preparing _ _ c.args.block c.args.justification c.args.list.now c.in_ok-r.ensures in
     omega (tests, found.ready.sizes)
 
 pub returns-in_err-test_justification : goal.returns-in_err-test_justification
 returns-in_err-test_justification c =
-    let found = preparing _ _ c.args.block _ _ c.in_ok-r.ensures.refusal c.in_ok-r.ensures.found in
+    let found = preparing _ _ c.args.block _ _ c.in_ok-r.ensures in
     stops _ _ _ _ found.at c.in_err-test_justification.ensures c.from_residual-in_err-test_justification.ensures
 
 pub bounds-table-2 : goal.bounds-table-2
 bounds-table-2 c =
-    let found = preparing _ _ c.args.block c.args.justification c.args.list.now c.in_ok-r.ensures.refusal c.in_ok-r.ensures.found in
+    let found = preparing _ _ c.args.block c.args.justification c.args.list.now c.in_ok-r.ensures in
     omega (tests, found.ready.sizes)
 
 pub returns-in_err-need : goal.returns-in_err-need
 returns-in_err-need c =
-    let found = preparing _ _ c.args.block _ _ c.in_ok-r.ensures.refusal c.in_ok-r.ensures.found in
+    let found = preparing _ _ c.args.block _ _ c.in_ok-r.ensures in
     let numbered = on _ _ refl found.at c.in_ok-test_justification.ensures in
     need_stops _ _ numbered _ _ c.in_err-need.ensures c.from_residual-in_err-need.ensures
 
 pub returns-in_err-need-2 : goal.returns-in_err-need-2
 returns-in_err-need-2 c =
-    let found = preparing _ _ c.args.block _ _ c.in_ok-r.ensures.refusal c.in_ok-r.ensures.found in
+    let found = preparing _ _ c.args.block _ _ c.in_ok-r.ensures in
     let numbered = on _ _ refl found.at c.in_ok-test_justification.ensures in
     let added = need_on _ _ numbered c.in_ok-need.ensures in
     need_stops _ _ added _ _ (rw (c.is.ensures, found.read) at c.in_err-need-2.ensures) c.from_residual-in_err-need-2.ensures
 
 pub judge-requires : goal.judge-requires
 judge-requires c =
-    let found = preparing _ _ c.args.block c.args.justification c.args.list.now c.in_ok-r.ensures.refusal c.in_ok-r.ensures.found in
+    let found = preparing _ _ c.args.block c.args.justification c.args.list.now c.in_ok-r.ensures in
     justifies _ c.args.replica c.args.block _ _ found.ready.formed c.in_ok-test_justification.ensures
 
 pub returns-in_err-justified : goal.returns-in_err-justified
 returns-in_err-justified c =
-    let found = preparing _ _ c.args.block _ _ c.in_ok-r.ensures.refusal c.in_ok-r.ensures.found in
+    let found = preparing _ _ c.args.block _ _ c.in_ok-r.ensures in
     let numbered = on _ _ refl found.at c.in_ok-test_justification.ensures in
     let added = need_on _ _ numbered c.in_ok-need.ensures in
     let live = need_on _ _ added (rw (c.is.ensures, found.read) at c.in_ok-need-2.ensures) in
@@ -54,17 +54,17 @@ returns-in_err-justified c =
 
 pub parent-parent-requires : goal.parent-parent-requires
 parent-parent-requires c =
-    let found = preparing _ _ c.args.block c.args.justification c.args.list.now c.in_ok-r.ensures.refusal c.in_ok-r.ensures.found in
+    let found = preparing _ _ c.args.block c.args.justification c.args.list.now c.in_ok-r.ensures in
     omega (tests, needed _ _ c.in_ok-need.ensures, found.ready.sizes)
 
 pub test_proposal-requires : goal.test_proposal-requires
 test_proposal-requires c =
-    let found = preparing _ _ c.args.block c.args.justification c.args.list.now c.in_ok-r.ensures.refusal c.in_ok-r.ensures.found in
+    let found = preparing _ _ c.args.block c.args.justification c.args.list.now c.in_ok-r.ensures in
     found.ready.sizes.faults_high
 
 pub returns-in_err-test_proposal : goal.returns-in_err-test_proposal
 returns-in_err-test_proposal c =
-    let found = preparing _ _ c.args.block _ _ c.in_ok-r.ensures.refusal c.in_ok-r.ensures.found in
+    let found = preparing _ _ c.args.block _ _ c.in_ok-r.ensures in
     let numbered = on _ _ refl found.at c.in_ok-test_justification.ensures in
     let added = need_on _ _ numbered c.in_ok-need.ensures in
     let live = need_on _ _ added (rw (c.is.ensures, found.read) at c.in_ok-need-2.ensures) in
@@ -74,13 +74,13 @@ returns-in_err-test_proposal c =
 
 pub issue-requires-clause-issuable : goal.issue-requires-clause-issuable
 issue-requires-clause-issuable c =
-    let found = preparing _ _ c.args.block c.args.justification c.args.list.now c.in_ok-r.ensures.refusal c.in_ok-r.ensures.found in
+    let found = preparing _ _ c.args.block c.args.justification c.args.list.now c.in_ok-r.ensures in
     issuable _ _ found.ready
 
 pub returns : goal.returns
 unfolding prepare_rule
 returns c =
-    let found = preparing _ _ c.args.block _ _ c.in_ok-r.ensures.refusal c.in_ok-r.ensures.found in
+    let found = preparing _ _ c.args.block _ _ c.in_ok-r.ensures in
     let numbered = on _ _ refl found.at c.in_ok-test_justification.ensures in
     let added = need_on _ _ numbered c.in_ok-need.ensures in
     let live = need_on _ _ added (rw (c.is.ensures, found.read) at c.in_ok-need-2.ensures) in

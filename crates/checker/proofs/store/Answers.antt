@@ -14,45 +14,45 @@ returns-in_err-r c = stops _ _ _ _ (start _ _ _ _ _ _ refl) c.in_err-r.ensures.r
 
 pub find_certificate-requires : goal.find_certificate-requires
 find_certificate-requires c =
-    let found = storing _ _ c.in_ok-r.ensures.refusal c.in_ok-r.ensures.found c.args.number in
+    let found = storing _ _ c.in_ok-r.ensures c.args.number in
     log_fits _ found.ready.formed
 
 pub returns-in_err-p : goal.returns-in_err-p
 returns-in_err-p c =
-    let found = storing _ _ c.in_ok-r.ensures.refusal c.in_ok-r.ensures.found c.args.number in
+    let found = storing _ _ c.in_ok-r.ensures c.args.number in
     stops _ _ _ _ found.at c.in_err-p.ensures.refusal c.from_residual-in_err-p.ensures
 
 pub bounds-table-0 : goal.bounds-table-0
 bounds-table-0 c =
-    let found = storing _ _ c.in_ok-r.ensures.refusal c.in_ok-r.ensures.found c.args.number in
+    let found = storing _ _ c.in_ok-r.ensures c.args.number in
     omega (tests, found.ready.sizes)
 
 pub test_store-requires : goal.test_store-requires
 test_store-requires c =
-    let found = storing _ _ c.in_ok-r.ensures.refusal c.in_ok-r.ensures.found c.args.number in
+    let found = storing _ _ c.in_ok-r.ensures c.args.number in
     found.ready.sizes.faults_high
 
 pub returns-in_err-test_store : goal.returns-in_err-test_store
 returns-in_err-test_store c =
-    let found = storing _ _ c.in_ok-r.ensures.refusal c.in_ok-r.ensures.found c.args.number in
-    let prop = storing_prop _ _ c.in_ok-r.ensures.refusal c.in_ok-r.ensures.found _ c.in_ok-p.ensures.refusal c.in_ok-p.ensures.found in
+    let found = storing _ _ c.in_ok-r.ensures c.args.number in
+    let prop = storing_prop _ _ c.in_ok-r.ensures _ c.in_ok-p.ensures in
     stops _ _ _ _ prop.at (rw (found.read, prop.read) at c.in_err-test_store.ensures) c.from_residual-in_err-test_store.ensures
 
 pub overflow_add-words : goal.overflow_add-words
 overflow_add-words c =
-    let found = storing _ _ c.in_ok-r.ensures.refusal c.in_ok-r.ensures.found c.args.number in
-    let prop = storing_prop _ _ c.in_ok-r.ensures.refusal c.in_ok-r.ensures.found _ c.in_ok-p.ensures.refusal c.in_ok-p.ensures.found in
+    let found = storing _ _ c.in_ok-r.ensures c.args.number in
+    let prop = storing_prop _ _ c.in_ok-r.ensures _ c.in_ok-p.ensures in
     rw prop.read (record { fits = omega (tests, view_bound _ _ found.ready.formed prop.issued) })
 
 pub issue-requires-clause-issuable : goal.issue-requires-clause-issuable
 issue-requires-clause-issuable c =
-    let found = storing _ _ c.in_ok-r.ensures.refusal c.in_ok-r.ensures.found c.args.number in
+    let found = storing _ _ c.in_ok-r.ensures c.args.number in
     issuable _ _ found.ready
 
 pub returns : goal.returns
 unfolding store_rule
 returns c =
-    let found = storing _ _ c.in_ok-r.ensures.refusal c.in_ok-r.ensures.found c.args.number in
-    let prop = storing_prop _ _ c.in_ok-r.ensures.refusal c.in_ok-r.ensures.found _ c.in_ok-p.ensures.refusal c.in_ok-p.ensures.found in
+    let found = storing _ _ c.in_ok-r.ensures c.args.number in
+    let prop = storing_prop _ _ c.in_ok-r.ensures _ c.in_ok-p.ensures in
     let at_slot = on _ _ refl prop.at (rw (found.read, prop.read) at c.in_ok-test_store.ensures) in
     issues _ _ _ _ _ at_slot (rw (c.word.ensures, prop.read) refl) (rw (c.signed.ensures, prop.read, found.read) refl) (c.issue.ensures _)

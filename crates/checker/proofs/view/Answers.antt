@@ -12,17 +12,17 @@ returns-in_err-r c = stops _ _ _ _ (start _ _ _ _ _ _ refl) c.in_err-r.ensures.r
 
 pub returns-in_err-test_view : goal.returns-in_err-test_view
 returns-in_err-test_view c =
-    let found = entering _ _ c.in_ok-r.ensures.refusal c.in_ok-r.ensures.found c.args.view in
+    let found = entering _ _ c.in_ok-r.ensures c.args.view in
     stops _ _ _ _ found.at (rw found.read at c.in_err-test_view.ensures) c.from_residual-in_err-test_view.ensures
 
 pub issue-requires-clause-issuable : goal.issue-requires-clause-issuable
 issue-requires-clause-issuable c =
-    let found = entering _ _ c.in_ok-r.ensures.refusal c.in_ok-r.ensures.found c.args.view in
+    let found = entering _ _ c.in_ok-r.ensures c.args.view in
     issuable _ _ found.ready
 
 pub returns : goal.returns
 unfolding view_rule
 returns c =
-    let found = entering _ _ c.in_ok-r.ensures.refusal c.in_ok-r.ensures.found c.args.view in
+    let found = entering _ _ c.in_ok-r.ensures c.args.view in
     let at_slot = on _ _ refl found.at (rw found.read at c.in_ok-test_view.ensures) in
     issues _ _ _ _ _ at_slot (rw (c.flag_in.ensures, found.read)) (rw (c.signed.ensures, found.read)) (c.issue.ensures _)

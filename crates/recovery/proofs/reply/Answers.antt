@@ -14,44 +14,44 @@ returns-in_err-r c = stops _ _ _ _ (start _ _ _ _ _ _ refl) c.in_err-r.ensures.r
 
 pub find_certificate-requires : goal.find_certificate-requires
 find_certificate-requires c =
-    let found = replying _ _ c.in_ok-r.ensures.refusal c.in_ok-r.ensures.found c.args.number in
+    let found = replying _ _ c.in_ok-r.ensures c.args.number in
     log_fits _ found.ready.formed
 
 pub returns-in_err-q : goal.returns-in_err-q
 returns-in_err-q c =
-    let found = replying _ _ c.in_ok-r.ensures.refusal c.in_ok-r.ensures.found c.args.number in
+    let found = replying _ _ c.in_ok-r.ensures c.args.number in
     stops _ _ _ _ found.at c.in_err-q.ensures.refusal c.from_residual-in_err-q.ensures
 
 pub returns-in_err-test_reply : goal.returns-in_err-test_reply
 returns-in_err-test_reply c =
-    let found = replying _ _ c.in_ok-r.ensures.refusal c.in_ok-r.ensures.found c.args.number in
-    let asked = replying_to _ _ c.in_ok-r.ensures.refusal c.in_ok-r.ensures.found _ c.in_ok-q.ensures.refusal c.in_ok-q.ensures.found in
+    let found = replying _ _ c.in_ok-r.ensures c.args.number in
+    let asked = replying_to _ _ c.in_ok-r.ensures _ c.in_ok-q.ensures in
     stops _ _ _ _ asked.at (rw (found.read, asked.read) at c.in_err-test_reply.ensures) c.from_residual-in_err-test_reply.ensures
 
 pub issue-requires : goal.issue-requires
 issue-requires c =
-    let found = replying _ _ c.in_ok-r.ensures.refusal c.in_ok-r.ensures.found c.args.number in
+    let found = replying _ _ c.in_ok-r.ensures c.args.number in
     record { issuable = issuable _ _ found.ready; settable = refl }
 
 pub returns-then-r-q : goal.returns-then-r-q
 unfolding rule
 returns-then-r-q c =
-    let found = replying _ _ c.in_ok-r.ensures.refusal c.in_ok-r.ensures.found c.args.number in
-    let asked = replying_to _ _ c.in_ok-r.ensures.refusal c.in_ok-r.ensures.found _ c.in_ok-q.ensures.refusal c.in_ok-q.ensures.found in
+    let found = replying _ _ c.in_ok-r.ensures c.args.number in
+    let asked = replying_to _ _ c.in_ok-r.ensures _ c.in_ok-q.ensures in
     let at_slot = on _ _ refl asked.at (rw (found.read, asked.read) at c.in_ok-test_reply.ensures) in
     let rises = lt-ltb _ _ (rw (found.read, asked.read) at c.if-r-q.true) in
     issues _ _ _ _ _ at_slot (rw (rises, asked.read, c.word.ensures)) (rw (found.read, asked.read) at c.reply_to-answer.ensures) (c.issue.ensures _)
 
 pub issue-requires-2 : goal.issue-requires-2
 issue-requires-2 c =
-    let found = replying _ _ c.in_ok-r.ensures.refusal c.in_ok-r.ensures.found c.args.number in
+    let found = replying _ _ c.in_ok-r.ensures c.args.number in
     record { issuable = issuable _ _ found.ready; settable = refl }
 
 pub returns : goal.returns
 unfolding rule
 returns c =
-    let found = replying _ _ c.in_ok-r.ensures.refusal c.in_ok-r.ensures.found c.args.number in
-    let asked = replying_to _ _ c.in_ok-r.ensures.refusal c.in_ok-r.ensures.found _ c.in_ok-q.ensures.refusal c.in_ok-q.ensures.found in
+    let found = replying _ _ c.in_ok-r.ensures c.args.number in
+    let asked = replying_to _ _ c.in_ok-r.ensures _ c.in_ok-q.ensures in
     let at_slot = on _ _ refl asked.at (rw (found.read, asked.read) at c.in_ok-test_reply.ensures) in
     let stays = le-ltb _ _ (rw (found.read, asked.read) at c.if-r-q.false) in
     issues _ _ _ _ _ at_slot (rw stays) (rw (found.read, asked.read) at c.reply_to-answer.ensures) (c.issue-2.ensures _)

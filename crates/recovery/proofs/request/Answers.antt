@@ -12,17 +12,17 @@ returns-in_err-r c = stops _ _ _ _ (start _ _ _ _ _ _ refl) c.in_err-r.ensures.r
 
 pub returns-in_err-need : goal.returns-in_err-need
 returns-in_err-need c =
-    let found = requesting _ _ c.in_ok-r.ensures.refusal c.in_ok-r.ensures.found in
+    let found = requesting _ _ c.in_ok-r.ensures in
     need_stops _ _ found.at _ _ (rw (c.is.ensures, found.read) at c.in_err-need.ensures) c.from_residual-in_err-need.ensures
 
 pub issue-requires : goal.issue-requires
 issue-requires c =
-    let found = requesting _ _ c.in_ok-r.ensures.refusal c.in_ok-r.ensures.found in
+    let found = requesting _ _ c.in_ok-r.ensures in
     record { issuable = issuable _ _ found.ready; settable = refl }
 
 pub returns : goal.returns
 unfolding rule
 returns c =
-    let found = requesting _ _ c.in_ok-r.ensures.refusal c.in_ok-r.ensures.found in
+    let found = requesting _ _ c.in_ok-r.ensures in
     let at_slot = need_on _ _ found.at (rw (c.is.ensures, found.read) at c.in_ok-need.ensures) in
     issues _ _ _ _ _ at_slot refl (rw found.read at c.req.ensures) (c.issue.ensures _)

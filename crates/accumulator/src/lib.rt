@@ -9,7 +9,7 @@ use certificate_log::{ACC, Certificate, VIEW_AT, certificate_in, certificate_wor
 use checks::{accepted, need};
 use issuing::issue;
 use protocol::{Answer, Refusal};
-use table::{DECIDED_BLOCK_AT, DECIDED_VIEW_AT, LIVE};
+use table::{DECIDED_BLOCK_AT, DECIDED_VIEW_AT, Status};
 
 // A quorum of NEWVIEWs of one view gives an ACC of the greatest of-view.
 pub fn accumulate(
@@ -26,7 +26,7 @@ pub fn accumulate(
     checks::test_list(table, list)?;
     let view = certificate_word(log, list[0], VIEW_AT);
     let agreed = quorum::is_new_view_quorum(log, list, view);
-    need(r.status == LIVE, Refusal::WrongStatus)?;
+    need(r.is(Status::Live), Refusal::WrongStatus)?;
     need(agreed, Refusal::WrongCertificate)?;
     let best = quorum::greatest(log, list);
     let c = certificate_in(log, list[best]);
@@ -40,7 +40,7 @@ pub fn accumulate(
         subject_boot: 0,
         signer_boot: r.boot,
     };
-    issue(table, log, replica, &[], &[], acc)
+    issue(table, log, replica, &[], acc)
 }
 
 // A quorum of COMMITs of one view and block decides the block; the replica shows it where its view is above the decided view.
@@ -62,8 +62,7 @@ pub fn decide(
     if c.view <= r.decided_view {
         return accepted(c.block, c.view);
     }
-    let offsets = [DECIDED_VIEW_AT, DECIDED_BLOCK_AT];
-    let values = [c.view, c.block];
-    records::set_words(table, replica, &offsets, &values);
+    let words = [(DECIDED_VIEW_AT, c.view), (DECIDED_BLOCK_AT, c.block)];
+    records::set_words(table, replica, &words);
     accepted(c.block, c.view)
 }

@@ -6,7 +6,6 @@ ghost use Rattle.std.specs.Prelude.{◌≡◌, [], ◌∷◌, ◌+◌, ◌≤◌
 ghost use Rattle.std.proofs.lemmas.List.Edits.{sets};
 ghost use Rattle.protocol.specs.Memory.{block_words, parent_at, height_at, block_at as block_at_rule, block_record, max_blocks};
 ghost use Rattle.protocol.specs.Form.{all_below};
-ghost use Rattle.protocol.specs.inner.Groups.{four_ok};
 ghost use Rattle.blocks.specs.inner.Records.{parent_in, height_in, block_ok, Testable};
 
 pub const BLOCK_WORDS: usize = 2;
@@ -89,19 +88,7 @@ fn block_formed(blocks: &[u32], block: usize) -> bool
     blocks[at + HEIGHT_AT] == blocks[BLOCK_WORDS * parent + HEIGHT_AT] + 1
 }
 
-// Four blocks, one after the other, up to the first that fails: the compiler inlines them.
-fn four_formed(blocks: &[u32], block: usize) -> bool
-    requires { Testable blocks.now block 4 }
-    ensures { result ≡ four_ok (block_ok blocks.now) block }
-{
-    block_formed(blocks, block)
-        && block_formed(blocks, block + 1)
-        && block_formed(blocks, block + 2)
-        && block_formed(blocks, block + 3)
-}
-
-// Every added block, up to the first that fails. Four a turn: by a `for` with one a turn, or with an inner `for` over four, the test takes
-// a quarter to a half longer.
+// Every added block, up to the first that fails.
 pub fn blocks_formed(blocks: &[u32], added: u32) -> bool
     requires { (1 ≤ added) × (added ≤ max_blocks) × (block_at_rule added ≤ length blocks.now) }
     ensures { result ≡ all_below added (block_ok blocks.now) }
@@ -110,14 +97,7 @@ pub fn blocks_formed(blocks: &[u32], added: u32) -> bool
         return false;
     }
     let end = added as usize;
-    let mut first: usize = 1;
-    while first + 4 <= end {
-        if !four_formed(blocks, first) {
-            return false;
-        }
-        first += 4;
-    }
-    for block in first..end {
+    for block in 1..end {
         if !block_formed(blocks, block) {
             return false;
         }

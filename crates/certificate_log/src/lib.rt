@@ -232,7 +232,8 @@ fn group_exceeds(log: &[u32], at: usize, last_replica: u32, last_block: u32) -> 
 }
 
 // Every issued certificate, up to the first group with one that fails. The words of a group start at `start`, a variable of its own: from
-// one index for kinds and limits the compiler makes one test of both, without vectors.
+// one index for kinds and limits the compiler makes one test of both, without vectors. A `for` over the groups takes a sixth longer, and
+// chunks of the log with a `fold` near three times as long.
 pub fn certificates_formed(log: &[u32], count: u32, replicas: u32, added: u32) -> bool
     requires { (certificate_at_rule count ≤ length log.now) × (1 ≤ replicas) × (1 ≤ added) }
     ensures { result ≡ all_below count (certificate_ok log.now replicas added) }

@@ -25,8 +25,8 @@ use leader::FIRST_VIEW;
 use protocol::{Answer, Justification, Refusal};
 use records::Replica;
 use table::{
-    BLOCK_COUNT_AT, CEILING, FAULT_BOUND_AT, FLAG_AT, LIVE, LOWERED, MIN_VIEW_AT, RAISED,
-    STORED_BLOCK_AT, STORED_VIEW_AT,
+    BLOCK_COUNT_AT, CEILING, FAULT_BOUND_AT, FLAG_AT, Flag, MIN_VIEW_AT, STORED_BLOCK_AT,
+    STORED_VIEW_AT, Status,
 };
 
 mod justification;
@@ -76,7 +76,7 @@ fn test_proposal(
     need(block != ROOT, Refusal::WrongBlock)?;
     need(parent == justified.block, Refusal::WrongBlock)?;
     need(r.min_view == justified.view, Refusal::WrongView)?;
-    need(r.flag == LOWERED, Refusal::WrongView)?;
+    need(r.has(Flag::Lowered), Refusal::WrongView)?;
     need(justified.view < r.view_limit, Refusal::CounterLimit)
 }
 
@@ -97,14 +97,13 @@ pub fn prepare(
     let r = checks::find_replica(table, log, blocks, replica)?;
     justification::test_justification(table, justification, list)?;
     need(block < table[BLOCK_COUNT_AT], Refusal::UnknownNumber)?;
-    need(r.status == LIVE, Refusal::WrongStatus)?;
+    need(r.is(Status::Live), Refusal::WrongStatus)?;
     let justified = justification::judge(log, replica, justification, list)?;
     let parent = blocks::parent(blocks, block);
     test_proposal(table[FAULT_BOUND_AT], replica, r, block, parent, justified)?;
-    let offsets = [FLAG_AT];
-    let values = [RAISED];
+    let words = [(FLAG_AT, Flag::Raised.word())];
     let c = of_kind(PROP, replica, r.boot, justified.view, block);
-    issue(table, log, replica, &offsets, &values, c)
+    issue(table, log, replica, &words, c)
 }
 
 // ---- store
@@ -116,7 +115,7 @@ fn test_store(f: u32, r: Replica, p: Certificate) -> Result<(), Refusal>
     ensures { number_in result ≡ first_refusal (store_needs f (replica_of r) (certificate_of p)) }
 {
     let leads = leader::leads(f, p.view, p.signer);
-    need(r.status == LIVE, Refusal::WrongStatus)?;
+    need(r.is(Status::Live), Refusal::WrongStatus)?;
     need(p.kind == PROP, Refusal::WrongCertificate)?;
     need(leads, Refusal::WrongCertificate)?;
     need(r.min_view <= p.view, Refusal::WrongView)?;
@@ -137,10 +136,14 @@ pub fn store(
     let r = checks::find_replica(table, log, blocks, replica)?;
     let p = checks::find_certificate(table, log, number)?;
     test_store(table[FAULT_BOUND_AT], r, p)?;
-    let offsets = [STORED_VIEW_AT, STORED_BLOCK_AT, MIN_VIEW_AT, FLAG_AT];
-    let values = [p.view, p.block, p.view + 1, LOWERED];
+    let words = [
+        (STORED_VIEW_AT, p.view),
+        (STORED_BLOCK_AT, p.block),
+        (MIN_VIEW_AT, p.view + 1),
+        (FLAG_AT, Flag::Lowered.word()),
+    ];
     let c = of_kind(COMMIT, replica, r.boot, p.view, p.block);
-    issue(table, log, replica, &offsets, &values, c)
+    issue(table, log, replica, &words, c)
 }
 
 // ---- view
@@ -152,7 +155,7 @@ fn test_view(r: Replica, view: u32) -> Result<(), Refusal>
 {
     need(FIRST_VIEW <= view, Refusal::OutOfRange)?;
     need(view <= CEILING, Refusal::OutOfRange)?;
-    need(r.status == LIVE, Refusal::WrongStatus)?;
+    need(r.is(Status::Live), Refusal::WrongStatus)?;
     need(r.min_view <= view, Refusal::WrongView)?;
     need(view < r.view_limit, Refusal::CounterLimit)
 }
@@ -161,7 +164,11 @@ fn test_view(r: Replica, view: u32) -> Result<(), Refusal>
 fn flag_in(r: Replica, view: u32) -> u32
     ensures { result ≡ cond (is_ahead (replica_of r) view) lowered r.flag }
 {
-    if r.min_view < view { LOWERED } else { r.flag }
+    if r.min_view < view {
+        Flag::Lowered.word()
+    } else {
+        r.flag
+    }
 }
 
 // A replica enters a view, and tells what it has stored; it proposes, stores and enters in no earlier view again.
@@ -177,8 +184,7 @@ pub fn view(
 {
     let r = checks::find_replica(table, log, blocks, replica)?;
     test_view(r, view)?;
-    let offsets = [FLAG_AT, MIN_VIEW_AT];
-    let values = [flag_in(r, view), view];
+    let words = [(FLAG_AT, flag_in(r, view)), (MIN_VIEW_AT, view)];
     let c = Certificate {
         kind: NEWVIEW,
         signer: replica,
@@ -189,5 +195,5 @@ pub fn view(
         subject_boot: 0,
         signer_boot: r.boot,
     };
-    issue(table, log, replica, &offsets, &values, c)
+    issue(table, log, replica, &words, c)
 }

@@ -83,19 +83,25 @@ need_failed : (t : Bool) (r e : Refusal) → ◌≡◌ {A = Result (Unit {0}) Re
 need_failed true r e is = let clash : ◌≡◌ {A = ℕ} 0 1 = cc in absurd (omega arith)
 need_failed false r e is = (refl, cc)
 
+module _ {Value State : Type 0} {none : Value} {rule : RuleOf none State} {t : Bool} (r : Refusal) (rest : List Need)
+    (at : At rule (t else number_of r ∷ rest)) where
+  pub need_stops_at : (s : State) (e : Refusal) → ◌≡◌ {A = Result (Unit {0}) Refusal} (Err e) (cond t (Ok tt) (Err r))
+      → refusal_of none (number_of e) s ≡ follow s rule
+  unfolding first_refusal
+  need_stops_at s e is =
+      let q = need_failed t r e is in
+      stops_at s e (t else number_of r ∷ []) rest at (rw (q.0, q.1) refl)
+
+  pub need_on : {u : Unit {0}} → ◌≡◌ {A = Result (Unit {0}) Refusal} (Ok u) (cond t (Ok tt) (Err r)) → At rule rest
+  unfolding first_refusal
+  need_on is = let q = needed t r is in record { same = at.same ∙ rw q refl }
+
 module _ {State : Type 0} {rule : RuleOf {Value = ℕ} 0 State} {t : Bool} (r : Refusal) (rest : List Need)
     (at : At rule (t else number_of r ∷ rest)) where
   pub need_stops : {s : State} (a : Result Values Refusal) (e : Refusal)
       → ◌≡◌ {A = Result (Unit {0}) Refusal} (Err e) (cond t (Ok tt) (Err r)) → IsErr a × IsErrAnd a (λ d. d ≡ e)
       → record { answer = told a; state = s } ≡ follow s rule
-  unfolding first_refusal
-  need_stops a e is up =
-      let q = need_failed t r e is in
-      stops a e (t else number_of r ∷ []) rest at (rw (q.0, q.1) refl) up
-
-  pub need_on : {u : Unit {0}} → ◌≡◌ {A = Result (Unit {0}) Refusal} (Ok u) (cond t (Ok tt) (Err r)) → At rule rest
-  unfolding first_refusal
-  need_on is = let q = needed t r is in record { same = at.same ∙ rw q refl }
+  need_stops {s} a e is up = rw (handed_up a e up) (need_stops_at r rest at s e is)
 
 -- ---- what is found: a replica
 

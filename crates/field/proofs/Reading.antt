@@ -11,7 +11,8 @@ use lib.Dec.{ltb, leb, eqb}
 use lib.ListN.{length, replicate, get_or, take, drop, length-take, length-drop, drop_of_length-le}
 use lib.Seq.{drop-cons}
 use Rattle.field.specs.Digits.{digit_zero, digit_nine, is_digit, digits}
-use Rattle.field.specs.Field.{columns, blank, max_number, no_number, continued, unpadded, aligned, read_field}
+use Rattle.std.specs.Prelude.{None, Some}
+use Rattle.field.specs.Field.{columns, blank, max_number, no_number, continued, unpadded, aligned, read_field, found}
 use Rattle.field.proofs.Booleans.{tests, by-test}
 use Rattle.field.proofs.Counts.{next_power}
 
@@ -26,6 +27,9 @@ by-digit b hit miss =
     by-test (leb digit_zero b)
     (λ p. by-test (leb b digit_nine) (λ q. hit (omega tests) (omega tests)) (λ q. miss (rw (p, q))))
     (λ p. miss (rw p))
+
+pub at_most_nine : (b : ℕ) → is_digit b ≡ true → b ≤ digit_nine
+at_most_nine b t = by-test (leb b digit_nine) (λ q. omega tests) (λ q. by-test (leb digit_zero b) (λ p. absurd (cc (rw (p, q) at t))) (λ p. absurd (cc (rw p at t))))
 
 pub continued_digit : (v b : ℕ) (bs : List ℕ) → digit_zero ≤ b → b ≤ digit_nine
     → continued v (b ∷ bs) ≡ continued (10 * v + (b - digit_zero)) bs
@@ -115,22 +119,27 @@ continued_high (b ∷ bs) v =
     (⊎_elim (λ i. inl (omega arith)) (λ z. inr z) (continued_high bs (10 * v + (b - digit_zero)))))
     (λ t. inr (not_digit v b bs t))
 
+-- ---- what a read gives
+
+pub found_small : (n : ℕ) → n ≤ max_number → Some n ≡ found n
+found_small n h = let t : leb n max_number ≡ true = omega tests in rw t
+
+pub found_some : {n k : ℕ} → Some n ≡ found k → (k ≤ max_number) × (k ≡ n)
+found_some {n} {k} e =
+    by-test (leb k max_number) (λ t. let same = rw t at e in (omega tests, cc)) (λ t. let none = rw t at e in absurd (cc))
+
+pub found_none : {k : ℕ} → None ≡ found k → max_number < k
+found_none {k} e = by-test (leb k max_number) (λ t. let some = rw t at e in absurd (cc)) (λ t. omega tests)
+
 -- ---- column by column, as the code reads
 
-pub reads_digit : (l : List ℕ) (i v : ℕ) → i < length l → digit_zero ≤ get_or l i 0 → get_or l i 0 ≤ digit_nine
+pub reads_digit : (l : List ℕ) (i v : ℕ) → i < length l → is_digit (get_or l i 0) ≡ true
     → continued (10 * v + (get_or l i 0 - digit_zero)) (drop (i + 1) l) ≡ continued v (drop i l)
-reads_digit l i v h low high = rw (add-one i, drop-cons l i 0 h) (sym (continued_digit v (get_or l i 0) (drop (suc i) l) low high))
+unfolding continued
+reads_digit l i v h t = rw (add-one i, drop-cons l i 0 h, t)
 
-pub stops_below : (l : List ℕ) (i v : ℕ) → i < length l → get_or l i 0 < digit_zero → continued v (drop i l) ≡ no_number
-stops_below l i v h low =
-    let t : leb digit_zero (get_or l i 0) ≡ false = omega tests in
-    rw (drop-cons l i 0 h) (not_digit v (get_or l i 0) (drop (suc i) l) (rw t))
-
-pub stops_above : (l : List ℕ) (i v : ℕ) → i < length l → digit_nine < get_or l i 0 → continued v (drop i l) ≡ no_number
-stops_above l i v h high =
-    let t : leb digit_zero (get_or l i 0) ≡ true = omega tests in
-    let u : leb (get_or l i 0) digit_nine ≡ false = omega tests in
-    rw (drop-cons l i 0 h) (not_digit v (get_or l i 0) (drop (suc i) l) (rw (t, u)))
+pub stops : (l : List ℕ) (i v : ℕ) → i < length l → is_digit (get_or l i 0) ≡ false → continued v (drop i l) ≡ no_number
+stops l i v h t = rw (drop-cons l i 0 h) (not_digit v (get_or l i 0) (drop (suc i) l) t)
 
 pub reads_all : (l : List ℕ) (i v : ℕ) → length l ≤ i → continued v (drop i l) ≡ v
 unfolding continued
@@ -143,24 +152,27 @@ stays_small i v h l =
     let m = pow-le-pow_right {n = 10} (omega arith) {i = i + 1} {j = columns} (omega arith) in
     (omega arith, omega arith)
 
-pub leading_zero : (l : List ℕ) (i : ℕ) → i + 1 < length l → get_or l i 0 ≡ digit_zero → unpadded (drop i l) ≡ no_number
-unfolding unpadded
-leading_zero l i h e =
-    let t : eqb (get_or l i 0) digit_zero ≡ true = omega tests in
-    let more : ltb 0 (length (drop (suc i) l)) ≡ true = rw (length-drop (suc i) l) (omega tests) in
-    rw (drop-cons l i 0 (omega arith), t, more)
+pub eight_at_most : (i v : ℕ) → i ≤ columns → v < 10 ^ i → v ≤ max_number
+eight_at_most i v h l = let m = pow-le-pow_right {n = 10} (omega arith) {i = i} {j = columns} h in omega arith
 
-pub no_leading_zero : (l : List ℕ) (i : ℕ) → i < length l → (get_or l i 0 ≡ digit_zero → i + 1 ≡ length l)
-    → unpadded (drop i l) ≡ continued 0 (drop i l)
+pub leading_zero : (l : List ℕ) → 1 < length l → get_or l 0 0 ≡ digit_zero → unpadded l ≡ no_number
 unfolding unpadded
-no_leading_zero l i h last =
-    rw (drop-cons l i 0 h)
-    (by-test (eqb (get_or l i 0) digit_zero)
+leading_zero [] h e = absurd (omega arith)
+leading_zero (b ∷ rest) h e =
+    let t : eqb b digit_zero ≡ true = omega tests in
+    let more : ltb 0 (length rest) ≡ true = omega tests in
+    rw (t, more)
+
+pub no_leading_zero : (l : List ℕ) → 0 < length l → (get_or l 0 0 ≡ digit_zero → length l ≡ 1) → unpadded l ≡ continued 0 l
+unfolding unpadded
+no_leading_zero [] h last = absurd (omega arith)
+no_leading_zero (b ∷ rest) h last =
+    by-test (eqb b digit_zero)
     (λ t.
     let e = last (omega tests) in
-    let none : ltb 0 (length (drop (suc i) l)) ≡ false = rw (length-drop (suc i) l) (omega tests) in
+    let none : ltb 0 (length rest) ≡ false = omega tests in
     rw (t, none))
-    (λ t. rw t))
+    (λ t. rw t)
 
 pub skips_blank : (l : List ℕ) (i : ℕ) → i < length l → get_or l i 0 ≡ blank → aligned (drop (i + 1) l) ≡ aligned (drop i l)
 unfolding aligned
@@ -174,9 +186,15 @@ after_last_blank l i h e =
     let t : eqb (get_or l i 0) blank ≡ false = omega tests in
     rw (drop-cons l i 0 h, t)
 
-pub only_blanks : (l : List ℕ) (i : ℕ) → length l ≤ i → aligned (drop i l) ≡ no_number
+-- As far as there are blanks.
+pub past_blanks : (l : List ℕ) (i : ℕ) → i ≤ length l → ((k : ℕ) → k < i → get_or l k 0 ≡ blank) → aligned (drop i l) ≡ aligned l
+past_blanks l zero h e = refl
+past_blanks l (suc i) h e =
+    rw add-one at (skips_blank l i (omega arith) (e i (omega arith))) ∙ past_blanks l i (omega arith) (λ k u. e k (omega arith))
+
+pub only_blanks : (l : List ℕ) → ((k : ℕ) → k < length l → get_or l k 0 ≡ blank) → aligned l ≡ no_number
 unfolding aligned
-only_blanks l i h = rw (drop_of_length-le l h)
+only_blanks l e = sym (past_blanks l (length l) (omega arith) e) ∙ rw (drop_of_length-le l {i = length l} (omega arith)) refl
 
 pub eight_columns : (l : List ℕ) → length l ≡ columns → aligned l ≡ read_field l
 unfolding read_field

@@ -10,7 +10,8 @@ use lib.Dec.{ltb, leb, eqb}
 use lib.ListN.{length, replicate, length-append, length-replicate}
 use Rattle.field.specs.Digits.{digit_zero, digit_count, digits}
 use Rattle.field.specs.Field.{columns, blank, max_number, no_number, field_of, write_field}
-use Rattle.field.specs.Field.{continued, is_leading_zero, unpadded, aligned, read_field}
+use Rattle.std.specs.Prelude.{unwrap_or}
+use Rattle.field.specs.Field.{continued, is_leading_zero, unpadded, aligned, read_field, found}
 use Rattle.field.specs.Theorems.{WrittenReadsBack, ReadWritesBack, ReadIsBounded}
 use Rattle.field.proofs.Booleans.{tests, by-test}
 use Rattle.field.proofs.Counts.{count_fits, count_of_digit, count_positive, below_power, count_is, first_digit}
@@ -137,3 +138,11 @@ read-is-bounded bs =
     let l : length bs ≡ columns = omega tests in
     rw t (⊎_elim (λ h. inl (let p = rw l at h in omega arith)) (λ e. inr e) (aligned_bounded bs)))
     (λ t. inr (rw t))
+
+-- ---- what a read gives, as a number again
+
+pub number_back : (bytes : List ℕ) → unwrap_or (found (read_field bytes)) no_number ≡ read_field bytes
+unfolding ReadIsBounded
+number_back bytes =
+    ⊎_elim (λ small. let t : leb (read_field bytes) max_number ≡ true = omega tests in rw t refl) (λ none. rw none refl)
+    (read-is-bounded bytes)

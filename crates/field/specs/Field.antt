@@ -1,5 +1,7 @@
 -- "A field is eight columns, a decimal right-justified after blanks, no leading zeros."
 use Rattle.std.specs.Prelude.{ℕ, ◌+◌, ◌-◌, ◌*◌, Bool, cond, ◌&&◌, List, [], ◌∷◌, ◌++◌, eqb, leb, ltb, length, take, drop, replicate}
+use Rattle.std.specs.Prelude.{Option, None, Some, Result, Ok, Err}
+use Rattle.field.specs.declared.Unwritable.{Unwritable}
 use Rattle.field.specs.Digits.{digit_zero, is_digit, digit_count, digits}
 
 abbrev pub columns : ℕ
@@ -36,6 +38,11 @@ pub record Written : Type 0 where
 abbrev pub written : ℕ → List ℕ → Written
 written answer bytes = record { answer = answer; bytes = bytes }
 
+-- The answer to a write, as a number.
+abbrev pub write_answer : Result (Unit {0}) Unwritable → ℕ
+write_answer (Ok done) = accepted
+write_answer (Err refusal) = unwritable
+
 -- "Its write gives 0, or 10 with the bytes untouched where the length isn't eight or the number is above 99,999,999."
 unfoldable pub write_field : ℕ → List ℕ → Written
 write_field number bytes =
@@ -65,6 +72,10 @@ aligned (byte ∷ rest) = cond (eqb byte blank) (aligned rest) (unpadded (byte �
 -- "Its read gives the number, or 4,294,967,295 for bytes that are no such field."
 unfoldable pub read_field : List ℕ → ℕ
 read_field bytes = cond (eqb (length bytes) columns) (aligned bytes) no_number
+
+-- What a read gives, as a value: the number, or none for no_number.
+abbrev pub found : ℕ → Option ℕ
+found number = cond (leb number max_number) (Some number) None
 
 -- What is read from the eight columns of a line from a column on: a number, or no_number.
 abbrev pub number_from : List ℕ → ℕ → ℕ

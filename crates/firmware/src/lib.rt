@@ -21,8 +21,17 @@ ghost use Rattle.field.specs.Field.{read_field, written, write_field};
 ghost use Rattle.firmware.specs.Version.{version};
 
 use entries::Entry;
+use field::Unwritable;
 
 const VERSION: u32 = 2;
+
+// What a read of a field gives for bytes that are none.
+const NO_NUMBER: u32 = 4_294_967_295;
+
+const ACCEPTED: u32 = 0;
+
+// What a write of a field gives where nothing is written.
+const UNWRITABLE: u32 = 10;
 
 // The number of this interface, for a caller to hold against its header's.
 #[unsafe(no_mangle)]
@@ -209,7 +218,7 @@ pub extern "C" fn yard_ask(
 pub extern "C" fn yard_read_number(bytes: &[u8]) -> u32
     ensures { result ≡ read_field bytes.now }
 {
-    field::read_number(bytes)
+    field::read_number(bytes).unwrap_or(NO_NUMBER)
 }
 
 // 0, or 10 with the bytes untouched where there are not eight or the number has more digits.
@@ -217,5 +226,8 @@ pub extern "C" fn yard_read_number(bytes: &[u8]) -> u32
 pub extern "C" fn yard_write_number(number: u32, bytes: &mut [u8]) -> u32
     ensures { written result bytes.new ≡ write_field number bytes.old }
 {
-    field::write_number(number, bytes)
+    match field::write_number(number, bytes) {
+        Ok(()) => ACCEPTED,
+        Err(Unwritable) => UNWRITABLE,
+    }
 }

@@ -7,6 +7,9 @@ use native.Mathlib.Omega.{arith}
 use lib.Dec.{ltb}
 use lib.ListN.{get_or, replicate, get_or-replicate, length-replicate, get_or-eq_default}
 use lib.IntN.{ℤ, pos}
+use Rattle.std.specs.Prelude.{Result, Ok, Err, IsErr, IsErrAnd, cond}
+use Rattle.protocol.specs.declared.Refusal.{Refusal}
+use Rattle.protocol.specs.declared.Refusal.TheVariants.{WrongMovement}
 use mir.Syntax.{w32}
 use mir.Val.{of_z, to_z}
 use mir.Facts.{to_z-of_z}
@@ -16,10 +19,10 @@ use Rattle.movements.specs.Movements.{movement, movement_count}
 use Rattle.movements.proofs.Allowed.{is-allowed, list_short}
 use Rattle.movements.specs.declared.Movement.{Movement}
 use Rattle.protocol.proofs.logic.Booleans.{tests, by-test, at_below}
-use Rattle.protocol.proofs.calls.Needs.{refuses, accepts, fails, holds}
+use Rattle.protocol.proofs.calls.Needs.{accepts, holds}
+use Rattle.checks.proofs.Passing.{start, handed_up, need_stops_at}
 use Rattle.blocks.specs.inner.Records.{parent_in}
 use Rattle.ancestry.specs.inner.AncestryFits.{AncestorsMarked}
-use Rattle.netting.specs.declared.Netted.{Netted}
 use Rattle.netting.specs.Netting.{counts_by, balance_after, balance_by, balance_told}
 use Rattle.netting.specs.inner.Tallies.{marked, Talliable, Tallied, Nettable, balance_rule, balance_answer}
 use Rattle.netting.proofs.Nettings.{balance_same, balance_small}
@@ -50,11 +53,12 @@ module _ (blocks movements : List ℕ) (b i replicas added : ℕ) (h : Nettable 
     abbrev rule : RuleOf (pos 0) (Unit {0})
     rule = balance_rule blocks movements b i replicas added
 
-    pub breaks : allowed ≡ false → {r : Netted} → r ≡ record { number = wrong_movement; balance = pos 0; second = 0 }
+    pub breaks : (r : Result ℤ Refusal) (e : Refusal)
+        → ◌≡◌ {A = Result (Unit {0}) Refusal} (Err e) (cond allowed (Ok tt) (Err WrongMovement)) → IsErr r × IsErrAnd r (λ d. d ≡ e)
         → balance_told r ≡ balance_answer blocks movements b i replicas added
     unfolding balance_rule
-    breaks e answer =
-        rw answer (ap (λ o. o.answer) (refuses tt rule wrong_movement (sym (fails [] (sym t.tested ∙ e))) (λ z. omega arith)))
+    breaks r e is up =
+        rw (handed_up r e up) (ap (λ o. o.answer) (need_stops_at _ _ (start rule) tt e (rw t.tested at is)))
 
     -- A balance reads back from its bits.
     reads_back : allowed ≡ true → to_z w32 (of_z w32 (get_or xs i (pos 0))) ≡ balance_by (parent_in blocks) movements b i
@@ -66,9 +70,8 @@ module _ (blocks movements : List ℕ) (b i replicas added : ℕ) (h : Nettable 
         (to_z-of_z (small_fits (balance_after (marked marks) movements (movement_count movements) i) (omega arith))
         ∙ balance_same (marked marks) (counts_by (parent_in blocks) b) counts_marked movements (movement_count movements) i)
 
-    pub nets_all : allowed ≡ true → {r : Netted}
-        → r ≡ record { number = 0; balance = to_z w32 (of_z w32 (get_or xs i (pos 0))); second = 0 }
-        → balance_told r ≡ balance_answer blocks movements b i replicas added
+    pub nets_all : allowed ≡ true
+        → balance_told (Ok (to_z w32 (of_z w32 (get_or xs i (pos 0))))) ≡ balance_answer blocks movements b i replicas added
     unfolding balance_rule first_refusal
-    nets_all e answer =
-        rw (answer, reads_back e) (ap (λ o. o.answer) (accepts tt rule (sym (holds wrong_movement [] (sym t.tested ∙ e)))))
+    nets_all e =
+        rw (reads_back e) (ap (λ o. o.answer) (accepts tt rule (sym (holds wrong_movement [] (sym t.tested ∙ e)))))

@@ -1,13 +1,14 @@
 -- A firm's balance of pallets at a chosen block (document 02, "#101 Netting of movements"): the rule of a netting.
+use Rattle.std.specs.Prelude.{Result, Ok, Err}
 use Rattle.std.specs.Prelude.{ℕ, zero, suc, ◌+◌, Bool, cond, ◌&&◌, List, [], ◌∷◌, eqb, ℤ, pos, ◌-ℤ◌}
 use Rattle.protocol.specs.Memory.{Memory, memory, replica_count, fault_bound, block_count, parent}
 use Rattle.protocol.specs.Ancestry.{is_ancestor_by}
 use Rattle.protocol.specs.Form.{all_below, well_formed}
-use Rattle.protocol.specs.Outcome.{◌else◌, AnswerOf, OutcomeOf, RuleOf, follow, wrong_form, out_of_range, unknown_number, wrong_movement}
+use Rattle.protocol.specs.Outcome.{number_of, ◌else◌, AnswerOf, OutcomeOf, RuleOf, follow, wrong_form, out_of_range, unknown_number, wrong_movement}
 use Rattle.protocol.specs.FirstNeeds.{is_replica, is_block}
 use Rattle.movements.specs.declared.Movement.{Movement}
 use Rattle.movements.specs.Movements.{movement, movement_count, movement_allowed, is_movement_list}
-use Rattle.netting.specs.declared.Netted.{Netted}
+use Rattle.protocol.specs.declared.Refusal.{Refusal}
 
 -- "For a chosen block, a movement counts exactly if its block is in the chosen block's line." The line goes by the parents that a function
 -- gives: those of the memory, or those that calls were given.
@@ -68,9 +69,13 @@ netting_rule m movements chosen i =
 unfoldable pub netting : Memory → List ℕ → ℕ → ℕ → OutcomeOf ℤ Lent
 netting m movements chosen i = follow (lent m movements) (netting_rule m movements chosen i)
 
--- The code's answer, as rules have it; and with what the four slices hold then.
-abbrev pub balance_told : Netted → AnswerOf ℤ
-balance_told a = record { number = a.number; first = a.balance; second = a.second }
+-- The code's answer, as rules have it; and an answer with what the four slices hold then.
+abbrev pub balance_told : Result ℤ Refusal → AnswerOf ℤ
+balance_told (Ok balance) = record { number = 0; first = balance; second = 0 }
+balance_told (Err r) = record { number = number_of r; first = pos 0; second = 0 }
 
-abbrev pub netting_outcome : Netted → List ℕ → List ℕ → List ℕ → List ℕ → OutcomeOf ℤ Lent
-netting_outcome a t l b movements = record { answer = balance_told a; state = lent (memory t l b) movements }
+abbrev pub netting_left : AnswerOf ℤ → List ℕ → List ℕ → List ℕ → List ℕ → OutcomeOf ℤ Lent
+netting_left a t l b movements = record { answer = a; state = lent (memory t l b) movements }
+
+abbrev pub netting_outcome : Result ℤ Refusal → List ℕ → List ℕ → List ℕ → List ℕ → OutcomeOf ℤ Lent
+netting_outcome a t l b movements = netting_left (balance_told a) t l b movements

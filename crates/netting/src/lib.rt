@@ -14,38 +14,10 @@ ghost use Rattle.netting.specs.inner.Tallies.{
 };
 
 use blocks::MAX_BLOCKS;
-use checks::FoundReplica;
+use checks::need;
 use movements::{MOVEMENT_WORDS, Movement};
-use protocol::{ACCEPTED, UNKNOWN_NUMBER, WRONG_FORM, WRONG_MOVEMENT};
+use protocol::Refusal;
 use table::{BLOCK_COUNT_AT, FAULT_BOUND_AT, MAX_REPLICAS};
-
-// The number that a netting returns, 0 where it is accepted, and its two values: a balance and 0.
-#[derive(Clone, Copy)]
-pub struct Netted {
-    pub number: u32,
-    pub balance: i32,
-    pub second: u32,
-}
-
-fn accepted(balance: i32) -> Netted
-    ensures { result ≡ record { number = 0; balance = balance; second = 0 } }
-{
-    Netted {
-        number: ACCEPTED,
-        balance,
-        second: 0,
-    }
-}
-
-fn refused(number: u32) -> Netted
-    ensures { result ≡ record { number = number; balance = pos 0; second = 0 } }
-{
-    Netted {
-        number,
-        balance: 0,
-        second: 0,
-    }
-}
 
 // The pallets of a movement, or none where its block is not marked.
 fn counted_pallets(marks: &[bool], x: Movement) -> u32
@@ -91,18 +63,16 @@ fn balance_at(
     replica: u32,
     replicas: u32,
     added: u32,
-) -> Netted
+) -> Result<i32, Refusal>
     requires { Nettable blocks.now movements.now block replica replicas added }
     ensures { balance_told result ≡ balance_answer blocks.now movements.now block replica replicas added }
 {
     let mut marks = [false; MAX_BLOCKS as usize];
     ancestry::mark_ancestors(blocks, block, &mut marks);
     let mut balances = [0i32; MAX_REPLICAS];
-    if !tally(movements, &marks, replicas, added, &mut balances) {
-        return refused(WRONG_MOVEMENT);
-    }
-    let at = replica as usize;
-    accepted(balances[at])
+    let allowed = tally(movements, &marks, replicas, added, &mut balances);
+    need(allowed, Refusal::WrongMovement)?;
+    Ok(balances[replica as usize])
 }
 
 // The balance of a replica's firm at a chosen block. The slices are lent without leave to change them: every word is as it was.
@@ -113,21 +83,14 @@ pub fn net(
     movements: &[u32],
     block: u32,
     replica: u32,
-) -> Netted
+) -> Result<i32, Refusal>
     ensures { netting_outcome result table.now log.now blocks.now movements.now
         ≡ netting (memory table.now log.now blocks.now) movements.now block replica }
 {
-    if !movements::is_movement_list(movements) {
-        return refused(WRONG_FORM);
-    }
-    let found = checks::find_replica(table, log, blocks, replica);
-    let FoundReplica::Found(_) = found else {
-        return refused(found.refusal());
-    };
+    need(movements::is_movement_list(movements), Refusal::WrongForm)?;
+    checks::find_replica(table, log, blocks, replica)?;
     let added = table[BLOCK_COUNT_AT];
-    if added <= block {
-        return refused(UNKNOWN_NUMBER);
-    }
+    need(block < added, Refusal::UnknownNumber)?;
     let replicas = table::replica_count(table[FAULT_BOUND_AT]);
     balance_at(blocks, movements, block, replica, replicas, added)
 }

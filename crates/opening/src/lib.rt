@@ -12,8 +12,8 @@ use checks::{accepted, need};
 use protocol::{Answer, Refusal};
 use table::{
     BLOCK_COUNT_AT, BOOT_AT, CERTIFICATE_COUNT_AT, DECIDED_BLOCK_AT, DECIDED_VIEW_AT,
-    FAULT_BOUND_AT, FLAG_AT, LIVE, LOWERED, MIN_VIEW_AT, STATUS_AT, STORED_BLOCK_AT,
-    STORED_VIEW_AT, VIEW_LIMIT_AT,
+    FAULT_BOUND_AT, FLAG_AT, Flag, MIN_VIEW_AT, STATUS_AT, STORED_BLOCK_AT, STORED_VIEW_AT, Status,
+    VIEW_LIMIT_AT,
 };
 
 // A replica as opening leaves it.
@@ -21,19 +21,18 @@ fn fresh_row(table: &mut [u32], replica: u32, limit: u32)
     requires { row_at replica + replica_words ≤ length table.old }
     ensures { table.new ≡ assign table.old (row_at replica) (fresh_replica limit) }
 {
-    let offsets = [
-        STATUS_AT,
-        BOOT_AT,
-        MIN_VIEW_AT,
-        VIEW_LIMIT_AT,
-        FLAG_AT,
-        STORED_VIEW_AT,
-        STORED_BLOCK_AT,
-        DECIDED_VIEW_AT,
-        DECIDED_BLOCK_AT,
+    let words = [
+        (STATUS_AT, Status::Live.word()),
+        (BOOT_AT, 0),
+        (MIN_VIEW_AT, 1),
+        (VIEW_LIMIT_AT, limit),
+        (FLAG_AT, Flag::Lowered.word()),
+        (STORED_VIEW_AT, 0),
+        (STORED_BLOCK_AT, 0),
+        (DECIDED_VIEW_AT, 0),
+        (DECIDED_BLOCK_AT, 0),
     ];
-    let values = [LIVE, 0, 1, limit, LOWERED, 0, 0, 0, 0];
-    records::set_words(table, replica, &offsets, &values);
+    records::set_words(table, replica, &words);
 }
 
 // All replicas below a count.

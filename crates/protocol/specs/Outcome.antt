@@ -84,6 +84,11 @@ abbrev pub number_in : {A : Type 0} → Result A Refusal → ℕ
 number_in (Ok given) = 0
 number_in (Err r) = number_of r
 
+-- The two values: "0, 0" where it is refused.
+abbrev pub values_in : Result Values Refusal → Values
+values_in (Ok v) = v
+values_in (Err r) = record { first = 0; second = 0 }
+
 -- A test that a call makes, and what it returns where the test fails.
 pub data Need : Type 0 where
   ◌else◌ : Bool → ℕ → Need
@@ -147,8 +152,7 @@ refusal = refusal_of 0
 
 -- The code's answer, as rules have it.
 abbrev pub told : Result Values Refusal → Answer
-told (Ok v) = accepted v.first v.second
-told (Err r) = refused (number_of r)
+told a = record { number = number_in a; first = (values_in a).first; second = (values_in a).second }
 
 -- ---- The calls of a ledger, whose state is its memory.
 

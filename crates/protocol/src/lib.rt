@@ -2,10 +2,10 @@
 #![tactic(auto)]
 
 ghost use Rattle.std.specs.Prelude.{◌≡◌};
-ghost use Rattle.protocol.specs.Outcome.{number_of, number_in};
+ghost use Rattle.protocol.specs.Outcome.{number_of, number_in, values_in};
 
 // The two values of an accepted call.
-#[derive(Clone, Copy, Default)]
+#[derive(Clone, Copy)]
 pub struct Values {
     pub first: u32,
     pub second: u32,
@@ -63,13 +63,23 @@ impl Refusal {
 pub type Answer = Result<Values, Refusal>;
 
 // The number that a call returns, whatever it gives: 0, "accepted", or that of its refusal.
-pub fn number<T: Copy>(answer: Result<T, Refusal>) -> u32
-    ensures { result ≡ number_in answer }
+pub fn number_of<T: Copy>(given: Result<T, Refusal>) -> u32
+    ensures { result ≡ number_in given }
 {
-    match answer {
+    match given {
         Ok(_) => 0,
         Err(refusal) => refusal.number(),
     }
+}
+
+// The two values that it returns: zeros, where it is refused.
+pub fn values_of(answer: Answer) -> Values
+    ensures { result ≡ values_in answer }
+{
+    answer.unwrap_or(Values {
+        first: 0,
+        second: 0,
+    })
 }
 
 // What lets a leader propose (document 01: the ground of a proposal): the number of an ACC, or the view and the block of a

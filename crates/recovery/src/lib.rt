@@ -18,9 +18,7 @@ use checks::{accepted, need};
 use issuing::issue;
 use protocol::{Answer, Refusal};
 use records::Replica;
-use table::{
-    FLAG_AT, LIVE, LOWERED, MIN_VIEW_AT, RECOVERING, STATUS_AT, STORED_BLOCK_AT, STORED_VIEW_AT,
-};
+use table::{FLAG_AT, Flag, MIN_VIEW_AT, STATUS_AT, STORED_BLOCK_AT, STORED_VIEW_AT, Status};
 
 // What a restarted replica asks the others with.
 fn req(replica: u32, r: Replica) -> Certificate
@@ -45,8 +43,8 @@ pub fn request(table: &mut [u32], log: &mut [u32], blocks: &mut [u32], replica: 
         ≡ outcome_by (λ m. request_rule m replica) table.old log.old blocks.old }
 {
     let r = checks::find_replica(table, log, blocks, replica)?;
-    need(r.status == RECOVERING, Refusal::WrongStatus)?;
-    issue(table, log, replica, &[], &[], req(replica, r))
+    need(r.is(Status::Recovering), Refusal::WrongStatus)?;
+    issue(table, log, replica, &[], req(replica, r))
 }
 
 // The needs of reply that are its own.
@@ -54,7 +52,7 @@ pub fn request(table: &mut [u32], log: &mut [u32], blocks: &mut [u32], replica: 
 fn test_reply(replica: u32, r: Replica, q: Certificate) -> Result<(), Refusal>
     ensures { number_in result ≡ first_refusal (reply_needs replica (replica_of r) (certificate_of q)) }
 {
-    need(r.status == LIVE, Refusal::WrongStatus)?;
+    need(r.is(Status::Live), Refusal::WrongStatus)?;
     need(q.kind == REQ, Refusal::WrongCertificate)?;
     need(q.signer != replica, Refusal::WrongCertificate)?;
     need(q.view <= r.view_limit, Refusal::CounterLimit)
@@ -93,11 +91,10 @@ pub fn reply(
     test_reply(replica, r, q)?;
     let answer = reply_to(replica, r, q);
     if r.min_view < q.view {
-        let offsets = [MIN_VIEW_AT, FLAG_AT];
-        let values = [q.view, LOWERED];
-        return issue(table, log, replica, &offsets, &values, answer);
+        let words = [(MIN_VIEW_AT, q.view), (FLAG_AT, Flag::Lowered.word())];
+        return issue(table, log, replica, &words, answer);
     }
-    issue(table, log, replica, &[], &[], answer)
+    issue(table, log, replica, &[], answer)
 }
 
 // A restarted replica is live again, with the stored block of greatest of-view in f+1 replies.
@@ -117,11 +114,15 @@ pub fn recover(
     let c = certificate_log::certificate_in(log, list[best]);
     let min_view = r.min_view.max(c.of_view + 1);
     let replied = quorum::is_reply_quorum(log, list, replica, r.boot, r.min_view);
-    need(r.status == RECOVERING, Refusal::WrongStatus)?;
+    need(r.is(Status::Recovering), Refusal::WrongStatus)?;
     need(replied, Refusal::WrongCertificate)?;
     need(min_view <= r.view_limit, Refusal::CounterLimit)?;
-    let offsets = [STATUS_AT, MIN_VIEW_AT, STORED_VIEW_AT, STORED_BLOCK_AT];
-    let values = [LIVE, min_view, c.of_view, c.block];
-    records::set_words(table, replica, &offsets, &values);
+    let words = [
+        (STATUS_AT, Status::Live.word()),
+        (MIN_VIEW_AT, min_view),
+        (STORED_VIEW_AT, c.of_view),
+        (STORED_BLOCK_AT, c.block),
+    ];
+    records::set_words(table, replica, &words);
     accepted(min_view, c.of_view)
 }

@@ -15,15 +15,15 @@ use checks::{accepted, need};
 use protocol::{Answer, Refusal};
 use records::Replica;
 use table::{
-    BOOT_AT, CEILING, FLAG_AT, LOWERED, MIN_VIEW_AT, RECOVERING, RETIRED, STATUS_AT,
-    STORED_BLOCK_AT, STORED_VIEW_AT, VIEW_LIMIT_AT, set_replica_word,
+    BOOT_AT, CEILING, FLAG_AT, Flag, MIN_VIEW_AT, STATUS_AT, STORED_BLOCK_AT, STORED_VIEW_AT,
+    Status, VIEW_LIMIT_AT, set_replica_word,
 };
 
 // Whether a reboot, to this boot and view limit, retires the replica.
 fn retires(r: Replica, boot: u32, limit: u32) -> bool
     ensures { result ≡ retires_rule (replica_of r) boot limit }
 {
-    (r.status == RETIRED) | (CEILING < boot) | (CEILING < limit)
+    r.is(Status::Retired) || CEILING < boot || CEILING < limit
 }
 
 // A power cut: the replica starts again above every view in which it can have proposed, stored or entered, or is retired.
@@ -35,20 +35,19 @@ pub fn reboot(table: &mut [u32], log: &mut [u32], blocks: &mut [u32], replica: u
     let boot = r.boot + 1;
     let limit = r.view_limit + counter::counter_step(table, boot);
     if retires(r, boot, limit) {
-        set_replica_word(table, replica, STATUS_AT, RETIRED);
+        set_replica_word(table, replica, STATUS_AT, Status::Retired.word());
         return accepted(r.boot, r.min_view);
     }
-    let offsets = [
-        STATUS_AT,
-        BOOT_AT,
-        MIN_VIEW_AT,
-        VIEW_LIMIT_AT,
-        FLAG_AT,
-        STORED_VIEW_AT,
-        STORED_BLOCK_AT,
+    let words = [
+        (STATUS_AT, Status::Recovering.word()),
+        (BOOT_AT, boot),
+        (MIN_VIEW_AT, r.view_limit),
+        (VIEW_LIMIT_AT, limit),
+        (FLAG_AT, Flag::Lowered.word()),
+        (STORED_VIEW_AT, 0),
+        (STORED_BLOCK_AT, 0),
     ];
-    let values = [RECOVERING, boot, r.view_limit, limit, LOWERED, 0, 0];
-    records::set_words(table, replica, &offsets, &values);
+    records::set_words(table, replica, &words);
     accepted(boot, r.view_limit)
 }
 
@@ -57,7 +56,7 @@ pub fn reboot(table: &mut [u32], log: &mut [u32], blocks: &mut [u32], replica: u
 fn test_reserve(r: Replica, limit: u32) -> Result<(), Refusal>
     ensures { number_in result ≡ first_refusal (reserve_needs (replica_of r) limit) }
 {
-    need(r.status != RETIRED, Refusal::WrongStatus)?;
+    need(!r.is(Status::Retired), Refusal::WrongStatus)?;
     need(limit <= CEILING, Refusal::CounterLimit)
 }
 

@@ -22,9 +22,8 @@ use Rattle.protocol.proofs.calls.Needs.{no_refusal}
 use Rattle.protocol.proofs.calls.Rules.{needs_hold, refused-changes-nothing}
 use Rattle.protocol.proofs.calls.Frame.{lengths-stay}
 use Rattle.protocol.proofs.agreement.Agreement.{agreement}
-use Rattle.codes.specs.declared.Coded.{Coded}
-use Rattle.codes.specs.declared.Coded.TheVariants.{Of, Refused}
-use Rattle.codes.specs.Codes.{is_short, no_call, when, code_table, coded_call}
+use Rattle.std.specs.Prelude.{Ok, Err}
+use Rattle.codes.specs.Codes.{Coded, is_short, no_call, when, code_table, coded_call}
 use Rattle.ledger.specs.Coding.{open_code}
 use Rattle.script.specs.Session.{Session, lent_length, lent, code_in, replica_in, number_in, list_in, Answered, unchanged}
 use Rattle.script.specs.Session.{answer_line}
@@ -38,8 +37,8 @@ use Rattle.script.proofs.Ways.{line_leaves, put_back, lent_for, made, by_line}
 
 -- The call, if there is one, tells this event where it is accepted with this answer.
 abbrev Tells : Answer → Event → Coded → Type 0
-Tells a e (Of call) = accepted_event call a ≡ e
-Tells a e (Refused refusal) = Unit {0}
+Tells a e (Ok call) = accepted_event call a ≡ e
+Tells a e (Err refusal) = Unit {0}
 
 -- The same of a table of calls and a table of events; past the last event nothing is told.
 abbrev AllTell : Answer → List Event → List Coded → Type 0
@@ -60,7 +59,7 @@ tells_at a [] (coded ∷ rest) (suc code) h = tells_at a [] rest code h.1
 tells_at a (e ∷ events) (coded ∷ rest) zero h = h.0
 tells_at a (e ∷ events) (coded ∷ rest) (suc code) h = tells_at a events rest code h.1
 
-line_tells : (a : Answer) (s : Session) (given : List ℕ) {call : Call} → made s given ≡ Of call
+line_tells : (a : Answer) (s : Session) (given : List ℕ) {call : Call} → made s given ≡ Ok call
     → accepted_event call a ≡ accepted_line given a
 unfolding event_table code_table
 line_tells a s given e =
@@ -71,11 +70,11 @@ line_tells a s given e =
 
 -- The call of an opening.
 opening_made : (m : Memory) (code replica number : ℕ) (list : List ℕ) {call : Call} → code ≡ open_code
-    → coded_call m code replica number list ≡ Of call → call ≡ Open replica
+    → coded_call m code replica number list ≡ Ok call → call ≡ Open replica
 unfolding code_table when
 opening_made m code replica number list z e = go (is_short number list) (rw z at e)
   where
-    go : (t : Bool) {call : Call} → when t (Open replica) ≡ Of call → call ≡ Open replica
+    go : (t : Bool) {call : Call} → when t (Open replica) ≡ Ok call → call ≡ Open replica
     go true e = cc
     go false e = cc
 

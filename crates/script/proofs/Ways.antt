@@ -10,13 +10,12 @@ use Rattle.protocol.specs.declared.Call.{Call}
 use Rattle.protocol.specs.Outcome.{Outcome, refusal, unreadable}
 use Rattle.protocol.specs.Runs.{step}
 use Rattle.protocol.proofs.logic.Booleans.{tests, by_cond}
-use Rattle.codes.specs.declared.Coded.{Coded}
-use Rattle.codes.specs.declared.Coded.TheVariants.{Of}
-use Rattle.codes.specs.Codes.{coded_call}
+use Rattle.std.specs.Prelude.{Ok}
+use Rattle.codes.specs.Codes.{Coded, coded_call}
 use Rattle.ledger.proofs.Calling.{by_call}
 use Rattle.script.specs.Lines.{has_numbers}
 use Rattle.script.specs.Session.{Session, lent_length, lent, code_in, replica_in, number_in, list_in, fault_bound_for, lending, Answered}
-use Rattle.script.specs.Session.{leaves, unchanged, answer_numbers, answer_line}
+use Rattle.script.specs.Session.{session, unchanged, answer_numbers, answer_line}
 use Rattle.script.specs.Agreement.{numbers_in}
 use Rattle.script.proofs.Lending.{beside, after}
 
@@ -31,7 +30,10 @@ put_back s f o same first second h =
     let bound : cond (eqb o.answer.number 0) f s.fault_bound ≡ s.fault_bound = rw (ne_eqb _ 0 h) in
     let table : o.state.table ++ drop (lent_length f) s.memory.table ≡ s.memory.table = rw (same, take-append-drop) in
     λ i.
-    leaves (record { number = o.answer.number; first = first i; second = second i }) (bound i) (table i) (same i).log (same i).blocks
+    record {
+      answer = record { number = o.answer.number; first = first i; second = second i };
+      session = session (bound i) (table i) (same i).log (same i).blocks;
+    }
 
 -- The f that the table is lent for, and the call that numbers make on what is lent.
 abbrev pub lent_for : Session → List ℕ → ℕ
@@ -46,7 +48,7 @@ line_makes s given call = line_leaves s (lent_for s given) (step (lent (lent_for
 
 -- What holds of an unreadable line, and of each call that a line may make, holds of a line's answer.
 pub by_line : (P : Answered → Type 0) (s : Session) (line : List ℕ) → P (unchanged unreadable s)
-    → ((call : Call) → made s (numbers_in line) ≡ Of call → P (line_makes s (numbers_in line) call)) → P (answer_line s line)
+    → ((call : Call) → made s (numbers_in line) ≡ Ok call → P (line_makes s (numbers_in line) call)) → P (answer_line s line)
 unfolding answer_line answer_numbers lending
 by_line P s line none some =
     let given = numbers_in line in

@@ -8,7 +8,7 @@ use lib.ListN.{replicate}
 use Rattle.protocol.specs.declared.Call.TheVariants.{View, Reserve}
 use Rattle.protocol.specs.Memory.{certificate_at, block_at}
 use Rattle.protocol.specs.Outcome.{Answer, accepted}
-use Rattle.protocol.specs.Runs.{Invocation, plain, answers}
+use Rattle.protocol.specs.Runs.{plain, answers}
 use Rattle.protocol.specs.WayOn.{can_enter, can_all_enter, has_room, can_decide, way_on, counting, numbered_answers}
 use Rattle.protocol.proofs.cases.Rows.{wrong}
 use Rattle.codes.specs.Codes.{claimed_word, when, code_table}

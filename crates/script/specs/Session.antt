@@ -1,6 +1,8 @@
 -- The ledger that a script works on: what is lent to a line's call, and what the line gives.
 use Rattle.std.specs.Prelude.{ℕ, cond, List, ◌++◌, eqb, take, drop, get_or}
-use Rattle.protocol.specs.declared.Answer as Code
+use Rattle.std.specs.Prelude.{Result}
+use Rattle.protocol.specs.declared.Values.{Values}
+use Rattle.protocol.specs.declared.Refusal.{Refusal}
 use Rattle.protocol.specs.Memory.{Memory, memory, max_fault_bound, table_length}
 use Rattle.protocol.specs.Form.{is_fault_bound}
 use Rattle.protocol.specs.Outcome.{Answer, Outcome, told, unreadable}
@@ -70,7 +72,7 @@ pub record Answered : Type 0 where
   pub session : Session
 
 -- The same of the code's answer, the f in use and the words.
-abbrev pub leaves : Code.Answer → ℕ → List ℕ → List ℕ → List ℕ → Answered
+abbrev pub leaves : Result Values Refusal → ℕ → List ℕ → List ℕ → List ℕ → Answered
 leaves a f t l b = record { answer = told a; session = session f t l b }
 
 -- The number and two zeros, and the session as before.

@@ -19,10 +19,9 @@ ghost use Rattle.script.specs.Session.{
 ghost use Rattle.script.specs.Text.{answer_text, answer_bytes, Printable};
 ghost use Rattle.script.specs.inner.Reading.{line_read};
 
-use checks::refused;
 use field::COLUMNS;
-use protocol::{ACCEPTED, Answer, UNREADABLE};
-use reader::Read;
+use protocol::{Answer, Refusal};
+use reader::Reader;
 
 // A line's fields.
 const MIN_FIELDS: usize = 3;
@@ -45,37 +44,22 @@ pub const LINE_FEED: u8 = 10;
 // Four fields and a line feed.
 pub const ANSWER_BYTES: usize = 4 * COLUMNS + 1;
 
-// Reads the numbers of a line, field after field; gives the column reached, the line's end, or the refusal.
-fn read_numbers(line: &[u8], given: &mut [u32]) -> Read
+// Reads the numbers of a line, field after field; gives how many there are, or none where it is no line of numbers.
+fn read_numbers(line: &[u8], given: &mut [u32]) -> Option<usize>
     requires { length given.old ≡ max_fields }
     ensures value { result ≡ line_read line.now }
     ensures given_after { has_numbers line.now ≡ true
         → take (field_count line.now) given.new ≡ numbers line.now (field_count line.now) }
 {
     let count = line.len() / COLUMNS;
-    if COLUMNS * count != line.len() {
-        return Read::Refused(UNREADABLE);
+    if COLUMNS * count != line.len() || count < MIN_FIELDS || MAX_FIELDS < count {
+        return None;
     }
-    if count < MIN_FIELDS {
-        return Read::Refused(UNREADABLE);
+    let mut reader = Reader { line, column: 0 };
+    for place in &mut given[..count] {
+        *place = reader.next()?;
     }
-    if MAX_FIELDS < count {
-        return Read::Refused(UNREADABLE);
-    }
-    let mut column = 0;
-    let mut i = 0;
-    // The last field ends where the line does. By this test the compiler knows the column after the loop, which `<` would not tell it.
-    while column != line.len() {
-        let mut number = 0;
-        let read = reader::read_field(line, column, &mut number);
-        let Read::To(next) = read else {
-            return read;
-        };
-        given[i] = number;
-        i += 1;
-        column = next;
-    }
-    Read::To(column)
+    Some(count)
 }
 
 // How many words of the table are lent for f.
@@ -135,7 +119,7 @@ fn answer_numbers(
 {
     let f = fault_bound_for(*fault_bound, given[CODE_FIELD], given[REPLICA_FIELD]);
     let answer = call_lent(table, log, blocks, f, given);
-    if answer.number == ACCEPTED {
+    if answer.is_ok() {
         *fault_bound = f;
     }
     answer
@@ -155,11 +139,9 @@ pub fn answer_line(
         line.now }
 {
     let mut given = [0u32; MAX_FIELDS];
-    let read = read_numbers(line, &mut given);
-    let Read::To(column) = read else {
-        return refused(read.refusal());
+    let Some(count) = read_numbers(line, &mut given) else {
+        return Err(Refusal::Unreadable);
     };
-    let count = column / COLUMNS;
     answer_numbers(table, log, blocks, fault_bound, &given[..count])
 }
 
@@ -178,9 +160,10 @@ pub fn put_answer(text: &mut [u8], at: usize, line: u32, answer: Answer)
     requires line_le_max_number { (line ≤ max_number) × Printable (told answer) }
     ensures { take (at + answer_bytes) text.new ≡ take at text.old ++ answer_text line (told answer) }
 {
+    let values = protocol::values_of(answer);
     put_number(text, at, line);
-    put_number(text, at + COLUMNS, answer.number);
-    put_number(text, at + 2 * COLUMNS, answer.first);
-    put_number(text, at + 3 * COLUMNS, answer.second);
+    put_number(text, at + COLUMNS, protocol::number_of(answer));
+    put_number(text, at + 2 * COLUMNS, values.first);
+    put_number(text, at + 3 * COLUMNS, values.second);
     text[at + 4 * COLUMNS] = LINE_FEED;
 }

@@ -1,13 +1,15 @@
 -- A line that is answered.
-use Prim.Native.Nat.{ℕ, suc, ◌+◌, ◌-◌, ◌≤◌}
+use Prim.Native.Nat.{ℕ, suc, ◌+◌, ◌≤◌}
 use mathlib.Core.Path.{◌≡◌, refl, sym, ap, subst, ◌∙◌}
 use mathlib.Core.Bool.{true}
 use mathlib.Core.List.{List, [], ◌∷◌, ◌++◌}
 use native.Mathlib.Omega.{arith}
 use lib.Dec.{ltb}
-use lib.ListN.{length, take, drop}
+use lib.ListN.{length, take}
 use lib.Seq.{length-take-le}
-use Rattle.protocol.specs.declared.Answer.{Answer}
+use Rattle.std.specs.Prelude.{Result}
+use Rattle.protocol.specs.declared.Values.{Values}
+use Rattle.protocol.specs.declared.Refusal.{Refusal}
 use Rattle.protocol.specs.Outcome.{told}
 use Rattle.protocol.proofs.logic.Booleans.{tests, by-test}
 use Rattle.script.specs.Session.{Session, session, Answered, leaves, answer_line}
@@ -18,25 +20,24 @@ use Rattle.stream.specs.declared.Progress.{Progress}
 use Rattle.stream.specs.Output.{max_lines}
 use Rattle.stream.specs.Stream.{Stream, stream_of, end_line, byte_in, fed, finished}
 use Rattle.stream.specs.inner.Progress.{with_held, begun}
-use Rattle.stream.specs.inner.Holding.{line_so_far, Held}
 use Rattle.stream.proofs.Fed.{line_ended}
 
 -- Where a stream stands after one more answer.
 abbrev pub after : Progress → ℕ → Progress
 after p f = record { fault_bound = f; lines = p.lines + 1; held = 0; pending = p.pending + answer_bytes }
 
-pub fits : (s : Session) (line : List ℕ) {a : Answer} {f : ℕ} {t l b : List ℕ} → leaves a f t l b ≡ answer_line s line
+pub fits : (s : Session) (line : List ℕ) (a : Result Values Refusal) {f : ℕ} {t l b : List ℕ} → leaves a f t l b ≡ answer_line s line
     → Printable (told a)
 unfolding AnswersPrintable
-fits s line e = subst (λ (o : Answered). Printable o.answer) (sym e) (answers-printable s line)
+fits s line a e = subst (λ (o : Answered). Printable o.answer) (sym e) (answers-printable s line)
 
 module _ (p : Progress) (t l b places text line : List ℕ) where
-  pub line_answered : {a : Answer} {f : ℕ} {t' l' b' : List ℕ} (text' : List ℕ)
+  pub line_answered : (a : Result Values Refusal) {f : ℕ} {t' l' b' : List ℕ} (text' : List ℕ)
       → leaves a f t' l' b' ≡ answer_line (session p.fault_bound t l b) line
       → take (p.pending + answer_bytes) text' ≡ take p.pending text ++ answer_text (p.lines + 1) (told a)
       → stream_of (after p f) t' l' b' places text' ≡ end_line (with_held (stream_of p t l b places text) line)
   unfolding end_line
-  line_answered {a} {f} {t'} {l'} {b'} text' e x =
+  line_answered a text' e x =
       let one : p.lines + 1 ≡ suc p.lines = omega arith in
       rw (x, one)
       (ap (λ (o : Answered).
@@ -48,16 +49,10 @@ module _ (p : Progress) (t l b places text line : List ℕ) where
       })
       e)
 
--- A line that ends in a chunk: all of it lies there, or its beginning is held.
-module _ (s : Stream) (line chunk : List ℕ) (held from end : ℕ) {o : Stream} where
-  pub from_chunk : held ≡ 0 → o ≡ end_line (with_held s (take (end - from) (drop from chunk)))
-      → o ≡ end_line (begun s (line_so_far line held chunk from end))
-  from_chunk e u = u ∙ sym (line_ended s (take (end - from) (drop from chunk))) ∙ rw e refl
-
-  pub from_held : {count : ℕ} {places : List ℕ} → Held count places (line_so_far line held chunk from end)
-      → o ≡ end_line (with_held s (take count places))
-      → o ≡ end_line (begun s (line_so_far line held chunk from end))
-  from_held h u = rw h.bytes at u
+-- A line that ends with bytes of a chunk: all of it lies there, or its beginning is held.
+module _ (s : Stream) (line bytes : List ℕ) (held : ℕ) {o : Stream} where
+  pub from_chunk : held ≡ 0 → o ≡ end_line (with_held s bytes) → o ≡ end_line (begun s (take held line ++ bytes))
+  from_chunk e u = u ∙ sym (line_ended s bytes) ∙ rw e refl
 
 -- The end of the input.
 module _ (p : Progress) (t l b line text : List ℕ) where

@@ -2,7 +2,6 @@
 -- states.
 pub mod Long
 pub mod Fed
-pub mod Feeds
 pub mod Holding
 pub mod Runs
 pub mod Answers

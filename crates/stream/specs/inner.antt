@@ -1,4 +1,3 @@
 -- What the contracts of inner functions cite: nothing to believe.
 pub mod Progress
-pub mod Feeds
 pub mod Holding

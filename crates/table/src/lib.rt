@@ -105,16 +105,6 @@ impl Flag {
     }
 }
 
-pub const LIVE: u32 = Status::Live as u32;
-
-pub const RECOVERING: u32 = Status::Recovering as u32;
-
-pub const RETIRED: u32 = Status::Retired as u32;
-
-pub const LOWERED: u32 = Flag::Lowered as u32;
-
-pub const RAISED: u32 = Flag::Raised as u32;
-
 // The numbers are those of the definitions: nothing calls these functions.
 pub fn limits() -> [u32; 2]
     ensures { result ≡ max_fault_bound ∷ ceiling ∷ [] }

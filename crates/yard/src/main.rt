@@ -1,10 +1,10 @@
 // yard: reads a script from standard input, and writes the answers to standard output (document 01, "Script program").
 #![tactic(auto)]
 
-ghost use Rattle.std.specs.Prelude.{◌≡◌, ◌≤◌, length, take};
-ghost use Rattle.stream.specs.Stream.{new_stream, stream_of};
+ghost use Rattle.std.specs.Prelude.{◌≡◌, take};
+ghost use Rattle.stream.specs.Stream.{new_stream};
 ghost use Rattle.stream.specs.Turns.{taken, Ran};
-ghost use Rattle.yard.specs.inner.Writing.{chunk_bytes, InPlace, Flushed, Writes};
+ghost use Rattle.yard.specs.inner.Writing.{stream_in, InPlace, Flushed, Written};
 
 use std::io::{Read, Stdin, Stdout, Write};
 use stream::{MAX_LINES, Progress};
@@ -31,162 +31,120 @@ const BLOCKS_WORDS: usize = BLOCKS * blocks::BLOCK_WORDS;
 
 // Reads once, and again where that fails. Gives how many bytes came, 0 at the end of the input, or none where each read fails.
 fn read_chunk(mut input: Stdin, chunk: &mut [u8; CHUNK_BYTES]) -> Option<usize> {
-    let mut tries = TRIES;
-    while 0 < tries {
+    for _ in 0..TRIES {
         if let Ok(got) = input.read(chunk) {
             return Some(got);
         }
-        tries -= 1;
     }
     None
 }
 
-// Takes what a read gave: all bytes that came, or the end of the input. The text of the answers is then to be written.
-fn take_read(
-    table: &mut [u32; TABLE_WORDS],
-    log: &mut [u32; LOG_WORDS],
-    blocks: &mut [u32; BLOCKS_WORDS],
-    line: &mut [u8; stream::HELD_PLACES],
-    text: &mut [u8; TEXT_BYTES],
-    chunk: &[u8],
-    got: usize,
-    p: Progress,
-) -> Progress
-    requires { (length chunk.now ≡ chunk_bytes) × Flushed p }
-    ensures text_after { stream_of result table.new log.new blocks.new line.new text.new
-        ≡ taken (stream_of p table.old log.old blocks.old line.old text.old)
-        (take got chunk.now) }
-    ensures in_place { InPlace result }
-{
-    let n = got.min(chunk.len());
-    if n == 0 {
-        return stream::finish(table, log, blocks, line, text, p);
-    }
-    stream::feed(table, log, blocks, line, text, p, &chunk[..n])
-}
-
-// Writes a text, in several parts where need be. Gives whether all of it was written.
-fn write_text(mut output: Stdout, text: &[u8]) -> bool {
-    let mut sent = 0;
+// Writes a text, in several parts where need be; gives none where not all of it was written.
+fn write_text(mut output: Stdout, text: &[u8]) -> Option<()> {
+    let mut rest = text;
     let mut tries = TRIES;
-    while 0 < tries {
-        if sent == text.len() {
-            return true;
-        }
-        let rest = &text[sent..];
+    while !rest.is_empty() {
         let put = output.write(rest).unwrap_or(0);
         if put == 0 {
             tries -= 1;
+            if tries == 0 {
+                return None;
+            }
+        }
+        rest = &rest[put..];
+    }
+    Some(())
+}
+
+// The words that are lent, the places for a line, for text and for a chunk of the input, and where the stream stands.
+#[derive(Drop)]
+struct Machine {
+    table: [u32; TABLE_WORDS],
+    log: [u32; LOG_WORDS],
+    blocks: [u32; BLOCKS_WORDS],
+    line: [u8; stream::HELD_PLACES],
+    text: [u8; TEXT_BYTES],
+    chunk: [u8; CHUNK_BYTES],
+    progress: Progress,
+}
+
+impl Machine {
+    // Takes what a read gave: all bytes that came, or the end of the input. The text of the answers is then to be written.
+    fn take_read(&mut self, got: usize)
+        requires { Flushed self.old.progress }
+        ensures text_after { stream_in self.new ≡ taken (stream_in self.old) (take got self.old.chunk) }
+        ensures in_place { InPlace self.new.progress }
+    {
+        let n = got.min(CHUNK_BYTES);
+        let Machine {
+            table,
+            log,
+            blocks,
+            line,
+            text,
+            chunk,
+            progress,
+        } = self;
+        if n == 0 {
+            stream::finish(table, log, blocks, line, text, progress);
         } else {
-            sent += put;
+            stream::feed(table, log, blocks, line, text, progress, &chunk[..n]);
         }
     }
-    false
-}
 
-// Where a stream stands once its text is written.
-#[derive(Clone, Copy)]
-enum Written {
-    All(Progress),
-    Failed,
-}
-
-// Writes the text that is to be written.
-fn write_pending(output: Stdout, text: &[u8], p: Progress) -> Written
-    requires { p.pending ≤ length text.now }
-    ensures { Writes p result }
-{
-    let pending = p.pending;
-    if !write_text(output, &text[..pending]) {
-        return Written::Failed;
+    // Writes the text that is to be written.
+    fn write_pending(&mut self, output: Stdout) -> Option<()>
+        requires { InPlace self.old.progress }
+        ensures { Written self.old result self.new }
+    {
+        write_text(output, &self.text[..self.progress.pending])?;
+        self.progress.pending = 0;
+        Some(())
     }
-    Written::All(Progress {
-        fault_bound: p.fault_bound,
-        lines: p.lines,
-        held: p.held,
-        pending: 0,
-    })
-}
 
-// Reads, answers and writes, until the input ends, line 99,999,999 is answered, or a read or a write fails. A proved loop ends: it counts
-// its turns, from a number that no run uses up.
-fn run(
-    input: Stdin,
-    output: Stdout,
-    table: &mut [u32; TABLE_WORDS],
-    log: &mut [u32; LOG_WORDS],
-    blocks: &mut [u32; BLOCKS_WORDS],
-    line: &mut [u8; stream::HELD_PLACES],
-    text: &mut [u8; TEXT_BYTES],
-    chunk: &mut [u8; CHUNK_BYTES],
-    start: Progress,
-) -> Progress
-    requires { Flushed start }
-    ensures { Ran
-        (stream_of start table.old log.old blocks.old line.old text.old)
-        (stream_of result table.new log.new blocks.new line.new text.new) }
-{
-    let mut p = start;
-    let mut turns = u64::MAX;
-    while 0 < turns {
-        turns -= 1;
-        let Some(got) = read_chunk(input, chunk) else {
-            return p;
-        };
-        let next = take_read(table, log, blocks, line, text, chunk, got, p);
-        let written = write_pending(output, text, next);
-        let Written::All(rest) = written else {
-            return next;
-        };
-        if (got == 0) | (rest.lines == MAX_LINES) {
-            return rest;
+    // Reads, answers and writes, until the input ends, line 99,999,999 is answered, or a read or a write fails. A proved loop ends: it
+    // counts its turns, up to a number that no run comes to.
+    fn run(&mut self, input: Stdin, output: Stdout)
+        requires { Flushed self.old.progress }
+        ensures { Ran (stream_in self.old) (stream_in self.new) }
+    {
+        for _ in 0..u64::MAX {
+            let Some(got) = read_chunk(input, &mut self.chunk) else {
+                return;
+            };
+            self.take_read(got);
+            if self.write_pending(output).is_none()
+                || got == 0
+                || self.progress.lines == MAX_LINES
+            {
+                return;
+            }
         }
-        p = rest;
     }
-    p
-}
 
-// Runs from what the program starts with: nothing is opened, read or held.
-fn starts(
-    input: Stdin,
-    output: Stdout,
-    table: &mut [u32; TABLE_WORDS],
-    log: &mut [u32; LOG_WORDS],
-    blocks: &mut [u32; BLOCKS_WORDS],
-    line: &mut [u8; stream::HELD_PLACES],
-    text: &mut [u8; TEXT_BYTES],
-    chunk: &mut [u8; CHUNK_BYTES],
-    p: Progress,
-) -> Progress
-    requires { (stream_of p table.old log.old blocks.old line.old text.old ≡ new_stream) × Flushed p }
-    ensures { Ran new_stream
-        (stream_of result table.new log.new blocks.new line.new text.new) }
-{
-    run(input, output, table, log, blocks, line, text, chunk, p)
+    // Runs from what the program starts with: nothing is opened, read or held.
+    fn starts(&mut self, input: Stdin, output: Stdout)
+        requires { (stream_in self.old ≡ new_stream) × Flushed self.old.progress }
+        ensures { Ran new_stream (stream_in self.new) }
+    {
+        self.run(input, output);
+    }
 }
 
 fn main(rt: HostRuntime) {
-    let mut table = [0u32; TABLE_WORDS];
-    let mut log = [0u32; LOG_WORDS];
-    let mut blocks = [0u32; BLOCKS_WORDS];
-    let mut line = [0u8; stream::HELD_PLACES];
-    let mut text = [0u8; TEXT_BYTES];
-    let mut chunk = [0u8; CHUNK_BYTES];
-    let p = Progress {
-        fault_bound: 0,
-        lines: 0,
-        held: 0,
-        pending: 0,
+    let mut machine = Machine {
+        table: [0; TABLE_WORDS],
+        log: [0; LOG_WORDS],
+        blocks: [0; BLOCKS_WORDS],
+        line: [0; stream::HELD_PLACES],
+        text: [0; TEXT_BYTES],
+        chunk: [0; CHUNK_BYTES],
+        progress: Progress {
+            fault_bound: 0,
+            lines: 0,
+            held: 0,
+            pending: 0,
+        },
     };
-    starts(
-        rt.stdin(),
-        rt.stdout(),
-        &mut table,
-        &mut log,
-        &mut blocks,
-        &mut line,
-        &mut text,
-        &mut chunk,
-        p,
-    );
+    machine.starts(rt.stdin(), rt.stdout());
 }

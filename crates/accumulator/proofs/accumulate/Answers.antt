@@ -2,7 +2,6 @@
 use mathlib.Core.Path.{refl, ap, ◌∙◌}
 use native.Mathlib.Omega.{arith}
 use Rattle.protocol.specs.Memory.{Certificate}
-use Rattle.protocol.specs.Quorum.{every}
 use Rattle.protocol.specs.Calls.{accumulate as accumulate_rule}
 use Rattle.certificate_log.specs.inner.Certificates.{certificate_from}
 use Rattle.checks.proofs.Passing.{stops, need_stops, need_on}
@@ -42,13 +41,13 @@ is_new_view_quorum-agreed-requires c =
 pub returns-in_err-need : goal.returns-in_err-need
 returns-in_err-need c =
     let listed = accumulating_list _ _ _ c.in_ok-r.ensures.refusal c.in_ok-r.ensures.found c.in_ok-test_list.ensures in
-    need_stops _ _ listed.at _ _ (rw listed.read at c.in_err-need.ensures) c.from_residual-in_err-need.ensures
+    need_stops _ _ listed.at _ _ (rw (c.is.ensures, listed.read) at c.in_err-need.ensures) c.from_residual-in_err-need.ensures
 
 pub returns-in_err-need-2 : goal.returns-in_err-need-2
 returns-in_err-need-2 c =
     let listed = accumulating_list _ _ _ c.in_ok-r.ensures.refusal c.in_ok-r.ensures.found c.in_ok-test_list.ensures in
     let view = c.certificate_word-view.ensures ∙ ap (λ (x : Certificate). x.view) listed.first in
-    let live = need_on _ _ listed.at (rw listed.read at c.in_ok-need.ensures) in
+    let live = need_on _ _ listed.at (rw (c.is.ensures, listed.read) at c.in_ok-need.ensures) in
     need_stops _ _ live _ _ (rw (c.is_new_view_quorum-agreed.ensures, view) at c.in_err-need-2.ensures)
     c.from_residual-in_err-need-2.ensures
 
@@ -63,10 +62,9 @@ certificate_in-c-requires c =
     listed.there c.greatest-best.result
 
 pub issue-requires : goal.issue-requires
-unfolding every
 issue-requires c =
     let listed = accumulating_list _ _ _ c.in_ok-r.ensures.refusal c.in_ok-r.ensures.found c.in_ok-test_list.ensures in
-    record { issuable = issuable _ _ listed.ready; settable = record { paired = refl; within = refl } }
+    record { issuable = issuable _ _ listed.ready; settable = refl }
 
 pub returns : goal.returns
 unfolding accumulate_rule
@@ -74,6 +72,6 @@ returns c =
     let listed = accumulating_list _ _ _ c.in_ok-r.ensures.refusal c.in_ok-r.ensures.found c.in_ok-test_list.ensures in
     let view = c.certificate_word-view.ensures ∙ ap (λ (x : Certificate). x.view) listed.first in
     let best = c.certificate_in-c.ensures ∙ ap certificate_from c.greatest-best.ensures.is in
-    let live = need_on _ _ listed.at (rw listed.read at c.in_ok-need.ensures) in
+    let live = need_on _ _ listed.at (rw (c.is.ensures, listed.read) at c.in_ok-need.ensures) in
     let at_slot = need_on _ _ live (rw (c.is_new_view_quorum-agreed.ensures, view) at c.in_ok-need-2.ensures) in
     issues _ _ _ _ _ at_slot refl (simp (view, best, listed.read)) (c.issue.ensures _)

@@ -1,9 +1,8 @@
 -- Refused by the form, the replica, the list or the quorum; else decided, and shown where the view is above the decided view.
-use mathlib.Core.Path.{refl, ap, ◌∙◌}
+use mathlib.Core.Path.{ap, ◌∙◌}
 use native.Mathlib.Omega.{arith}
 use borrow.Author.Tests.{lt-ltb, le-ltb}
 use Rattle.protocol.specs.Memory.{update}
-use Rattle.protocol.specs.Quorum.{every}
 use Rattle.protocol.specs.Calls.{decide as decide_rule}
 use Rattle.certificate_log.specs.inner.Certificates.{certificate_from}
 use Rattle.checks.proofs.Ready.{row_within}
@@ -60,10 +59,6 @@ pub set_words-requires-clause-replica_words_in_bounds : goal.set_words-requires-
 set_words-requires-clause-replica_words_in_bounds c =
     let listed = deciding_list _ _ _ c.in_ok-r.ensures.refusal c.in_ok-r.ensures.found c.in_ok-test_list.ensures in
     row_within _ _ listed.ready
-
-pub set_words-requires-clause-settable : goal.set_words-requires-clause-settable
-unfolding every
-set_words-requires-clause-settable c = record { paired = refl; within = refl }
 
 pub returns : goal.returns
 unfolding decide_rule update

@@ -1,6 +1,5 @@
 -- Refused, or a PROP is issued; what was found of the replica and what the justification gives is what the rule speaks of.
 use mathlib.Core.Path.{refl}
-use Rattle.protocol.specs.Quorum.{every}
 use Rattle.protocol.specs.Calls.{prepare as prepare_rule}
 use Rattle.protocol.proofs.logic.Booleans.{tests}
 use Rattle.checks.proofs.Needed.{needed}
@@ -38,7 +37,7 @@ returns-in_err-need-2 c =
     let found = preparing _ _ c.args.block _ _ c.in_ok-r.ensures.refusal c.in_ok-r.ensures.found in
     let numbered = on _ _ refl found.at c.in_ok-test_justification.ensures in
     let added = need_on _ _ numbered c.in_ok-need.ensures in
-    need_stops _ _ added _ _ (rw found.read at c.in_err-need-2.ensures) c.from_residual-in_err-need-2.ensures
+    need_stops _ _ added _ _ (rw (c.is.ensures, found.read) at c.in_err-need-2.ensures) c.from_residual-in_err-need-2.ensures
 
 pub judge-requires : goal.judge-requires
 judge-requires c =
@@ -50,7 +49,7 @@ returns-in_err-justified c =
     let found = preparing _ _ c.args.block _ _ c.in_ok-r.ensures.refusal c.in_ok-r.ensures.found in
     let numbered = on _ _ refl found.at c.in_ok-test_justification.ensures in
     let added = need_on _ _ numbered c.in_ok-need.ensures in
-    let live = need_on _ _ added (rw found.read at c.in_ok-need-2.ensures) in
+    let live = need_on _ _ added (rw (c.is.ensures, found.read) at c.in_ok-need-2.ensures) in
     stops _ _ _ _ live c.in_err-justified.ensures.refusal c.from_residual-in_err-justified.ensures
 
 pub parent-parent-requires : goal.parent-parent-requires
@@ -68,7 +67,7 @@ returns-in_err-test_proposal c =
     let found = preparing _ _ c.args.block _ _ c.in_ok-r.ensures.refusal c.in_ok-r.ensures.found in
     let numbered = on _ _ refl found.at c.in_ok-test_justification.ensures in
     let added = need_on _ _ numbered c.in_ok-need.ensures in
-    let live = need_on _ _ added (rw found.read at c.in_ok-need-2.ensures) in
+    let live = need_on _ _ added (rw (c.is.ensures, found.read) at c.in_ok-need-2.ensures) in
     let judged = on _ _ refl live c.in_ok-justified.ensures.refusal in
     stops _ _ _ _ judged (rw (c.parent-parent.ensures, found.read, c.in_ok-justified.ensures.given) at c.in_err-test_proposal.ensures)
     c.from_residual-in_err-test_proposal.ensures
@@ -78,18 +77,14 @@ issue-requires-clause-issuable c =
     let found = preparing _ _ c.args.block c.args.justification c.args.list.now c.in_ok-r.ensures.refusal c.in_ok-r.ensures.found in
     issuable _ _ found.ready
 
-pub issue-requires-clause-settable : goal.issue-requires-clause-settable
-unfolding every
-issue-requires-clause-settable c = record { paired = refl; within = refl }
-
 pub returns : goal.returns
 unfolding prepare_rule
 returns c =
     let found = preparing _ _ c.args.block _ _ c.in_ok-r.ensures.refusal c.in_ok-r.ensures.found in
     let numbered = on _ _ refl found.at c.in_ok-test_justification.ensures in
     let added = need_on _ _ numbered c.in_ok-need.ensures in
-    let live = need_on _ _ added (rw found.read at c.in_ok-need-2.ensures) in
+    let live = need_on _ _ added (rw (c.is.ensures, found.read) at c.in_ok-need-2.ensures) in
     let judged = on _ _ refl live c.in_ok-justified.ensures.refusal in
     let given = c.in_ok-justified.ensures.given in
     let at_slot = on _ _ refl judged (rw (c.parent-parent.ensures, found.read, given) at c.in_ok-test_proposal.ensures) in
-    issues _ _ _ _ _ at_slot refl (rw (c.of_kind-c.ensures, given, found.read) refl) (c.issue.ensures _)
+    issues _ _ _ _ _ at_slot (rw c.word.ensures) (rw (c.of_kind-c.ensures, given, found.read) refl) (c.issue.ensures _)

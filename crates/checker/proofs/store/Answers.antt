@@ -1,6 +1,5 @@
 -- Refused, or a COMMIT is issued; what was found of the replica and of the PROP is what the rule speaks of.
 use mathlib.Core.Path.{refl}
-use Rattle.protocol.specs.Quorum.{every}
 use Rattle.protocol.specs.Calls.{store as store_rule}
 use Rattle.protocol.proofs.logic.Booleans.{tests}
 use Rattle.certificate_log.proofs.Fits.{log_fits}
@@ -39,8 +38,8 @@ returns-in_err-test_store c =
     let prop = storing_prop _ _ c.in_ok-r.ensures.refusal c.in_ok-r.ensures.found _ c.in_ok-p.ensures.refusal c.in_ok-p.ensures.found in
     stops _ _ _ _ prop.at (rw (found.read, prop.read) at c.in_err-test_store.ensures) c.from_residual-in_err-test_store.ensures
 
-pub overflow_add-values : goal.overflow_add-values
-overflow_add-values c =
+pub overflow_add-words : goal.overflow_add-words
+overflow_add-words c =
     let found = storing _ _ c.in_ok-r.ensures.refusal c.in_ok-r.ensures.found c.args.number in
     let prop = storing_prop _ _ c.in_ok-r.ensures.refusal c.in_ok-r.ensures.found _ c.in_ok-p.ensures.refusal c.in_ok-p.ensures.found in
     rw prop.read (record { fits = omega (tests, view_bound _ _ found.ready.formed prop.issued) })
@@ -50,14 +49,10 @@ issue-requires-clause-issuable c =
     let found = storing _ _ c.in_ok-r.ensures.refusal c.in_ok-r.ensures.found c.args.number in
     issuable _ _ found.ready
 
-pub issue-requires-clause-settable : goal.issue-requires-clause-settable
-unfolding every
-issue-requires-clause-settable c = record { paired = refl; within = refl }
-
 pub returns : goal.returns
 unfolding store_rule
 returns c =
     let found = storing _ _ c.in_ok-r.ensures.refusal c.in_ok-r.ensures.found c.args.number in
     let prop = storing_prop _ _ c.in_ok-r.ensures.refusal c.in_ok-r.ensures.found _ c.in_ok-p.ensures.refusal c.in_ok-p.ensures.found in
     let at_slot = on _ _ refl prop.at (rw (found.read, prop.read) at c.in_ok-test_store.ensures) in
-    issues _ _ _ _ _ at_slot (rw prop.read refl) (rw (c.of_kind-c.ensures, prop.read, found.read) refl) (c.issue.ensures _)
+    issues _ _ _ _ _ at_slot (rw (c.word.ensures, prop.read) refl) (rw (c.of_kind-c.ensures, prop.read, found.read) refl) (c.issue.ensures _)

@@ -1,6 +1,5 @@
 -- Refused, or a NEWVIEW is issued; what was found of the replica is what the rule speaks of.
 use mathlib.Core.Path.{refl}
-use Rattle.protocol.specs.Quorum.{every}
 use Rattle.protocol.specs.Calls.{view as view_rule}
 use Rattle.checks.proofs.Passing.{stops, on}
 use Rattle.issuing.proofs.Issues.{issuable, start, issues}
@@ -20,10 +19,6 @@ pub issue-requires-clause-issuable : goal.issue-requires-clause-issuable
 issue-requires-clause-issuable c =
     let found = entering _ _ c.in_ok-r.ensures.refusal c.in_ok-r.ensures.found c.args.view in
     issuable _ _ found.ready
-
-pub issue-requires-clause-settable : goal.issue-requires-clause-settable
-unfolding every
-issue-requires-clause-settable c = record { paired = refl; within = refl }
 
 pub returns : goal.returns
 unfolding view_rule

@@ -1,28 +1,24 @@
-use mathlib.Core.Path.{sym, ◌∙◌}
-use native.Mathlib.Omega.{arith}
-use Rattle.field.proofs.Reading.{not_eight, eight_columns, skips_blank, after_last_blank, only_blanks}
+use Rattle.std.proofs.Common.{◌≡◌, ℕ, sym, ◌∙◌, ap, arith, List, ◌-◌, length, take, drop}
+use lib.ListN.{length-drop}
+use lib.Seq.{take_all}
+use Rattle.field.specs.Field.{unpadded, found}
+use Rattle.field.proofs.Reading.{not_eight, eight_columns, past_blanks, after_last_blank, only_blanks}
 use Rattle.field.proofs.read_number.Goals as goal
 
 pub returns-then-bytes-ne-COLUMNS : goal.returns-then-bytes-ne-COLUMNS
-returns-then-bytes-ne-COLUMNS c = not_eight c.args.bytes.now (omega arith)
+returns-then-bytes-ne-COLUMNS c = ap found (not_eight c.args.bytes.now (omega arith))
 
-pub loop-i-init : goal.loop-i-init
-loop-i-init c =
-    (omega arith, omega arith, eight_columns c.args.bytes.now (omega arith))
-
-pub returns-then-bytes-i-ne-BLANK : goal.returns-then-bytes-i-ne-BLANK
-returns-then-bytes-i-ne-BLANK c =
-    let bytes = c.args.bytes.now in
-    let l = c.loop-i in
-    c.read_digits.ensures ∙ (sym (after_last_blank bytes l.i (omega arith) (omega arith)) ∙ l.invariant.2)
-
-pub loop-i-preserved : goal.loop-i-preserved
-loop-i-preserved c =
-    let bytes = c.args.bytes.now in
-    let l = c.loop-i in
-    (omega arith, l.invariant.1, skips_blank bytes l.i (omega arith) (omega arith) ∙ l.invariant.2)
+pub returns-in_err-first : goal.returns-in_err-first
+returns-in_err-first c =
+    let l = c.args.bytes.now in
+    c.from_residual.ensures ∙ ap found (sym (only_blanks l c.in_err-first.ensures) ∙ eight_columns l (omega arith))
 
 pub returns : goal.returns
 returns c =
-    let l = c.loop-i in
-    sym (only_blanks c.args.bytes.now l.i (omega arith)) ∙ l.invariant.2
+    let l = c.args.bytes.now in
+    let i = c.in_ok-first.first in
+    let e = c.in_ok-first.ensures in
+    let rest : take (length l - i) (drop i l) ≡ drop i l = take_all (length l - i) (drop i l) (omega (arith, length-drop i l)) in
+    c.read_digits.ensures
+    ∙ ap (λ (x : List ℕ). found (unpadded x)) rest
+    ∙ ap found (sym (after_last_blank l i e.0 e.1) ∙ past_blanks l i (omega (arith, e.0)) e.2 ∙ eight_columns l (omega arith))

@@ -1,4 +1,4 @@
--- One digit over blanks; or the digits left and the columns written are the number's digits, and before these there are blanks.
+-- The digits left and the columns written are the number's digits, and before these there are blanks.
 use Prim.Native.Nat.{◌-◌, ◌≤◌}
 use mathlib.Core.Path.{◌≡◌}
 use mathlib.Core.List.{◌++◌}
@@ -8,9 +8,5 @@ use Rattle.field.specs.Field.{columns, blank}
 use Rattle.field.proofs.write_columns.Given as goal
 
 abbrev pub invariant-loop-at : goal.invariant-loop-at
-invariant-loop-at l = (l.first ≤ l.at) × (l.at ≤ columns) × (length l.bytes ≡ columns) × (l.first ≡ columns - digit_count l.number)
-    × (digits (l.at - l.first) l.rest ++ drop l.at l.bytes ≡ digits (digit_count l.number) l.number)
+invariant-loop-at l = (l.at-start ≤ l.at) × (length l.bytes ≡ columns) × (digits (l.at - l.at-start) l.rest ++ drop l.at l.bytes ≡ digits (digit_count l.number) l.number)
     × (take l.at l.bytes ≡ replicate l.at blank)
-
-abbrev pub decreases-loop-at : goal.decreases-loop-at
-decreases-loop-at l = l.at

@@ -5,23 +5,21 @@ use Rattle.protocol.specs.Outcome.{Outcome}
 use Rattle.protocol.proofs.logic.Booleans.{tests}
 use Rattle.protocol.proofs.memory.Formed.{sizes, height_kept}
 use Rattle.form.proofs.Within.{block_within, replica_bounds}
-use Rattle.checks.proofs.Passing.{start, accepts, no_replica, replica_known, found_replica}
+use Rattle.checks.proofs.Passing.{start, accepts, stops, replica_known, found_replica}
 use Rattle.panel.specs.Panel.{panel_rule, panel_answer}
 use Rattle.panel.proofs.panel.Goals as goal
 
-pub returns-in_default : goal.returns-in_default
+pub returns-in_err-r : goal.returns-in_err-r
 unfolding panel_answer
-returns-in_default c =
+returns-in_err-r c =
     let a = c.args in
     let m = memory a.table.now a.log.now a.blocks.now in
     ap (λ (o : Outcome). o.answer)
-    (no_replica m a.replica _ (start (panel_rule m a.replica)) c.find_replica-found.ensures
-    c.in_default.is
-    c.refusal.ensures c.refused.ensures)
+    (stops {s = m} _ _ _ _ (start (panel_rule m a.replica)) c.in_err-r.ensures.refusal c.from_residual.ensures)
 
 pub height-requires : goal.height-requires
 height-requires c =
-    let known = replica_known _ _ c.find_replica-found.ensures c.in-Found.is in
+    let known = replica_known _ _ c.in_ok-r.ensures.refusal c.in_ok-r.ensures.found in
     let b = replica_bounds _ known.ready.formed c.args.replica (omega (tests, known.ready.own)) in
     rw known.read (block_within _ (sizes _ known.ready.formed) _ b.decided_block)
 
@@ -30,9 +28,8 @@ unfolding panel_answer
 returns c =
     let a = c.args in
     let m = memory a.table.now a.log.now a.blocks.now in
-    let found = found_replica m a.replica _ (start (panel_rule m a.replica)) c.find_replica-found.ensures
-    c.in-Found.is in
+    let found = found_replica m a.replica _ (start (panel_rule m a.replica)) c.in_ok-r.ensures.refusal c.in_ok-r.ensures.found in
     let b = replica_bounds m found.ready.formed a.replica (omega (tests, found.ready.own)) in
     let kept = height_kept m found.ready.formed _ b.decided_block in
     ap (λ (o : Outcome). o.answer)
-    (accepts m {m' = m} found.at (rw (c.height.ensures, found.read, kept) at c.accepted.ensures) refl)
+    (accepts m {s' = m} found.at (rw (c.height.ensures, found.read, kept) at c.accepted.ensures) refl)

@@ -1,8 +1,7 @@
 -- Refused by the form, the replica, the list or a need of its own; else the replica is live again.
-use mathlib.Core.Path.{refl, ◌∙◌, ap}
+use mathlib.Core.Path.{◌∙◌, ap}
 use native.Mathlib.Omega.{arith}
 use Rattle.protocol.specs.Memory.{update}
-use Rattle.protocol.specs.Quorum.{every}
 use Rattle.protocol.specs.Calls.{recover as rule}
 use Rattle.certificate_log.specs.inner.Certificates.{certificate_from}
 use Rattle.checks.proofs.Ready.{row_within}
@@ -50,12 +49,12 @@ is_reply_quorum-replied-requires c =
 pub returns-in_err-need : goal.returns-in_err-need
 returns-in_err-need c =
     let listed = recovering_list _ _ c.in_ok-r.ensures.refusal c.in_ok-r.ensures.found _ c.in_ok-test_list.ensures in
-    need_stops _ _ listed.at _ _ (rw listed.read at c.in_err-need.ensures) c.from_residual-in_err-need.ensures
+    need_stops _ _ listed.at _ _ (rw (c.is.ensures, listed.read) at c.in_err-need.ensures) c.from_residual-in_err-need.ensures
 
 pub returns-in_err-need-2 : goal.returns-in_err-need-2
 returns-in_err-need-2 c =
     let listed = recovering_list _ _ c.in_ok-r.ensures.refusal c.in_ok-r.ensures.found _ c.in_ok-test_list.ensures in
-    let waiting = need_on _ _ listed.at (rw listed.read at c.in_ok-need.ensures) in
+    let waiting = need_on _ _ listed.at (rw (c.is.ensures, listed.read) at c.in_ok-need.ensures) in
     need_stops _ _ waiting _ _ (rw (c.is_reply_quorum-replied.ensures, listed.read) at c.in_err-need-2.ensures)
     c.from_residual-in_err-need-2.ensures
 
@@ -63,7 +62,7 @@ pub returns-in_err-need-3 : goal.returns-in_err-need-3
 returns-in_err-need-3 c =
     let listed = recovering_list _ _ c.in_ok-r.ensures.refusal c.in_ok-r.ensures.found _ c.in_ok-test_list.ensures in
     let best = c.certificate_in-c.ensures ∙ ap certificate_from c.greatest-best.ensures.is in
-    let waiting = need_on _ _ listed.at (rw listed.read at c.in_ok-need.ensures) in
+    let waiting = need_on _ _ listed.at (rw (c.is.ensures, listed.read) at c.in_ok-need.ensures) in
     let replied = need_on _ _ waiting (rw (c.is_reply_quorum-replied.ensures, listed.read) at c.in_ok-need-2.ensures) in
     need_stops _ _ replied _ _ (rw (c.max-min_view.ensures, best, listed.read) at c.in_err-need-3.ensures)
     c.from_residual-in_err-need-3.ensures
@@ -73,17 +72,13 @@ set_words-requires-clause-replica_words_in_bounds c =
     let listed = recovering_list _ _ c.in_ok-r.ensures.refusal c.in_ok-r.ensures.found _ c.in_ok-test_list.ensures in
     row_within _ _ listed.ready
 
-pub set_words-requires-clause-settable : goal.set_words-requires-clause-settable
-unfolding every
-set_words-requires-clause-settable c = record { paired = refl; within = refl }
-
 pub returns : goal.returns
 unfolding rule update
 returns c =
     let listed = recovering_list _ _ c.in_ok-r.ensures.refusal c.in_ok-r.ensures.found _ c.in_ok-test_list.ensures in
     let best = c.certificate_in-c.ensures ∙ ap certificate_from c.greatest-best.ensures.is in
-    let waiting = need_on _ _ listed.at (rw listed.read at c.in_ok-need.ensures) in
+    let waiting = need_on _ _ listed.at (rw (c.is.ensures, listed.read) at c.in_ok-need.ensures) in
     let replied = need_on _ _ waiting (rw (c.is_reply_quorum-replied.ensures, listed.read) at c.in_ok-need-2.ensures) in
     let end = need_on _ _ replied (rw (c.max-min_view.ensures, best, listed.read) at c.in_ok-need-3.ensures) in
     accepts _ end (rw (c.max-min_view.ensures, best, listed.read) at c.accepted.ensures)
-    (rw (c.set_words.ensures, c.max-min_view.ensures, best, listed.read))
+    (rw (c.set_words.ensures, c.word.ensures, c.max-min_view.ensures, best, listed.read))

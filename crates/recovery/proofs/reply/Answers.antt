@@ -1,7 +1,6 @@
 -- Refused, or a REPLY is issued, to the REQ's signer, boot and view; the lowest view rises to that view where it is below it.
 use mathlib.Core.Path.{refl}
 use borrow.Author.Tests.{lt-ltb, le-ltb}
-use Rattle.protocol.specs.Quorum.{every}
 use Rattle.protocol.specs.Calls.{reply as rule}
 use Rattle.certificate_log.proofs.Fits.{log_fits}
 use Rattle.checks.proofs.Passing.{stops, on}
@@ -30,10 +29,9 @@ returns-in_err-test_reply c =
     stops _ _ _ _ asked.at (rw (found.read, asked.read) at c.in_err-test_reply.ensures) c.from_residual-in_err-test_reply.ensures
 
 pub issue-requires : goal.issue-requires
-unfolding every
 issue-requires c =
     let found = replying _ _ c.in_ok-r.ensures.refusal c.in_ok-r.ensures.found c.args.number in
-    record { issuable = issuable _ _ found.ready; settable = record { paired = refl; within = refl } }
+    record { issuable = issuable _ _ found.ready; settable = refl }
 
 pub returns-then-r-q : goal.returns-then-r-q
 unfolding rule
@@ -42,13 +40,12 @@ returns-then-r-q c =
     let asked = replying_to _ _ c.in_ok-r.ensures.refusal c.in_ok-r.ensures.found _ c.in_ok-q.ensures.refusal c.in_ok-q.ensures.found in
     let at_slot = on _ _ refl asked.at (rw (found.read, asked.read) at c.in_ok-test_reply.ensures) in
     let rises = lt-ltb _ _ (rw (found.read, asked.read) at c.if-r-q.true) in
-    issues _ _ _ _ _ at_slot (rw (rises, asked.read)) (rw (found.read, asked.read) at c.reply_to-answer.ensures) (c.issue.ensures _)
+    issues _ _ _ _ _ at_slot (rw (rises, asked.read, c.word.ensures)) (rw (found.read, asked.read) at c.reply_to-answer.ensures) (c.issue.ensures _)
 
 pub issue-requires-2 : goal.issue-requires-2
-unfolding every
 issue-requires-2 c =
     let found = replying _ _ c.in_ok-r.ensures.refusal c.in_ok-r.ensures.found c.args.number in
-    record { issuable = issuable _ _ found.ready; settable = record { paired = refl; within = refl } }
+    record { issuable = issuable _ _ found.ready; settable = refl }
 
 pub returns : goal.returns
 unfolding rule

@@ -1,9 +1,8 @@
 -- Refused, retired, or started again; what was found of the replica is what the rule speaks of.
-use mathlib.Core.Path.{refl, sym, ◌∙◌}
+use mathlib.Core.Path.{sym, ◌∙◌}
 use mathlib.Core.List.{[]}
 use native.Mathlib.Omega.{arith}
 use Rattle.protocol.specs.Memory.{update}
-use Rattle.protocol.specs.Quorum.{every}
 use Rattle.protocol.specs.Calls.{reboot as reboot_rule}
 use Rattle.checks.proofs.Ready.{row_within}
 use Rattle.checks.proofs.Passing.{start, accepts, stops}
@@ -41,16 +40,12 @@ returns-then-retires c =
     let found = rebooting _ _ c.in_ok-r.ensures.refusal c.in_ok-r.ensures.found in
     let step = rw found.read at c.counter_step.ensures c.args.log.now c.args.blocks.now in
     let retires = sym (rw (found.read, step) at c.retires.ensures) ∙ c.if-retires.true in
-    accepts _ found.at (rw retires (rw found.read at c.accepted.ensures)) (rw (retires, c.set_replica_word.ensures))
+    accepts _ found.at (rw retires (rw found.read at c.accepted.ensures)) (rw (retires, c.set_replica_word.ensures, c.word.ensures))
 
 pub set_words-requires-clause-replica_words_in_bounds : goal.set_words-requires-clause-replica_words_in_bounds
 set_words-requires-clause-replica_words_in_bounds c =
     let found = rebooting _ _ c.in_ok-r.ensures.refusal c.in_ok-r.ensures.found in
     row_within _ _ found.ready
-
-pub set_words-requires-clause-settable : goal.set_words-requires-clause-settable
-unfolding every
-set_words-requires-clause-settable c = record { paired = refl; within = refl }
 
 pub returns : goal.returns
 unfolding reboot_rule update
@@ -58,4 +53,4 @@ returns c =
     let found = rebooting _ _ c.in_ok-r.ensures.refusal c.in_ok-r.ensures.found in
     let step = rw found.read at c.counter_step.ensures c.args.log.now c.args.blocks.now in
     let stays = sym (rw (found.read, step) at c.retires.ensures) ∙ c.if-retires.false in
-    accepts _ found.at (rw stays (rw found.read at c.accepted-2.ensures)) (rw (stays, c.set_words.ensures, found.read, step))
+    accepts _ found.at (rw stays (rw found.read at c.accepted-2.ensures)) (rw (stays, c.set_words.ensures, c.word-2.ensures, c.word-3.ensures, found.read, step))

@@ -1,11 +1,10 @@
--- The f in use changes where the answer is 0.
+-- The f in use changes where the answer is no refusal.
+use mathlib.Core.Path.{sym, ◌∙◌}
 use Rattle.script.proofs.Lending.{accepted, refused}
 use Rattle.script.proofs.answer_numbers.Goals as goal
 
-pub returns-then-answer-eq-ACCEPTED : goal.returns-then-answer-eq-ACCEPTED
-returns-then-answer-eq-ACCEPTED c =
-    accepted _ _ c.fault_bound_for-f.ensures c.call_lent-answer.ensures c.if-answer-eq-ACCEPTED.true
+pub returns-then-is_ok : goal.returns-then-is_ok
+returns-then-is_ok c = accepted _ _ c.fault_bound_for-f.ensures _ c.call_lent-answer.ensures (sym c.is_ok.ensures.value ∙ c.if-is_ok.true)
 
-pub returns-else-answer-eq-ACCEPTED : goal.returns-else-answer-eq-ACCEPTED
-returns-else-answer-eq-ACCEPTED c =
-    refused _ _ c.fault_bound_for-f.ensures c.call_lent-answer.ensures c.if-answer-eq-ACCEPTED.false
+pub returns-else-is_ok : goal.returns-else-is_ok
+returns-else-is_ok c = refused _ _ c.fault_bound_for-f.ensures _ c.call_lent-answer.ensures (sym c.is_ok.ensures.value ∙ c.if-is_ok.false)

@@ -1,10 +1,7 @@
 -- What reading a line gives.
-use Rattle.std.specs.Prelude.{cond, List, ℕ, length}
-use Rattle.protocol.specs.Outcome.{unreadable}
-use Rattle.reader.specs.declared.Read.{Read}
-use Rattle.reader.specs.declared.Read.TheVariants.{To, Refused}
-use Rattle.script.specs.Lines.{has_numbers}
+use Rattle.std.specs.Prelude.{cond, List, ℕ, Option, None, Some}
+use Rattle.script.specs.Lines.{field_count, has_numbers}
 
--- The column that reading a line's numbers reaches, which is its end, or the refusal.
-unfoldable pub line_read : List ℕ → Read
-line_read line = cond (has_numbers line) (To (length line)) (Refused unreadable)
+-- How many numbers a line has, if it is a line of numbers.
+unfoldable pub line_read : List ℕ → Option ℕ
+line_read line = cond (has_numbers line) (Some (field_count line)) None

@@ -1,22 +1,21 @@
-use Prim.Native.Nat.{◌-◌}
-use mathlib.Core.Path.{◌≡◌}
-use native.Mathlib.Omega.{arith}
-use lib.ListN.{length-set}
-use Rattle.stream.proofs.Holding.{copied_one, copied_all}
+-- What was held, and the bytes that there are places for.
+use Rattle.std.proofs.Common.{◌≡◌, ◌∙◌, ◌+◌, ◌-◌, length, take, min, arith}
+use Rattle.std.proofs.lemmas.Slice.{take-put_mid}
+use lib.Seq.{length-take-le}
+use Rattle.stream.specs.Stream.{held_places}
+use Rattle.stream.proofs.Holding.{take_behind}
 use Rattle.stream.proofs.hold.Goals as goal
-
-pub loop-i-preserved : goal.loop-i-preserved
-loop-i-preserved c =
-    let l = c.loop-i in
-    let a = c.args in (
-      omega arith,
-      simp length-set l.invariant.1,
-      copied_one a.line.now a.chunk.now a.held a.from l.line l.i (omega arith) (omega arith) l.invariant.2,
-    )
 
 pub returns : goal.returns
 returns c =
     let a = c.args in
-    let e : c.loop-i.i ≡ c.smaller-count.result = omega arith in
-    copied_all a.line.now a.chunk.now a.held a.from a.end _ _ c.requires c.smaller-count.ensures
-    (rw e at c.loop-i.invariant.2)
+    let long = length-take-le a.held a.line.now (omega arith) in
+    let new = c.copy_from_slice.new.self in
+    let count : length new ≡ c.min-count.result = rw c.copy_from_slice.ensures.after (length-take-le c.min-count.result a.bytes.now (omega arith)) in
+    let room : c.min-count.result ≡ min (held_places - length (take a.held a.line.now)) (length a.bytes.now) = rw long c.min-count.ensures in
+    record {
+      fits = omega arith;
+      bytes =
+          take-put_mid a.held (a.held + c.min-count.result - a.held) a.line.now new (a.held + c.min-count.result) (omega arith) (omega arith)
+          ∙ rw c.copy_from_slice.ensures.after (take_behind held_places (take a.held a.line.now) a.bytes.now (omega arith) room);
+    }

@@ -1,10 +1,9 @@
 -- What holds between two turns of the program, and what writing a text leaves.
-use Rattle.std.specs.Prelude.{ℕ, ◌*◌, ◌≤◌, ◌≡◌}
+use Rattle.std.specs.Prelude.{ℕ, ◌*◌, ◌≤◌, ◌≡◌, Option, None, Some}
 use Rattle.script.specs.Text.{answer_bytes}
 use Rattle.stream.specs.declared.Progress.{Progress}
-use Rattle.stream.specs.Stream.{held_places}
-use Rattle.yard.specs.declared.Written.{Written}
-use Rattle.yard.specs.declared.Written.TheVariants.{All, Failed}
+use Rattle.stream.specs.Stream.{Stream, held_places, stream_of}
+use Rattle.yard.specs.declared.Machine.{Machine}
 
 -- A chunk of the input, and the answers to as many lines.
 abbrev pub chunk_bytes : ℕ
@@ -12,6 +11,10 @@ chunk_bytes = 8192
 
 abbrev pub text_bytes : ℕ
 text_bytes = answer_bytes * chunk_bytes
+
+-- The stream that the program's words and bytes are.
+abbrev pub stream_in : Machine → Stream
+stream_in m = stream_of m.progress m.table m.log m.blocks m.line m.text
 
 -- What is held, and what is to be written, lies within its places.
 pub record InPlace (p : Progress) : Type 0 where
@@ -27,6 +30,7 @@ pub record Flushed (p : Progress) : Type 0 where
 abbrev pub cleared : Progress → Progress
 cleared p = record { fault_bound = p.fault_bound; lines = p.lines; held = p.held; pending = 0 }
 
-abbrev pub Writes : Progress → Written → Type 0
-Writes p (All r) = r ≡ cleared p
-Writes p Failed = Unit {0}
+-- What writing the text leaves: all was written, and nothing is pending, or it failed, and all is as before.
+abbrev pub Written : Machine → Option (Unit {0}) → Machine → Type 0
+Written m (Some done) n = n ≡ record m { progress = cleared m.progress }
+Written m None n = n ≡ m

@@ -3,7 +3,8 @@ use Rattle.std.proofs.Common.{ℕ, zero, suc, ◌≤◌, ◌≡◌, refl, List, 
 use Rattle.std.proofs.lemmas.List.{take_min}
 use Rattle.stream.specs.Stream.{Stream, fed, finished}
 use Rattle.stream.specs.Turns.{taken}
-use Rattle.yard.proofs.take_read.Goals as goal
+use Rattle.yard.specs.inner.Writing.{stream_in}
+use Rattle.yard.proofs.Machine.take_read.Goals as goal
 
 some : (s : Stream) (n : ℕ) (chunk : List ℕ) → (n ≡ 0 → ⊥) → n ≤ length chunk → fed s (take n chunk) ≡ taken s (take n chunk)
 unfolding taken
@@ -22,8 +23,8 @@ module _ (s : Stream) (got : ℕ) (chunk : List ℕ) {o : Stream} {n : ℕ} (m :
 
 pub returns-then-n-eq0-clause-text_after : goal.returns-then-n-eq0-clause-text_after
 returns-then-n-eq0-clause-text_after c =
-    ended _ c.args.got c.args.chunk.now c.min-n.ensures c.if-n-eq0.true c.finish.ensures.text_after
+    ended (stream_in c.args.self.now) c.args.got c.args.self.now.chunk (omega arith) c.if-n-eq0.true c.finish.ensures.text_after
 
-pub returns-clause-text_after : goal.returns-clause-text_after
-returns-clause-text_after c =
-    all_fed _ c.args.got c.args.chunk.now c.min-n.ensures c.if-n-eq0.false c.feed.ensures.text_after
+pub returns-else-n-eq0-clause-text_after : goal.returns-else-n-eq0-clause-text_after
+returns-else-n-eq0-clause-text_after c =
+    all_fed (stream_in c.args.self.now) c.args.got c.args.self.now.chunk (omega arith) c.if-n-eq0.false c.feed.ensures.text_after

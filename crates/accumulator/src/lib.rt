@@ -5,7 +5,7 @@ ghost use Rattle.std.specs.Prelude.{◌≡◌};
 ghost use Rattle.protocol.specs.Outcome.{outcome, outcome_by};
 ghost use Rattle.protocol.specs.Calls.{accumulate as accumulate_rule, decide as decide_rule};
 
-use certificate_log::{ACC, Certificate, VIEW_AT, certificate_in, certificate_word};
+use certificate_log::{Certificate, Kind, VIEW_AT, certificate_in, certificate_word};
 use checks::{accepted, need};
 use issuing::issue;
 use protocol::{Answer, Refusal};
@@ -31,14 +31,10 @@ pub fn accumulate(
     let best = quorum::greatest(log, list);
     let c = certificate_in(log, list[best]);
     let acc = Certificate {
-        kind: ACC,
-        signer: replica,
         view,
         block: c.block,
         of_view: c.of_view,
-        subject: 0,
-        subject_boot: 0,
-        signer_boot: r.boot,
+        ..Certificate::signed(Kind::Acc, replica, r.boot)
     };
     issue(table, log, replica, &[], acc)
 }

@@ -20,7 +20,6 @@ ghost use Rattle.protocol.specs.Memory.{
   words,
 };
 ghost use Rattle.protocol.specs.Form.{all_below, last_kind};
-ghost use Rattle.protocol.specs.Certificates as Kinds;
 ghost use Rattle.certificate_log.specs.inner.Certificates.{certificate_of, certificate_from};
 ghost use Rattle.certificate_log.specs.inner.Kinds.{kind_word};
 ghost use Rattle.certificate_log.specs.inner.Records.{certificate_ok, has_kind as has_kind_rule, exceeds, group_size, group_has_kinds as group_has_kinds_rule, group_exceeds as group_exceeds_rule};
@@ -47,21 +46,6 @@ pub const SIGNER_BOOT_AT: usize = 7;
 
 pub const MAX_CERTIFICATES: u32 = 4096;
 
-// A certificate's kind.
-pub const PROP: u32 = 1;
-
-pub const COMMIT: u32 = 2;
-
-pub const NEWVIEW: u32 = 3;
-
-pub const ACC: u32 = 4;
-
-pub const REQ: u32 = 5;
-
-pub const REPLY: u32 = 6;
-
-pub const LAST_KIND: u32 = REPLY;
-
 // The numbers are those of the definitions: nothing calls these three.
 pub fn width_and_offsets() -> [usize; 9]
     ensures { result
@@ -86,13 +70,13 @@ pub fn most_certificates() -> u32
     MAX_CERTIFICATES
 }
 
-pub fn kinds() -> [u32; 7]
-    ensures { result
-        ≡ Kinds.PROP ∷ Kinds.COMMIT ∷ Kinds.NEWVIEW ∷ Kinds.ACC ∷ Kinds.REQ ∷ Kinds.REPLY ∷ last_kind ∷ [] }
+pub fn greatest_kind() -> u32
+    ensures { result ≡ last_kind }
 {
-    [PROP, COMMIT, NEWVIEW, ACC, REQ, REPLY, LAST_KIND]
+    LAST_KIND
 }
 
+// A certificate's kind, with the number that stands for it in the log.
 #[derive(Clone, Copy, PartialEq, Eq)]
 pub enum Kind {
     Prop = 1,
@@ -103,8 +87,10 @@ pub enum Kind {
     Reply = 6,
 }
 
+pub const LAST_KIND: u32 = Kind::Reply as u32;
+
 impl Kind {
-    // The number that stands for it in a certificate: that of the definitions.
+    // The number of the definitions.
     pub fn word(self) -> u32
         ensures { result ≡ kind_word self }
     {
@@ -125,6 +111,31 @@ pub struct Certificate {
 }
 
 impl Certificate {
+    // One of a kind, that its signer signs at a boot: its other words are 0.
+    pub fn signed(kind: Kind, signer: u32, boot: u32) -> Certificate
+        ensures { result ≡ record {
+          kind = kind_word kind;
+          signer = signer;
+          view = 0;
+          block = 0;
+          of_view = 0;
+          subject = 0;
+          subject_boot = 0;
+          signer_boot = boot;
+        } }
+    {
+        Certificate {
+            kind: kind.word(),
+            signer,
+            view: 0,
+            block: 0,
+            of_view: 0,
+            subject: 0,
+            subject_boot: 0,
+            signer_boot: boot,
+        }
+    }
+
     pub fn is(self, kind: Kind) -> bool
         ensures { result ≡ eqb self.kind (kind_word kind) }
     {

@@ -6,7 +6,7 @@ ghost use Rattle.protocol.specs.Calls.{numbers_of, justification_needs};
 ghost use Rattle.quorum.specs.inner.Lists.{certificates_in};
 ghost use Rattle.checker.specs.inner.Justifications.{Justifying, judgement_needs, justified_by};
 
-use certificate_log::ACC;
+use certificate_log::Kind;
 use checks::need;
 use protocol::{Justification, Refusal};
 use table::CERTIFICATE_COUNT_AT;
@@ -55,7 +55,7 @@ pub fn judge(
     match justification {
         Justification::Acc(number) => {
             let acc = certificate_log::certificate_in(log, number);
-            let signed = (acc.kind == ACC) & (acc.signer == replica);
+            let signed = acc.is(Kind::Acc) & (acc.signer == replica);
             need(signed, Refusal::WrongCertificate)?;
             Ok(Justified {
                 view: acc.view,

@@ -18,7 +18,7 @@ ghost use Rattle.records.specs.inner.Replicas.{replica_of};
 
 use self::justification::Justified;
 use blocks::ROOT;
-use certificate_log::{COMMIT, Certificate, NEWVIEW, PROP};
+use certificate_log::{Certificate, Kind};
 use checks::need;
 use issuing::issue;
 use leader::FIRST_VIEW;
@@ -30,31 +30,6 @@ use table::{
 };
 
 mod justification;
-
-// A PROP or a COMMIT, signed at a boot of its signer: they name no earlier view and no subject.
-fn of_kind(kind: u32, signer: u32, boot: u32, view: u32, block: u32) -> Certificate
-    ensures { result ≡ record {
-      kind = kind;
-      signer = signer;
-      view = view;
-      block = block;
-      of_view = 0;
-      subject = 0;
-      subject_boot = 0;
-      signer_boot = boot;
-    } }
-{
-    Certificate {
-        kind,
-        signer,
-        view,
-        block,
-        of_view: 0,
-        subject: 0,
-        subject_boot: 0,
-        signer_boot: boot,
-    }
-}
 
 // ---- prepare
 
@@ -102,7 +77,11 @@ pub fn prepare(
     let parent = blocks::parent(blocks, block);
     test_proposal(table[FAULT_BOUND_AT], replica, r, block, parent, justified)?;
     let words = [(FLAG_AT, Flag::Raised.word())];
-    let c = of_kind(PROP, replica, r.boot, justified.view, block);
+    let c = Certificate {
+        view: justified.view,
+        block,
+        ..Certificate::signed(Kind::Prop, replica, r.boot)
+    };
     issue(table, log, replica, &words, c)
 }
 
@@ -116,7 +95,7 @@ fn test_store(f: u32, r: Replica, p: Certificate) -> Result<(), Refusal>
 {
     let leads = leader::leads(f, p.view, p.signer);
     need(r.is(Status::Live), Refusal::WrongStatus)?;
-    need(p.kind == PROP, Refusal::WrongCertificate)?;
+    need(p.is(Kind::Prop), Refusal::WrongCertificate)?;
     need(leads, Refusal::WrongCertificate)?;
     need(r.min_view <= p.view, Refusal::WrongView)?;
     need(p.view < r.view_limit, Refusal::CounterLimit)
@@ -142,7 +121,11 @@ pub fn store(
         (MIN_VIEW_AT, p.view + 1),
         (FLAG_AT, Flag::Lowered.word()),
     ];
-    let c = of_kind(COMMIT, replica, r.boot, p.view, p.block);
+    let c = Certificate {
+        view: p.view,
+        block: p.block,
+        ..Certificate::signed(Kind::Commit, replica, r.boot)
+    };
     issue(table, log, replica, &words, c)
 }
 
@@ -186,14 +169,10 @@ pub fn view(
     test_view(r, view)?;
     let words = [(FLAG_AT, flag_in(r, view)), (MIN_VIEW_AT, view)];
     let c = Certificate {
-        kind: NEWVIEW,
-        signer: replica,
         view,
         block: r.stored_block,
         of_view: r.stored_view,
-        subject: 0,
-        subject_boot: 0,
-        signer_boot: r.boot,
+        ..Certificate::signed(Kind::NewView, replica, r.boot)
     };
     issue(table, log, replica, &words, c)
 }

@@ -13,9 +13,7 @@ ghost use Rattle.quorum.specs.inner.Lists.{
 };
 ghost use Rattle.quorum.specs.inner.Signers.{holds};
 
-use certificate_log::{
-    COMMIT, Certificate, NEWVIEW, OF_VIEW_AT, REPLY, certificate_in, certificate_word,
-};
+use certificate_log::{Certificate, Kind, OF_VIEW_AT, certificate_in, certificate_word};
 
 // Whether a signer is among those seen: one bit for each.
 fn is_seen(seen: u64, signer: u32) -> bool
@@ -57,7 +55,7 @@ pub fn is_commit_quorum(log: &[u32], list: &[u32], view: u32, block: u32) -> boo
     is_quorum(
         log,
         list,
-        |c| (c.kind == COMMIT) & (c.view == view) & (c.block == block),
+        |c| c.is(Kind::Commit) & (c.view == view) & (c.block == block),
     )
 }
 
@@ -65,7 +63,7 @@ pub fn is_new_view_quorum(log: &[u32], list: &[u32], view: u32) -> bool
     requires { Listed log.now list.now }
     ensures { result ≡ is_new_view_quorum_rule view (certificates_in log.now list.now) }
 {
-    is_quorum(log, list, |c| (c.kind == NEWVIEW) & (c.view == view))
+    is_quorum(log, list, |c| c.is(Kind::NewView) & (c.view == view))
 }
 
 pub fn is_reply_quorum(log: &[u32], list: &[u32], replica: u32, boot: u32, view: u32) -> bool
@@ -73,7 +71,7 @@ pub fn is_reply_quorum(log: &[u32], list: &[u32], replica: u32, boot: u32, view:
     ensures { result ≡ is_reply_quorum_rule replica boot view (certificates_in log.now list.now) }
 {
     is_quorum(log, list, |c| {
-        (c.kind == REPLY)
+        c.is(Kind::Reply)
             & (c.subject == replica)
             & (c.subject_boot == boot)
             & (c.view == view)

@@ -13,7 +13,7 @@ ghost use Rattle.protocol.specs.Calls.{
 ghost use Rattle.certificate_log.specs.inner.Certificates.{certificate_of};
 ghost use Rattle.records.specs.inner.Replicas.{replica_of};
 
-use certificate_log::{Certificate, REPLY, REQ};
+use certificate_log::{Certificate, Kind};
 use checks::{accepted, need};
 use issuing::issue;
 use protocol::{Answer, Refusal};
@@ -24,16 +24,11 @@ use table::{FLAG_AT, Flag, MIN_VIEW_AT, STATUS_AT, STORED_BLOCK_AT, STORED_VIEW_
 fn req(replica: u32, r: Replica) -> Certificate
     ensures { certificate_of result ≡ req_of replica r.boot r.min_view }
 {
-    let boot = r.boot;
     Certificate {
-        kind: REQ,
-        signer: replica,
         view: r.min_view,
-        block: 0,
-        of_view: 0,
         subject: replica,
-        subject_boot: boot,
-        signer_boot: boot,
+        subject_boot: r.boot,
+        ..Certificate::signed(Kind::Req, replica, r.boot)
     }
 }
 
@@ -53,7 +48,7 @@ fn test_reply(replica: u32, r: Replica, q: Certificate) -> Result<(), Refusal>
     ensures { number_in result ≡ first_refusal (reply_needs replica (replica_of r) (certificate_of q)) }
 {
     need(r.is(Status::Live), Refusal::WrongStatus)?;
-    need(q.kind == REQ, Refusal::WrongCertificate)?;
+    need(q.is(Kind::Req), Refusal::WrongCertificate)?;
     need(q.signer != replica, Refusal::WrongCertificate)?;
     need(q.view <= r.view_limit, Refusal::CounterLimit)
 }
@@ -64,14 +59,12 @@ fn reply_to(replica: u32, r: Replica, q: Certificate) -> Certificate
         ≡ reply_of replica r.boot q.view r.stored_block r.stored_view q.signer q.subject_boot }
 {
     Certificate {
-        kind: REPLY,
-        signer: replica,
         view: q.view,
         block: r.stored_block,
         of_view: r.stored_view,
         subject: q.signer,
         subject_boot: q.subject_boot,
-        signer_boot: r.boot,
+        ..Certificate::signed(Kind::Reply, replica, r.boot)
     }
 }
 

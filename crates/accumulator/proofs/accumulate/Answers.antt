@@ -74,4 +74,4 @@ returns c =
     let best = c.certificate_in-c.ensures ∙ ap certificate_from c.greatest-best.ensures.is in
     let live = need_on _ _ listed.at (rw (c.is.ensures, listed.read) at c.in_ok-need.ensures) in
     let at_slot = need_on _ _ live (rw (c.is_new_view_quorum-agreed.ensures, view) at c.in_ok-need-2.ensures) in
-    issues _ _ _ _ _ at_slot refl (simp (view, best, listed.read)) (c.issue.ensures _)
+    issues _ _ _ _ _ at_slot refl (simp (c.signed.ensures, view, best, listed.read)) (c.issue.ensures _)

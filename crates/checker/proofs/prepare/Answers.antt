@@ -87,4 +87,4 @@ returns c =
     let judged = on _ _ refl live c.in_ok-justified.ensures.refusal in
     let given = c.in_ok-justified.ensures.given in
     let at_slot = on _ _ refl judged (rw (c.parent-parent.ensures, found.read, given) at c.in_ok-test_proposal.ensures) in
-    issues _ _ _ _ _ at_slot (rw c.word.ensures) (rw (c.of_kind-c.ensures, given, found.read) refl) (c.issue.ensures _)
+    issues _ _ _ _ _ at_slot (rw c.word.ensures) (rw (c.signed.ensures, given, found.read) refl) (c.issue.ensures _)

@@ -55,4 +55,4 @@ returns c =
     let found = storing _ _ c.in_ok-r.ensures.refusal c.in_ok-r.ensures.found c.args.number in
     let prop = storing_prop _ _ c.in_ok-r.ensures.refusal c.in_ok-r.ensures.found _ c.in_ok-p.ensures.refusal c.in_ok-p.ensures.found in
     let at_slot = on _ _ refl prop.at (rw (found.read, prop.read) at c.in_ok-test_store.ensures) in
-    issues _ _ _ _ _ at_slot (rw (c.word.ensures, prop.read) refl) (rw (c.of_kind-c.ensures, prop.read, found.read) refl) (c.issue.ensures _)
+    issues _ _ _ _ _ at_slot (rw (c.word.ensures, prop.read) refl) (rw (c.signed.ensures, prop.read, found.read) refl) (c.issue.ensures _)

@@ -25,4 +25,4 @@ unfolding view_rule
 returns c =
     let found = entering _ _ c.in_ok-r.ensures.refusal c.in_ok-r.ensures.found c.args.view in
     let at_slot = on _ _ refl found.at (rw found.read at c.in_ok-test_view.ensures) in
-    issues _ _ _ _ _ at_slot (rw (c.flag_in.ensures, found.read)) (rw found.read) (c.issue.ensures _)
+    issues _ _ _ _ _ at_slot (rw (c.flag_in.ensures, found.read)) (rw (c.signed.ensures, found.read)) (c.issue.ensures _)

@@ -43,7 +43,8 @@ module _ (s : Lent) where
   unfolding waiting_rule enter_rule
   to_enter e = start _
 
-  pub to_withdraw : (identity : ℕ) → At (waiting_rule s (Withdraw identity)) (form_needs s ++ departure_needs (entries s.waiting) identity)
+  pub to_withdraw : (identity : ℕ)
+      → At (waiting_rule s (Withdraw identity)) (form_needs s ++ departure_needs (entries s.waiting) identity)
   unfolding waiting_rule withdraw_rule
   to_withdraw identity = start _
 

@@ -22,7 +22,8 @@ use Rattle.waiting.specs.inner.Parts.{listed_needs, Fitting, movement_fits}
 use Rattle.waiting.proofs.Known.{Known, known_holding}
 
 -- Three needs of one number are one.
-three : (a b c : Bool) (n : ℕ) → first_refusal (a else n ∷ b else n ∷ c else n ∷ []) ≡ first_refusal (all_hold (a ∷ b ∷ c ∷ []) else n ∷ [])
+three : (a b c : Bool) (n : ℕ)
+    → first_refusal (a else n ∷ b else n ∷ c else n ∷ []) ≡ first_refusal (all_hold (a ∷ b ∷ c ∷ []) else n ∷ [])
 unfolding all_hold first_refusal
 three false b c n = refl
 three true false c n = refl

@@ -36,7 +36,8 @@ module _ (s : Lent) (f : ℕ) (steps : List ℕ) where
         let all = both_pass plain sized pass (rw t refl) in
         rw (is, ← accepts s.memory (opening s.memory f steps) (sym pass)) (accepts s (open_rule s f steps) (sym all))
 
-    pub refuses_plainly : (o.answer.number ≡ 0 → ⊥) → record { answer = o.answer; state = lent o.state s.waiting } ≡ waiting_step s (Open f steps)
+    pub refuses_plainly : (o.answer.number ≡ 0 → ⊥)
+        → record { answer = o.answer; state = lent o.state s.waiting } ≡ waiting_step s (Open f steps)
     unfolding waiting_step waiting_rule open_rule
     refuses_plainly some =
         let n = first_refusal plain in

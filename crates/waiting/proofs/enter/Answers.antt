@@ -19,7 +19,8 @@ pub returns-in_err-need : goal.returns-in_err-need
 unfolding waiting_step
 returns-in_err-need c =
     let formed = entering _ c.in_ok-replicas.ensures.refusal c.args.e in
-    need_stops _ _ formed.at _ _ (rw (c.is_allowed.ensures, c.in_ok-replicas.ensures.counted) at c.in_err-need.ensures) c.from_residual-in_err-need.ensures
+    need_stops _ _ formed.at _ _ (rw (c.is_allowed.ensures, c.in_ok-replicas.ensures.counted) at c.in_err-need.ensures)
+    c.from_residual-in_err-need.ensures
 
 pub bounds-waiting-0 : goal.bounds-waiting-0
 bounds-waiting-0 c =
@@ -36,14 +37,16 @@ unfolding waiting_step
 returns-in_err-need-2 c =
     let formed = entering _ c.in_ok-replicas.ensures.refusal c.args.e in
     let allowed = need_on _ _ formed.at (rw (c.is_allowed.ensures, c.in_ok-replicas.ensures.counted) at c.in_ok-need.ensures) in
-    need_stops _ _ allowed _ _ (rw (none_waits c.args.waiting.now _ _ _ c.find-same.ensures c.is_none.ensures) at c.in_err-need-2.ensures) c.from_residual-in_err-need-2.ensures
+    let none = none_waits c.args.waiting.now _ _ _ c.find-same.ensures c.is_none.ensures in
+    need_stops _ _ allowed _ _ (rw none at c.in_err-need-2.ensures) c.from_residual-in_err-need-2.ensures
 
 pub returns-in_err-need-3 : goal.returns-in_err-need-3
 unfolding waiting_step
 returns-in_err-need-3 c =
     let formed = entering _ c.in_ok-replicas.ensures.refusal c.args.e in
     let allowed = need_on _ _ formed.at (rw (c.is_allowed.ensures, c.in_ok-replicas.ensures.counted) at c.in_ok-need.ensures) in
-    let fresh = need_on _ _ allowed (rw (none_waits c.args.waiting.now _ _ _ c.find-same.ensures c.is_none.ensures) at c.in_ok-need-2.ensures) in
+    let none = none_waits c.args.waiting.now _ _ _ c.find-same.ensures c.is_none.ensures in
+    let fresh = need_on _ _ allowed (rw none at c.in_ok-need-2.ensures) in
     need_stops _ _ fresh _ _ (rw (slice_count c.args.waiting.now) at c.in_err-need-3.ensures) c.from_residual-in_err-need-3.ensures
 
 pub append-requires : goal.append-requires
@@ -65,6 +68,7 @@ unfolding waiting_step waiting_rule enter_rule
 returns c =
     let formed = entering _ c.in_ok-replicas.ensures.refusal c.args.e in
     let allowed = need_on _ _ formed.at (rw (c.is_allowed.ensures, c.in_ok-replicas.ensures.counted) at c.in_ok-need.ensures) in
-    let fresh = need_on _ _ allowed (rw (none_waits c.args.waiting.now _ _ _ c.find-same.ensures c.is_none.ensures) at c.in_ok-need-2.ensures) in
+    let none = none_waits c.args.waiting.now _ _ _ c.find-same.ensures c.is_none.ensures in
+    let fresh = need_on _ _ allowed (rw none at c.in_ok-need-2.ensures) in
     let room = need_on _ _ fresh (rw (slice_count c.args.waiting.now) at c.in_ok-need-3.ensures) in
     accepts _ room c.accepted.ensures (rw (c.refresh.ensures, c.append.ensures) refl)

@@ -40,7 +40,9 @@ unfolding waiting_step
 returns-in_err-need c =
     let slot = c.in_ok-slot.ensures in
     let named = comparing _ _ _ _ _ _ slot.found c.in_ok-test_movements.ensures slot.refusal in
-    ap (with _) (need_stops _ [] named _ _ (rw (c.fits-fitting.ensures, c.movement_in-x.ensures) at c.in_err-need.ensures) c.from_residual-in_err-need.ensures)
+    ap (with _)
+    (need_stops _ [] named _ _ (rw (c.fits-fitting.ensures, c.movement_in-x.ensures) at c.in_err-need.ensures)
+    c.from_residual-in_err-need.ensures)
 
 pub leave-requires : goal.leave-requires
 leave-requires c = leavable _ (listed _ _ _ _ c.in_ok-test_movements.ensures).ready _ c.in_ok-slot.ensures.found.within

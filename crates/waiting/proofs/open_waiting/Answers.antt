@@ -17,13 +17,15 @@ pub returns-in_err-need-2 : goal.returns-in_err-need-2
 unfolding waiting_step
 returns-in_err-need-2 c =
     let bound = need_on _ _ (to_open _ _ _) (rw c.is_fault_bound.ensures at c.in_ok-need.ensures) in
-    need_stops _ _ bound _ _ (rw c.steps_allowed.ensures at c.in_err-need-2.ensures) c.from_residual-in_err-need-2.ensures
+    need_stops _ _ bound {s = lent (memory c.args.table.now c.args.log.now c.args.blocks.now) c.args.waiting.now} _ _
+    (rw c.steps_allowed.ensures at c.in_err-need-2.ensures) c.from_residual-in_err-need-2.ensures
 
 pub returns-then-waiting-ne-WAITING_WORDS : goal.returns-then-waiting-ne-WAITING_WORDS
 returns-then-waiting-ne-WAITING_WORDS c =
     let bound = need_on _ _ (to_open _ _ _) (rw c.is_fault_bound.ensures at c.in_ok-need.ensures) in
     let allowed = need_on _ _ bound (rw c.steps_allowed.ensures at c.in_ok-need-2.ensures) in
-    refuses_length _ _ _ c.if-waiting-ne-WAITING_WORDS.true allowed
+    refuses_length (lent (memory c.args.table.now c.args.log.now c.args.blocks.now) c.args.waiting.now) _ _
+    c.if-waiting-ne-WAITING_WORDS.true allowed
 
 pub returns-in_err-values : goal.returns-in_err-values
 returns-in_err-values c =

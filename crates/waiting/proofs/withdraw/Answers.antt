@@ -32,6 +32,7 @@ pub returns : goal.returns
 unfolding waiting_step waiting_rule withdraw_rule
 returns c =
     let a = c.args in
-    let formed = withdrawing (lent (memory a.table.now a.log.now a.blocks.now) a.waiting.now) c.in_ok-test_form.ensures.refusal a.identity in
+    let s = lent (memory a.table.now a.log.now a.blocks.now) a.waiting.now in
+    let formed = withdrawing s c.in_ok-test_form.ensures.refusal a.identity in
     let found = on _ [] refl formed.at c.in_ok-slot.ensures.refusal in
     accepts _ found c.accepted.ensures (rw (c.leave.ensures, left_departed _ _ _ c.in_ok-slot.ensures.found) refl)

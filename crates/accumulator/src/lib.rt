@@ -24,9 +24,9 @@ pub fn accumulate(
 {
     let r = checks::find_replica(table, log, blocks, replica)?;
     checks::test_list(table, list)?;
+    need(r.is(Status::Live), Refusal::WrongStatus)?;
     let view = certificate_word(log, list[0], VIEW_AT);
     let agreed = quorum::is_new_view_quorum(log, list, view);
-    need(r.is(Status::Live), Refusal::WrongStatus)?;
     need(agreed, Refusal::WrongCertificate)?;
     let best = quorum::greatest(log, list);
     let c = certificate_in(log, list[best]);
@@ -55,10 +55,9 @@ pub fn decide(
     let c = certificate_in(log, list[0]);
     let matching = quorum::is_commit_quorum(log, list, c.view, c.block);
     need(matching, Refusal::WrongCertificate)?;
-    if c.view <= r.decided_view {
-        return accepted(c.block, c.view);
+    if r.decided_view < c.view {
+        let words = [(DECIDED_VIEW_AT, c.view), (DECIDED_BLOCK_AT, c.block)];
+        records::set_words(table, replica, &words);
     }
-    let words = [(DECIDED_VIEW_AT, c.view), (DECIDED_BLOCK_AT, c.block)];
-    records::set_words(table, replica, &words);
     accepted(c.block, c.view)
 }

@@ -93,9 +93,9 @@ fn test_store(f: u32, r: Replica, p: Certificate) -> Result<(), Refusal>
     requires { f ≤ max_fault_bound }
     ensures { number_in result ≡ first_refusal (store_needs f (replica_of r) (certificate_of p)) }
 {
-    let leads = leader::leads(f, p.view, p.signer);
     need(r.is(Status::Live), Refusal::WrongStatus)?;
     need(p.is(Kind::Prop), Refusal::WrongCertificate)?;
+    let leads = leader::leads(f, p.view, p.signer);
     need(leads, Refusal::WrongCertificate)?;
     need(r.min_view <= p.view, Refusal::WrongView)?;
     need(p.view < r.view_limit, Refusal::CounterLimit)

@@ -103,12 +103,12 @@ pub fn recover(
 {
     let r = checks::find_replica(table, log, blocks, replica)?;
     checks::test_list(table, list)?;
+    need(r.is(Status::Recovering), Refusal::WrongStatus)?;
+    let replied = quorum::is_reply_quorum(log, list, replica, r.boot, r.min_view);
+    need(replied, Refusal::WrongCertificate)?;
     let best = quorum::greatest(log, list);
     let c = certificate_log::certificate_in(log, list[best]);
     let min_view = r.min_view.max(c.of_view + 1);
-    let replied = quorum::is_reply_quorum(log, list, replica, r.boot, r.min_view);
-    need(r.is(Status::Recovering), Refusal::WrongStatus)?;
-    need(replied, Refusal::WrongCertificate)?;
     need(min_view <= r.view_limit, Refusal::CounterLimit)?;
     let words = [
         (STATUS_AT, Status::Live.word()),

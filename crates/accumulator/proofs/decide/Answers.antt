@@ -9,6 +9,7 @@ use Rattle.checks.proofs.Ready.{row_within}
 use Rattle.checks.proofs.Passing.{start, accepts, stops, need_stops, need_on}
 use Rattle.accumulator.proofs.Found.{deciding, deciding_list}
 use Rattle.accumulator.proofs.decide.Goals as goal
+use Rattle.accumulator.proofs.decide.Goals.{then-r-c, else-r-c}
 
 pub returns-in_err-r : goal.returns-in_err-r
 unfolding decide_rule
@@ -46,15 +47,6 @@ returns-in_err-need c =
     need_stops _ _ listed.at _ _ (rw (c.is_commit_quorum-matching.ensures, first) at c.in_err-need.ensures)
     c.from_residual-in_err-need.ensures
 
-pub returns-then-c-r : goal.returns-then-c-r
-unfolding decide_rule update
-returns-then-c-r c =
-    let listed = deciding_list _ _ _ c.in_ok-r.ensures.refusal c.in_ok-r.ensures.found c.in_ok-test_list.ensures in
-    let first = c.certificate_in-c.ensures ∙ ap certificate_from listed.first in
-    let decided = need_on _ _ listed.at (rw (c.is_commit_quorum-matching.ensures, first) at c.in_ok-need.ensures) in
-    let shown = le-ltb _ _ (rw (first, listed.read) at c.if-c-r.true) in
-    accepts _ decided (rw first at c.accepted.ensures) (rw shown)
-
 pub set_words-requires-clause-replica_words_in_bounds : goal.set_words-requires-clause-replica_words_in_bounds
 set_words-requires-clause-replica_words_in_bounds c =
     let listed = deciding_list _ _ _ c.in_ok-r.ensures.refusal c.in_ok-r.ensures.found c.in_ok-test_list.ensures in
@@ -66,5 +58,8 @@ returns c =
     let listed = deciding_list _ _ _ c.in_ok-r.ensures.refusal c.in_ok-r.ensures.found c.in_ok-test_list.ensures in
     let first = c.certificate_in-c.ensures ∙ ap certificate_from listed.first in
     let decided = need_on _ _ listed.at (rw (c.is_commit_quorum-matching.ensures, first) at c.in_ok-need.ensures) in
-    let above = lt-ltb _ _ (rw (first, listed.read) at c.if-c-r.false) in
-    accepts _ decided (rw first at c.accepted-2.ensures) (rw (above, c.set_words.ensures, first))
+    accepts _ decided (rw first at c.accepted.ensures)
+    (elim c.if-r-c.branch [
+      | then-r-c w ↦ let above = lt-ltb _ _ (rw (first, listed.read) at w.if-r-c.true) in rw (above, w.table-is, w.set_words.ensures, first)
+      | else-r-c w ↦ let shown = le-ltb _ _ (rw (first, listed.read) at w.if-r-c.false) in rw (shown, w.table-is)
+    ])

@@ -2,3 +2,4 @@
 pub mod Fitting
 pub mod Walks
 pub mod Marking
+pub mod Nearing

@@ -67,15 +67,15 @@ pub handed_up : {A : Type 0} (a : Result A Refusal) (e : Refusal) → IsErr a ×
 handed_up (Ok x) e h = absurd h.1
 handed_up (Err r) e h = rw h.1 refl
 
--- The same of a call of the ledger, by what its code answers.
-module _ {rule : Rule} where
-  pub accepts : (m : Memory) {m' : Memory} {a : Result Values Refusal} → At rule []
-      → a ≡ Ok (record { first = rule.first; second = rule.second }) → m' ≡ rule.after → record { answer = told a; state = m' } ≡ follow m rule
-  accepts m at e after = rw (e, after) (passes_all m at)
+-- The same of a call whose values are words, by what its code answers.
+module _ {State : Type 0} {rule : RuleOf {Value = ℕ} 0 State} where
+  pub accepts : (s : State) {s' : State} {a : Result Values Refusal} → At rule []
+      → a ≡ Ok (record { first = rule.first; second = rule.second }) → s' ≡ rule.after → record { answer = told a; state = s' } ≡ follow s rule
+  accepts s at e after = rw (e, after) (passes_all s at)
 
-  pub stops : {m : Memory} (a : Result Values Refusal) (e : Refusal) (ns rest : List Need) → At rule (ns ++ rest)
-      → number_of e ≡ first_refusal ns → IsErr a × IsErrAnd a (λ r. r ≡ e) → record { answer = told a; state = m } ≡ follow m rule
-  stops {m} a e ns rest at is up = rw (handed_up a e up) (stops_at m e ns rest at is)
+  pub stops : {s : State} (a : Result Values Refusal) (e : Refusal) (ns rest : List Need) → At rule (ns ++ rest)
+      → number_of e ≡ first_refusal ns → IsErr a × IsErrAnd a (λ r. r ≡ e) → record { answer = told a; state = s } ≡ follow s rule
+  stops {s} a e ns rest at is up = rw (handed_up a e up) (stops_at s e ns rest at is)
 
 -- ---- by one need
 
@@ -96,11 +96,12 @@ module _ {Value State : Type 0} {none : Value} {rule : RuleOf none State} {t : B
   unfolding first_refusal
   need_on is = let q = needed t r is in record { same = at.same ∙ rw q refl }
 
-module _ {rule : Rule} {t : Bool} (r : Refusal) (rest : List Need) (at : At rule (t else number_of r ∷ rest)) where
-  pub need_stops : {m : Memory} (a : Result Values Refusal) (e : Refusal)
+module _ {State : Type 0} {rule : RuleOf {Value = ℕ} 0 State} {t : Bool} (r : Refusal) (rest : List Need)
+    (at : At rule (t else number_of r ∷ rest)) where
+  pub need_stops : {s : State} (a : Result Values Refusal) (e : Refusal)
       → ◌≡◌ {A = Result (Unit {0}) Refusal} (Err e) (cond t (Ok tt) (Err r)) → IsErr a × IsErrAnd a (λ d. d ≡ e)
-      → record { answer = told a; state = m } ≡ follow m rule
-  need_stops {m} a e is up = rw (handed_up a e up) (need_stops_at r rest at m e is)
+      → record { answer = told a; state = s } ≡ follow s rule
+  need_stops {s} a e is up = rw (handed_up a e up) (need_stops_at r rest at s e is)
 
 -- ---- what is found: a replica
 

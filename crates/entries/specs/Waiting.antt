@@ -1,13 +1,14 @@
 -- The rules of the calls on entries that wait (document 02, "#108 Movements that wait"): "Dispatchers enter movements before any block has
 -- them, and strike them out." "After 1 to 3 comes 11, then 13, then 14; last, a named movement that doesn't fit the entry, lies outside the
 -- line or was used before returns 5": so are the needs of each in order; opening has its own, 2, 12, 1.
-use Rattle.std.specs.Prelude.{ℕ, Bool, not, List, [], ◌∷◌, ◌++◌, length, set, replicate, ltb, eqb}
-use Rattle.protocol.specs.declared.Answer as Code
+use Rattle.std.specs.Prelude.{ℕ, Bool, not, List, [], ◌∷◌, ◌++◌, length, set, replicate, ltb, eqb, Result}
+use Rattle.protocol.specs.declared.Values.{Values}
+use Rattle.protocol.specs.declared.Refusal.{Refusal}
 use Rattle.protocol.specs.Memory.{Memory, memory, replica_count, fault_bound, block_count, replica, parent}
 use Rattle.protocol.specs.Ancestry.{is_ancestor_by}
 use Rattle.protocol.specs.Form.{all_hold, all_below, well_formed}
-use Rattle.protocol.specs.Outcome.{Need, ◌else◌, OutcomeOf, RuleOf, follow, told, wrong_form, out_of_range, unknown_number, wrong_certificate}
-use Rattle.protocol.specs.Outcome.{wrong_movement, wrong_identity, waiting_full}
+use Rattle.protocol.specs.Outcome.{Need, ◌else◌, OutcomeOf, RuleOf, Answer, follow, told, wrong_form, out_of_range, unknown_number}
+use Rattle.protocol.specs.Outcome.{wrong_certificate, wrong_movement, wrong_identity, waiting_full}
 use Rattle.protocol.specs.FirstNeeds.{is_replica}
 use Rattle.protocol.specs.Calls.{opening}
 use Rattle.movements.specs.declared.Movement.{Movement}
@@ -174,9 +175,12 @@ waiting_rule s (Ask taker) = ask_rule s taker
 unfoldable pub waiting_step : Lent → WaitingCall → WaitingOutcome
 waiting_step s call = follow s (waiting_rule s call)
 
--- The code's answer, with what the four slices hold then.
-abbrev pub waiting_outcome : Code.Answer → List ℕ → List ℕ → List ℕ → List ℕ → WaitingOutcome
-waiting_outcome a t l b w = record { answer = told a; state = lent (memory t l b) w }
+-- An answer, with what the four slices hold then; and the code's.
+abbrev pub waiting_left : Answer → List ℕ → List ℕ → List ℕ → List ℕ → WaitingOutcome
+waiting_left a t l b w = record { answer = a; state = lent (memory t l b) w }
+
+abbrev pub waiting_outcome : Result Values Refusal → List ℕ → List ℕ → List ℕ → List ℕ → WaitingOutcome
+waiting_outcome a t l b w = waiting_left (told a) t l b w
 
 -- A match is lent the movements too, and leaves them as they are.
 pub record MatchOutcome : Type 0 where

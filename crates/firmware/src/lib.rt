@@ -3,10 +3,10 @@
 
 ghost use Rattle.std.specs.Prelude.{◌≡◌};
 ghost use Rattle.protocol.specs.Memory.{memory};
-ghost use Rattle.protocol.specs.Outcome.{outcome};
+ghost use Rattle.protocol.specs.Outcome.{left};
 ghost use Rattle.ledger.specs.Called.{called};
 ghost use Rattle.panel.specs.Panel.{panel_answer};
-ghost use Rattle.netting.specs.Netting.{netting_outcome, netting};
+ghost use Rattle.netting.specs.Netting.{netting_left, netting};
 ghost use Rattle.entries.specs.Waiting.{
   lent,
   Open,
@@ -14,7 +14,7 @@ ghost use Rattle.entries.specs.Waiting.{
   Withdraw,
   Ask,
   waiting_step,
-  waiting_outcome,
+  waiting_left,
   matching,
 };
 ghost use Rattle.field.specs.Field.{read_field, written, write_field};
@@ -22,6 +22,7 @@ ghost use Rattle.firmware.specs.Version.{version};
 
 use entries::Entry;
 use field::Unwritable;
+use protocol::{number_of, values_of};
 
 const VERSION: u32 = 2;
 
@@ -54,14 +55,15 @@ pub extern "C" fn yard_call(
     first: &mut u32,
     second: &mut u32,
 ) -> u32
-    ensures { outcome (record { number = result; first = first.new; second = second.new }) table.new
+    ensures { left (record { number = result; first = first.new; second = second.new }) table.new
         log.new blocks.new
         ≡ called (memory table.old log.old blocks.old) code replica number list.now }
 {
     let answer = ledger::call_by_code(table, log, blocks, code, replica, number, list);
-    *first = answer.first;
-    *second = answer.second;
-    answer.number
+    let values = values_of(answer);
+    *first = values.first;
+    *second = values.second;
+    number_of(answer)
 }
 
 // The height of a replica's decided block.
@@ -77,8 +79,8 @@ pub extern "C" fn yard_panel(
         ≡ panel_answer (memory table.now log.now blocks.now) replica }
 {
     let answer = panel::panel(table, log, blocks, replica);
-    *height = answer.first;
-    answer.number
+    *height = values_of(answer).first;
+    number_of(answer)
 }
 
 // The balance of a replica's firm at a block, over the movements lent; always written.
@@ -92,14 +94,13 @@ pub extern "C" fn yard_balance(
     replica: u32,
     balance: &mut i32,
 ) -> u32
-    ensures { netting_outcome (record { number = result; balance = balance.new; second = 0 }) table.now
+    ensures { netting_left (record { number = result; first = balance.new; second = 0 }) table.now
         log.now blocks.now movements.now
         ≡ netting (memory table.now log.now blocks.now) movements.now block replica }
 {
-    let answer = netting::net(table, log, blocks, movements, block, replica);
-    let net = answer.balance;
-    *balance = net;
-    answer.number
+    let net = netting::net(table, log, blocks, movements, block, replica);
+    *balance = net.unwrap_or(0);
+    number_of(net)
 }
 
 // A ledger with nothing waiting; the number of replicas is always written.
@@ -113,14 +114,14 @@ pub extern "C" fn yard_open_waiting(
     waiting: &mut [u32],
     replicas: &mut u32,
 ) -> u32
-    ensures { waiting_outcome (record { number = result; first = replicas.new; second = 0 }) table.new log.new
+    ensures { waiting_left (record { number = result; first = replicas.new; second = 0 }) table.new log.new
         blocks.new waiting.new
         ≡ waiting_step (lent (memory table.old log.old blocks.old) waiting.old)
         (Open f steps.now) }
 {
     let answer = waiting::open_waiting(table, log, blocks, waiting, f, steps);
-    *replicas = answer.first;
-    answer.number
+    *replicas = values_of(answer).first;
+    number_of(answer)
 }
 
 // A movement that no block has yet begins to wait.
@@ -135,7 +136,7 @@ pub extern "C" fn yard_enter(
     taker: u32,
     pallets: u32,
 ) -> u32
-    ensures { waiting_outcome (record { number = result; first = 0; second = 0 }) table.now log.now
+    ensures { waiting_left (record { number = result; first = 0; second = 0 }) table.now log.now
         blocks.now waiting.new
         ≡ waiting_step (lent (memory table.now log.now blocks.now) waiting.old)
         (Enter (record { identity = identity; giver = giver; taker = taker; pallets = pallets })) }
@@ -146,7 +147,7 @@ pub extern "C" fn yard_enter(
         taker,
         pallets,
     };
-    waiting::enter(table, log, blocks, waiting, entry).number
+    number_of(waiting::enter(table, log, blocks, waiting, entry))
 }
 
 // The entry of an identity is struck out.
@@ -158,12 +159,12 @@ pub extern "C" fn yard_withdraw(
     waiting: &mut [u32],
     identity: u32,
 ) -> u32
-    ensures { waiting_outcome (record { number = result; first = 0; second = 0 }) table.now log.now
+    ensures { waiting_left (record { number = result; first = 0; second = 0 }) table.now log.now
         blocks.now waiting.new
         ≡ waiting_step (lent (memory table.now log.now blocks.now) waiting.old)
         (Withdraw identity) }
 {
-    waiting::withdraw(table, log, blocks, waiting, identity).number
+    number_of(waiting::withdraw(table, log, blocks, waiting, identity))
 }
 
 // The entry of an identity leaves for the movement at a place.
@@ -179,17 +180,16 @@ pub extern "C" fn yard_match(
     place: u32,
 ) -> u32
     ensures { record {
-      outcome = waiting_outcome (record { number = result; first = 0; second = 0 }) table.now log.now
+      outcome = waiting_left (record { number = result; first = 0; second = 0 }) table.now log.now
           blocks.now waiting.new;
       movements = movements.now;
     }
         ≡ matching (lent (memory table.now log.now blocks.now) waiting.old)
         movements.now replica identity place }
 {
-    waiting::match_entry(
+    number_of(waiting::match_entry(
         table, log, blocks, waiting, movements, replica, identity, place,
-    )
-    .number
+    ))
 }
 
 // The pallets waiting for a taker, and the identity of the earliest arrival; both are always written.
@@ -203,14 +203,15 @@ pub extern "C" fn yard_ask(
     pallets: &mut u32,
     earliest: &mut u32,
 ) -> u32
-    ensures { waiting_outcome (record { number = result; first = pallets.new; second = earliest.new })
+    ensures { waiting_left (record { number = result; first = pallets.new; second = earliest.new })
         table.now log.now blocks.now waiting.now
         ≡ waiting_step (lent (memory table.now log.now blocks.now) waiting.now) (Ask taker) }
 {
     let answer = waiting::ask(table, log, blocks, waiting, taker);
-    *pallets = answer.first;
-    *earliest = answer.second;
-    answer.number
+    let values = values_of(answer);
+    *pallets = values.first;
+    *earliest = values.second;
+    number_of(answer)
 }
 
 // The number of eight columns, or 4,294,967,295 for bytes that are no such field.

@@ -1,10 +1,11 @@
 -- A firm's balance of pallets at a chosen block (document 02, "#101 Netting of movements"): the rule of a netting.
-use Rattle.std.specs.Prelude.{Result, Ok, Err}
+use Rattle.std.specs.Prelude.{Result}
+use Rattle.std.specs.Result.{result_unwrap_or}
 use Rattle.std.specs.Prelude.{ℕ, zero, suc, ◌+◌, Bool, cond, ◌&&◌, List, [], ◌∷◌, eqb, ℤ, pos, ◌-ℤ◌}
 use Rattle.protocol.specs.Memory.{Memory, memory, replica_count, fault_bound, block_count, parent}
 use Rattle.protocol.specs.Ancestry.{is_ancestor_by}
 use Rattle.protocol.specs.Form.{all_below, well_formed}
-use Rattle.protocol.specs.Outcome.{number_of, ◌else◌, AnswerOf, OutcomeOf, RuleOf, follow, wrong_form, out_of_range, unknown_number, wrong_movement}
+use Rattle.protocol.specs.Outcome.{number_in, ◌else◌, AnswerOf, OutcomeOf, RuleOf, follow, wrong_form, out_of_range, unknown_number, wrong_movement}
 use Rattle.protocol.specs.FirstNeeds.{is_replica, is_block}
 use Rattle.movements.specs.declared.Movement.{Movement}
 use Rattle.movements.specs.Movements.{movement, movement_count, movement_allowed, is_movement_list}
@@ -71,8 +72,7 @@ netting m movements chosen i = follow (lent m movements) (netting_rule m movemen
 
 -- The code's answer, as rules have it; and an answer with what the four slices hold then.
 abbrev pub balance_told : Result ℤ Refusal → AnswerOf ℤ
-balance_told (Ok balance) = record { number = 0; first = balance; second = 0 }
-balance_told (Err r) = record { number = number_of r; first = pos 0; second = 0 }
+balance_told r = record { number = number_in r; first = result_unwrap_or r (pos 0); second = 0 }
 
 abbrev pub netting_left : AnswerOf ℤ → List ℕ → List ℕ → List ℕ → List ℕ → OutcomeOf ℤ Lent
 netting_left a t l b movements = record { answer = a; state = lent (memory t l b) movements }

@@ -14,6 +14,15 @@ pub struct Reader<'a> {
     pub column: usize,
 }
 
+impl Reader<'_> {
+    // The number of the field at the column reached; none where no field starts there.
+    pub fn here(&self) -> Option<u32>
+        ensures { result ≡ found (number_from self.now.line.now self.now.column) }
+    {
+        field::read_at(self.line, self.column)
+    }
+}
+
 // The numbers of a line, field after field from the column reached. Where no field starts there, it gives none, and stays as it was.
 impl<'a> Iterator for Reader<'a> {
     type Item = u32;
@@ -24,7 +33,7 @@ impl<'a> Iterator for Reader<'a> {
     ghost remaining = { λ reader. at_most (length reader.line.now - reader.column) };
 
     fn next(&mut self) -> Option<u32> {
-        let number = field::read_at(self.line, self.column)?;
+        let number = self.here()?;
         self.column += COLUMNS;
         Some(number)
     }

@@ -1,45 +1,42 @@
 -- What is known once the form of the four slices is tested.
 use Prim.Native.Nat.{ℕ, ◌≤◌, ◌<◌}
-use mathlib.Core.Path.{◌≡◌}
+use mathlib.Core.Path.{◌≡◌, refl, sym}
 use mathlib.Core.Bool.{true}
 use native.Mathlib.Omega.{arith}
 use lib.ListN.{length}
 use Rattle.protocol.specs.Memory.{replica_count, fault_bound}
-use Rattle.protocol.specs.Form.{well_formed}
-use Rattle.protocol.proofs.logic.Booleans.{and-true}
+use Rattle.protocol.specs.Outcome.{first_refusal}
+use Rattle.protocol.proofs.calls.Needs.{Holds, all_needs}
 use Rattle.protocol.proofs.memory.Formed as Memory
 use Rattle.protocol.proofs.memory.Formed.{Sizes, sizes}
 use Rattle.movements.specs.Movements.{max_pallets}
-use Rattle.entries.specs.Entries.{max_waiting, max_replicas, waiting_words, waiting_count, entry, entry_allowed, waiting_formed}
-use Rattle.entries.specs.Waiting.{Lent}
+use Rattle.entries.specs.Entries.{max_waiting, max_replicas, waiting_words, waiting_count, entry, entry_allowed}
+use Rattle.entries.specs.Waiting.{Lent, form_needs}
 use Rattle.entries.proofs.Lists.{from_all}
 use Rattle.entries.proofs.Slices as Slices
 use Rattle.entries.proofs.Slices.{is-allowed}
-use Rattle.waiting.specs.inner.Parts.{is_ready}
 
 pub record Known (s : Lent) : Type 0 where
-  pub memory : well_formed s.memory ≡ true
-  pub waiting : waiting_formed (replica_count (fault_bound s.memory)) s.waiting ≡ true
   pub formed : Memory.Formed s.memory
   pub sizes : Sizes s.memory
   pub size : length s.waiting ≡ waiting_words
   pub few : waiting_count s.waiting ≤ max_waiting
   pub each : (k : ℕ) → k < waiting_count s.waiting → entry_allowed (replica_count (fault_bound s.memory)) (entry s.waiting k) ≡ true
 
-pub known : (s : Lent) → is_ready s ≡ true → Known s
-known s e =
-    let both = and-true (well_formed s.memory) _ e in
+pub known_holding : (s : Lent) → Holds (form_needs s) → Known s
+known_holding s both =
     let f = Memory.formed s.memory both.0 in
-    let w = Slices.formed _ s.waiting both.1 in
+    let w = Slices.formed _ s.waiting both.1.0 in
     record {
-      memory = both.0;
-      waiting = both.1;
       formed = f;
       sizes = sizes s.memory f;
       size = w.size;
       few = w.few;
       each = λ k l. from_all (λ x. entry_allowed _ x ≡ true) s.waiting 0 (waiting_count s.waiting) w.each k (omega arith) (omega arith);
     }
+
+pub known : (s : Lent) → 0 ≡ first_refusal (form_needs s) → Known s
+known s passed = known_holding s (all_needs (form_needs s) refl (sym passed))
 
 module _ (s : Lent) (h : Known s) where
   pub replicas_few : replica_count (fault_bound s.memory) ≤ max_replicas

@@ -8,7 +8,8 @@ use lib.ListN.{length}
 use Rattle.protocol.specs.Memory.{replica_count, fault_bound}
 use Rattle.movements.specs.Movements.{max_pallets}
 use Rattle.entries.specs.declared.Entry.{Entry}
-use Rattle.entries.specs.Entries.{max_waiting, max_replicas, waiting_words, waiting_count, entry, entries_from, entries, entry_allowed, holding}
+use Rattle.entries.specs.Entries.{max_waiting, max_replicas, waiting_words, waiting_count, entry, entries_from, entries, entry_allowed}
+use Rattle.entries.specs.Entries.{holding}
 use Rattle.entries.specs.Waiting.{Lent, departed}
 use Rattle.entries.proofs.Words.{entries_held, holding_length, holding_count, refreshed_length}
 use Rattle.entries.proofs.Lists.{All, all_joined, all_from, from_all}

@@ -7,10 +7,12 @@ use lib.Dec.{eqb}
 use lib.ListN.{length, replicate}
 use Rattle.protocol.specs.Form.{is_fault_bound, lengths_fit}
 use Rattle.protocol.specs.Counter.{steps_allowed}
-use Rattle.protocol.specs.Outcome.{Outcome, Need, ◌else◌, first_refusal, follow, wrong_form, out_of_range, wrong_steps}
+use Rattle.protocol.specs.declared.Refusal.TheVariants as Code
+use Rattle.protocol.specs.Outcome.{Outcome, Need, ◌else◌, first_refusal, refusal, follow, wrong_form, out_of_range, wrong_steps}
 use Rattle.protocol.specs.Calls.{opening}
-use Rattle.protocol.proofs.logic.Booleans.{tests, by-test}
-use Rattle.protocol.proofs.calls.Needs.{returned, accepts, refuses, both_pass, refused_first}
+use Rattle.protocol.proofs.logic.Booleans.{tests}
+use Rattle.protocol.proofs.calls.Needs.{returned, accepts, refuses, both_pass, refused_first, either_fails}
+use Rattle.checks.proofs.Passing.{At, start, stops_at}
 use Rattle.entries.specs.Entries.{waiting_words}
 use Rattle.entries.specs.Waiting.{Lent, lent, Open, open_rule, waiting_rule, waiting_step}
 
@@ -34,7 +36,8 @@ module _ (s : Lent) (f : ℕ) (steps : List ℕ) where
         let all = both_pass plain sized pass (rw t refl) in
         rw (is, ← accepts s.memory (opening s.memory f steps) (sym pass)) (accepts s (open_rule s f steps) (sym all))
 
-    pub refuses_plainly : (o.answer.number ≡ 0 → ⊥) → record { answer = o.answer; state = lent o.state s.waiting } ≡ waiting_step s (Open f steps)
+    pub refuses_plainly : (o.answer.number ≡ 0 → ⊥)
+        → record { answer = o.answer; state = lent o.state s.waiting } ≡ waiting_step s (Open f steps)
     unfolding waiting_step waiting_rule open_rule
     refuses_plainly some =
         let n = first_refusal plain in
@@ -42,18 +45,20 @@ module _ (s : Lent) (f : ℕ) (steps : List ℕ) where
         let first = refused_first plain sized stuck in
         rw (is, ← refuses s.memory (opening s.memory f steps) n refl stuck) (refuses s (open_rule s f steps) n (sym first) stuck)
 
-  -- The slice has another length: f, then the steps, then 1 whether or not the other lengths fit.
-  module _ (other : length s.waiting ≡ waiting_words → ⊥) where
-    pub open_range : is_fault_bound f ≡ false → first_refusal (waiting_rule s (Open f steps)).needs ≡ out_of_range
-    unfolding waiting_rule open_rule opening first_refusal
-    open_range t = rw t refl
+  -- f, then the steps; then 1 where the slice has another length, whether or not the others fit.
+  pub to_open : At (waiting_rule s (Open f steps))
+      (is_fault_bound f else out_of_range
+      ∷ steps_allowed steps else wrong_steps
+      ∷ lengths_fit s.memory f else wrong_form
+      ∷ sized)
+  unfolding waiting_rule open_rule opening
+  to_open = start _
 
-    pub open-steps : is_fault_bound f ≡ true → steps_allowed steps ≡ false → first_refusal (waiting_rule s (Open f steps)).needs ≡ wrong_steps
-    unfolding waiting_rule open_rule opening first_refusal
-    open-steps t u = rw (t, u) refl
-
-    pub open_form : is_fault_bound f ≡ true → steps_allowed steps ≡ true → first_refusal (waiting_rule s (Open f steps)).needs ≡ wrong_form
-    unfolding waiting_rule open_rule opening first_refusal
-    open_form t u =
-        let v : eqb (length s.waiting) waiting_words ≡ false = omega tests in
-        by-test (lengths_fit s.memory f) (λ w. rw (t, u, w, v) refl) (λ w. rw (t, u, w) refl)
+  pub refuses_length : (length s.waiting ≡ waiting_words → ⊥)
+      → At (waiting_rule s (Open f steps)) (lengths_fit s.memory f else wrong_form ∷ sized)
+      → refusal wrong_form s ≡ waiting_step s (Open f steps)
+  unfolding waiting_step first_refusal
+  refuses_length other at =
+      let v : eqb (length s.waiting) waiting_words ≡ false = omega tests in
+      stops_at s Code.WrongForm (lengths_fit s.memory f else wrong_form ∷ sized) [] at
+      (sym (either_fails (lengths_fit s.memory f) wrong_form sized (rw v refl)))

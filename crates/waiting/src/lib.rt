@@ -1,11 +1,14 @@
 // Movements that wait (document 02, #108): dispatchers enter movements before any block has them, and strike them out.
 #![tactic(auto)]
 
-ghost use Rattle.std.specs.Prelude.{◌≡◌};
-ghost use Rattle.protocol.specs.Memory.{memory};
-ghost use Rattle.checks.specs.inner.Verdicts.{tested};
+ghost use Rattle.std.specs.Prelude.{◌≡◌, ◌≤◌, length, IfOk};
+ghost use Rattle.protocol.specs.Memory.{memory, replica_count, fault_bound};
+ghost use Rattle.protocol.specs.Outcome.{number_in, first_refusal};
+ghost use Rattle.entries.specs.Entries.{waiting_words, max_waiting, waiting_count, entries};
 ghost use Rattle.entries.specs.Waiting.{
   lent,
+  form_needs,
+  departure_needs,
   Open,
   Enter,
   Withdraw,
@@ -14,29 +17,29 @@ ghost use Rattle.entries.specs.Waiting.{
   waiting_outcome,
   matching,
 };
-ghost use Rattle.waiting.specs.inner.Parts.{is_ready as is_ready_rule, listed_needs, Leavable, left_by, Fitting, movement_fits};
+ghost use Rattle.arrivals.specs.inner.Found.{FirstWith};
+ghost use Rattle.waiting.specs.inner.Parts.{listed_needs, Leavable, left_by, Fitting, movement_fits};
 
-use checks::{Tested, accepted, refused};
+use checks::{accepted, need};
 use entries::{Entry, MAX_WAITING, WAITING_COUNT_AT, WAITING_WORDS};
 use movements::{MOVEMENT_WORDS, Movement};
-use protocol::{
-    ACCEPTED, Answer, OUT_OF_RANGE, UNKNOWN_NUMBER, WAITING_FULL, WRONG_CERTIFICATE, WRONG_FORM,
-    WRONG_IDENTITY, WRONG_MOVEMENT, WRONG_STEPS,
-};
+use protocol::{Answer, Refusal};
 use table::{BLOCK_COUNT_AT, FAULT_BOUND_AT};
 
 // A place's word, once the place has taken an entry out.
 const USED: u32 = 1;
 
-// The form of the ledger's slices, and of the further one.
-fn is_ready(table: &[u32], log: &[u32], blocks: &[u32], waiting: &[u32]) -> bool
-    ensures { result
-        ≡ is_ready_rule (lent (memory table.now log.now blocks.now) waiting.now) }
+// The form of the ledger's slices, and of the further one (1); then how many replicas there are.
+#[tactic(auto, unfolding(protocol::specs::Outcome::first_refusal))]
+fn test_form(table: &[u32], log: &[u32], blocks: &[u32], waiting: &[u32]) -> Result<u32, Refusal>
+    ensures refusal { number_in result
+        ≡ first_refusal (form_needs (lent (memory table.now log.now blocks.now) waiting.now)) }
+    ensures counted { IfOk result (λ n. n ≡ replica_count (fault_bound (memory table.now log.now blocks.now))) }
 {
-    if form::is_well_formed(table, log, blocks) {
-        return arrivals::is_formed(waiting, table::replica_count(table[FAULT_BOUND_AT]));
-    }
-    false
+    need(form::is_well_formed(table, log, blocks), Refusal::WrongForm)?;
+    let replicas = table::replica_count(table[FAULT_BOUND_AT]);
+    need(arrivals::is_formed(waiting, replicas), Refusal::WrongForm)?;
+    Ok(replicas)
 }
 
 // A ledger for f with nothing waiting, whatever the memory held: opening, with the further slice's length tested last.
@@ -52,20 +55,14 @@ pub fn open_waiting(
         ≡ waiting_step (lent (memory table.old log.old blocks.old) waiting.old)
         (Open f steps.now) }
 {
-    if waiting.len() == WAITING_WORDS {
-        let answer = opening::open_ledger(table, log, blocks, f, steps);
-        if answer.number == ACCEPTED {
-            arrivals::clear(waiting);
-        }
-        return answer;
+    if waiting.len() != WAITING_WORDS {
+        need(form::is_fault_bound(f), Refusal::OutOfRange)?;
+        need(counter::steps_allowed(steps), Refusal::WrongSteps)?;
+        return Err(Refusal::WrongForm);
     }
-    if !form::is_fault_bound(f) {
-        return refused(OUT_OF_RANGE);
-    }
-    if !counter::steps_allowed(steps) {
-        return refused(WRONG_STEPS);
-    }
-    refused(WRONG_FORM)
+    let values = opening::open_ledger(table, log, blocks, f, steps)?;
+    arrivals::clear(waiting);
+    Ok(values)
 }
 
 // A movement that no block has yet begins to wait.
@@ -73,25 +70,30 @@ pub fn enter(table: &[u32], log: &[u32], blocks: &[u32], waiting: &mut [u32], e:
     ensures { waiting_outcome result table.now log.now blocks.now waiting.new
         ≡ waiting_step (lent (memory table.now log.now blocks.now) waiting.old) (Enter e) }
 {
-    if !is_ready(table, log, blocks, waiting) {
-        return refused(WRONG_FORM);
-    }
-    if !arrivals::is_allowed(e, table::replica_count(table[FAULT_BOUND_AT])) {
-        return refused(WRONG_MOVEMENT);
-    }
-    let count = waiting[WAITING_COUNT_AT] as usize;
-    if arrivals::find(waiting, e.identity, count).is_some() {
-        return refused(WRONG_IDENTITY);
-    }
-    if (MAX_WAITING as usize) <= count {
-        return refused(WAITING_FULL);
-    }
+    let replicas = test_form(table, log, blocks, waiting)?;
+    need(arrivals::is_allowed(e, replicas), Refusal::WrongMovement)?;
+    let count = waiting[WAITING_COUNT_AT];
+    let same = arrivals::find(waiting, e.identity, count as usize);
+    need(same.is_none(), Refusal::WrongIdentity)?;
+    need(count < MAX_WAITING, Refusal::WaitingFull)?;
     arrivals::append(waiting, e);
     arrivals::refresh(waiting, e.taker);
     accepted(0, 0)
 }
 
+// The slot of the entry of an identity (13).
+#[tactic(auto, unfolding(protocol::specs::Outcome::first_refusal), using(arrivals::proofs::Finding::waits))]
+fn find_slot(waiting: &[u32], identity: u32) -> Result<usize, Refusal>
+    requires { (length waiting.now ≡ waiting_words) × (waiting_count waiting.now ≤ max_waiting) }
+    ensures refusal { number_in result ≡ first_refusal (departure_needs (entries waiting.now) identity) }
+    ensures found { IfOk result (λ slot. FirstWith waiting.now identity (waiting_count waiting.now) slot) }
+{
+    let count = waiting[WAITING_COUNT_AT] as usize;
+    arrivals::find(waiting, identity, count).ok_or(Refusal::WrongIdentity)
+}
+
 // The entry of a slot leaves.
+#[tactic(auto, using(crate::proofs::Leaving::left_refreshable))]
 fn leave(waiting: &mut [u32], slot: usize)
     requires { Leavable waiting.old slot }
     ensures { waiting.new ≡ left_by waiting.old slot }
@@ -113,18 +115,14 @@ pub fn withdraw(
         ≡ waiting_step (lent (memory table.now log.now blocks.now) waiting.old)
         (Withdraw identity) }
 {
-    if !is_ready(table, log, blocks, waiting) {
-        return refused(WRONG_FORM);
-    }
-    let count = waiting[WAITING_COUNT_AT] as usize;
-    let Some(slot) = arrivals::find(waiting, identity, count) else {
-        return refused(WRONG_IDENTITY);
-    };
+    test_form(table, log, blocks, waiting)?;
+    let slot = find_slot(waiting, identity)?;
     leave(waiting, slot);
     accepted(0, 0)
 }
 
 // The needs of a match before its identity: forms (1), replica (2), place (3), every movement of the list (11).
+#[tactic(auto, unfolding(protocol::specs::Outcome::first_refusal))]
 fn test_movements(
     table: &[u32],
     log: &[u32],
@@ -133,31 +131,22 @@ fn test_movements(
     movements: &[u32],
     replica: u32,
     place: u32,
-) -> Tested
-    ensures { result
-        ≡ tested (listed_needs (lent (memory table.now log.now blocks.now) waiting.now)
+) -> Result<(), Refusal>
+    ensures { number_in result
+        ≡ first_refusal (listed_needs (lent (memory table.now log.now blocks.now) waiting.now)
         movements.now replica place) }
 {
-    if !movements::is_movement_list(movements) {
-        return Tested::Refused(WRONG_FORM);
-    }
-    if !is_ready(table, log, blocks, waiting) {
-        return Tested::Refused(WRONG_FORM);
-    }
-    let replicas = table::replica_count(table[FAULT_BOUND_AT]);
-    if replicas <= replica {
-        return Tested::Refused(OUT_OF_RANGE);
-    }
-    if movements.len() / MOVEMENT_WORDS <= (place as usize) {
-        return Tested::Refused(UNKNOWN_NUMBER);
-    }
-    if !movements::all_allowed(movements, replicas, table[BLOCK_COUNT_AT]) {
-        return Tested::Refused(WRONG_MOVEMENT);
-    }
-    Tested::Passed
+    need(movements::is_movement_list(movements), Refusal::WrongForm)?;
+    let replicas = test_form(table, log, blocks, waiting)?;
+    need(replica < replicas, Refusal::OutOfRange)?;
+    let listed = movements.len() / MOVEMENT_WORDS;
+    need((place as usize) < listed, Refusal::UnknownNumber)?;
+    let allowed = movements::all_allowed(movements, replicas, table[BLOCK_COUNT_AT]);
+    need(allowed, Refusal::WrongMovement)
 }
 
 // Whether a movement is of the entry in a slot, its place unused, and its block in the line of a replica's decided block.
+#[tactic(auto, unfolding(protocol::specs::Form::all_hold))]
 fn fits(
     table: &[u32],
     blocks: &[u32],
@@ -171,12 +160,13 @@ fn fits(
     ensures { result ≡ movement_fits table.now blocks.now waiting.now x replica slot place }
 {
     let e = arrivals::entry_in(waiting, slot);
-    let unused = waiting[arrivals::place_at(place)] == 0;
-    if !((x.transfer() == e.transfer()) & unused) {
-        return false;
-    }
-    let decided = records::replica_in(table, replica).decided_block;
-    ancestry::is_ancestor(blocks, x.block, decided)
+    x.transfer() == e.transfer()
+        && waiting[arrivals::place_at(place)] == 0
+        && ancestry::is_ancestor(
+            blocks,
+            x.block,
+            records::replica_in(table, replica).decided_block,
+        )
 }
 
 // The entry of an identity leaves for the movement at a place of the list, and the place is used.
@@ -197,18 +187,11 @@ pub fn match_entry(
         ≡ matching (lent (memory table.now log.now blocks.now) waiting.old)
         movements.now replica identity place }
 {
-    let tested = test_movements(table, log, blocks, waiting, movements, replica, place);
-    let Tested::Passed = tested else {
-        return refused(tested.refusal());
-    };
-    let count = waiting[WAITING_COUNT_AT] as usize;
-    let Some(slot) = arrivals::find(waiting, identity, count) else {
-        return refused(WRONG_IDENTITY);
-    };
+    test_movements(table, log, blocks, waiting, movements, replica, place)?;
+    let slot = find_slot(waiting, identity)?;
     let x = movements::movement_in(movements, place as usize);
-    if !fits(table, blocks, waiting, x, replica, slot, place) {
-        return refused(WRONG_CERTIFICATE);
-    }
+    let fitting = fits(table, blocks, waiting, x, replica, slot, place);
+    need(fitting, Refusal::WrongCertificate)?;
     leave(waiting, slot);
     waiting[arrivals::place_at(place)] = USED;
     accepted(0, 0)
@@ -219,12 +202,8 @@ pub fn ask(table: &[u32], log: &[u32], blocks: &[u32], waiting: &[u32], taker: u
     ensures { waiting_outcome result table.now log.now blocks.now waiting.now
         ≡ waiting_step (lent (memory table.now log.now blocks.now) waiting.now) (Ask taker) }
 {
-    if !is_ready(table, log, blocks, waiting) {
-        return refused(WRONG_FORM);
-    }
-    if table::replica_count(table[FAULT_BOUND_AT]) <= taker {
-        return refused(OUT_OF_RANGE);
-    }
+    let replicas = test_form(table, log, blocks, waiting)?;
+    need(taker < replicas, Refusal::OutOfRange)?;
     let at = arrivals::taker_at(taker);
     accepted(waiting[at], waiting[at + 1])
 }

@@ -19,3 +19,15 @@ pub record Markable (blocks : List ℕ) (b : ℕ) (marks : List Bool) : Type 0 w
 pub record AncestorsMarked (blocks : List ℕ) (b : ℕ) (before after : List Bool) : Type 0 where
   pub size : length after ≡ length before
   pub marks : (a : ℕ) → get_or after a false ≡ (is_ancestor_by (parent_in blocks) a b || get_or before a false)
+
+-- Some steps up the line of block b, to block top, each block left being marked: what is still to be marked is the line of top.
+pub record Climbed (blocks : List ℕ) (b top : ℕ) (before after : List Bool) : Type 0 where
+  pub markable : Markable blocks top after
+  pub lower : (top ≡ 0 → ⊥) → top < b
+  pub rest : (marks : List Bool) → AncestorsMarked blocks top after marks → AncestorsMarked blocks b before marks
+
+-- Some steps up the line of block b toward block a, to block top: a is in the line of the one exactly if it is in that of the other.
+pub record Neared (blocks : List ℕ) (a b top : ℕ) : Type 0 where
+  pub walk : AncestryFits blocks top
+  pub same : is_ancestor_by (parent_in blocks) a top ≡ is_ancestor_by (parent_in blocks) a b
+  pub lower : a < top → top < b

@@ -15,7 +15,7 @@ returns-in_err-r c =
     let a = c.args in
     let m = memory a.table.now a.log.now a.blocks.now in
     ap (λ (o : Outcome). o.answer)
-    (stops {m = m} _ _ _ _ (start (panel_rule m a.replica)) c.in_err-r.ensures.refusal c.from_residual.ensures)
+    (stops {s = m} _ _ _ _ (start (panel_rule m a.replica)) c.in_err-r.ensures.refusal c.from_residual.ensures)
 
 pub height-requires : goal.height-requires
 height-requires c =
@@ -32,4 +32,4 @@ returns c =
     let b = replica_bounds m found.ready.formed a.replica (omega (tests, found.ready.own)) in
     let kept = height_kept m found.ready.formed _ b.decided_block in
     ap (λ (o : Outcome). o.answer)
-    (accepts m {m' = m} found.at (rw (c.height.ensures, found.read, kept) at c.accepted.ensures) refl)
+    (accepts m {s' = m} found.at (rw (c.height.ensures, found.read, kept) at c.accepted.ensures) refl)

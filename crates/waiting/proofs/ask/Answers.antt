@@ -1,46 +1,38 @@
-use native.Mathlib.Omega.{arith}
-use mathlib.Core.Path.{refl, ◌∙◌}
-use Rattle.protocol.proofs.logic.Joined.{denied, granted}
-use Rattle.entries.specs.Waiting.{Ask, waiting_rule, ask_rule}
-use Rattle.waiting.proofs.Answering.{stops, passes}
-use Rattle.waiting.proofs.Known.{known, replicas_few}
-use Rattle.waiting.proofs.Deciding.{ask_unready, ask_stranger, ask_passes}
+-- Refused; or the two words that are kept of the taker.
+use mathlib.Core.Path.{refl}
+use Rattle.protocol.proofs.logic.Booleans.{tests}
+use Rattle.entries.specs.Waiting.{waiting_rule, ask_rule, waiting_step}
+use Rattle.checks.proofs.Needed.{needed}
+use Rattle.checks.proofs.Passing.{stops, need_stops, need_on, accepts}
+use Rattle.waiting.proofs.Known.{replicas_few}
+use Rattle.waiting.proofs.Calls.{to_ask, asking}
 use Rattle.waiting.proofs.ask.Goals as goal
 
-pub returns-then-not-is_ready : goal.returns-then-not-is_ready
-returns-then-not-is_ready c =
-    stops _ (Ask _) 1 c.refused.ensures (ask_unready _ _ (denied c.is_ready.ensures c.if-not-is_ready.true))
-    (λ z. omega arith)
+pub returns-in_err-replicas : goal.returns-in_err-replicas
+unfolding waiting_step
+returns-in_err-replicas c = stops _ _ _ _ (to_ask _ _) c.in_err-replicas.ensures.refusal c.from_residual.ensures
 
-pub bounds-table-0 : goal.bounds-table-0
-bounds-table-0 c =
-    let h = known _ (granted c.is_ready.ensures c.if-not-is_ready.false) in
-    omega (arith, h.sizes)
-
-pub replica_count-requires : goal.replica_count-requires
-replica_count-requires c =
-    let h = known _ (granted c.is_ready.ensures c.if-not-is_ready.false) in
-    omega (arith, h.sizes)
-
-pub returns-then-replica_count-taker : goal.returns-then-replica_count-taker
-returns-then-replica_count-taker c =
-    let h = known _ (granted c.is_ready.ensures c.if-not-is_ready.false) in
-    stops _ (Ask _) 2 c.refused-then-replica_count-taker.ensures (ask_stranger _ _ h (rw c.replica_count.ensures at c.if-replica_count-taker.true))
-    (λ z. omega arith)
+pub returns-in_err-need : goal.returns-in_err-need
+unfolding waiting_step
+returns-in_err-need c =
+    let formed = asking _ c.in_ok-replicas.ensures.refusal c.args.taker in
+    need_stops _ _ formed.at _ _ (rw c.in_ok-replicas.ensures.counted at c.in_err-need.ensures) c.from_residual-in_err-need.ensures
 
 pub bounds-waiting-at : goal.bounds-waiting-at
 bounds-waiting-at c =
-    let h = known _ (granted c.is_ready.ensures c.if-not-is_ready.false) in
-    omega (arith, c.taker_at-at.ensures, c.if-replica_count-taker.false, c.replica_count.ensures, replicas_few _ h, h.size)
+    let formed = asking _ c.in_ok-replicas.ensures.refusal c.args.taker in
+    let below = needed _ _ c.in_ok-need.ensures in
+    omega (tests, c.taker_at-at.ensures, c.in_ok-replicas.ensures.counted, replicas_few _ formed.known, formed.known.size)
 
 pub bounds-waiting-at-2 : goal.bounds-waiting-at-2
 bounds-waiting-at-2 c =
-    let h = known _ (granted c.is_ready.ensures c.if-not-is_ready.false) in
-    omega (arith, c.taker_at-at.ensures, c.if-replica_count-taker.false, c.replica_count.ensures, replicas_few _ h, h.size)
+    let formed = asking _ c.in_ok-replicas.ensures.refusal c.args.taker in
+    let below = needed _ _ c.in_ok-need.ensures in
+    omega (tests, c.taker_at-at.ensures, c.in_ok-replicas.ensures.counted, replicas_few _ formed.known, formed.known.size)
 
 pub returns : goal.returns
-unfolding waiting_rule ask_rule
+unfolding waiting_step waiting_rule ask_rule
 returns c =
-    let h = known _ (granted c.is_ready.ensures c.if-not-is_ready.false) in
-    passes _ (Ask _) (c.accepted.ensures ∙ rw c.taker_at-at.ensures refl) refl
-    (ask_passes _ _ h (omega (arith, c.if-replica_count-taker.false, c.replica_count.ensures)))
+    let formed = asking _ c.in_ok-replicas.ensures.refusal c.args.taker in
+    let known = need_on _ _ formed.at (rw c.in_ok-replicas.ensures.counted at c.in_ok-need.ensures) in
+    accepts _ known (rw c.taker_at-at.ensures at c.accepted.ensures) refl

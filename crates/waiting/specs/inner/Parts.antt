@@ -1,23 +1,20 @@
 -- Parts of the rules, as the inner functions have them.
-use Rattle.std.specs.Prelude.{ℕ, ◌+◌, ◌≤◌, ◌<◌, ◌≡◌, Bool, not, ◌&&◌, List, [], ◌∷◌, ◌++◌, length}
-use Rattle.protocol.specs.Memory.{memory, row_at, replica_words, replica_count, fault_bound, replica}
+use Rattle.std.specs.Prelude.{ℕ, ◌+◌, ◌≤◌, ◌<◌, ◌≡◌, Bool, not, List, [], ◌∷◌, ◌++◌, length}
+use Rattle.protocol.specs.Memory.{memory, row_at, replica_words, replica}
 use Rattle.protocol.specs.Ancestry.{is_ancestor_by}
-use Rattle.protocol.specs.Form.{all_hold, well_formed}
+use Rattle.protocol.specs.Form.{all_hold}
 use Rattle.protocol.specs.Outcome.{Need, ◌else◌, wrong_form}
 use Rattle.movements.specs.declared.Movement.{Movement}
 use Rattle.movements.specs.Movements.{max_pallets, max_movements, is_movement_list}
 use Rattle.blocks.specs.inner.Records.{parent_in}
 use Rattle.ancestry.specs.inner.AncestryFits.{AncestryFits}
-use Rattle.entries.specs.Entries.{max_waiting, max_replicas, entry_width, entry_at, waiting_words, waiting_count, entry, is_used, waiting_formed, holding}
+use Rattle.entries.specs.Entries.{max_waiting, max_replicas, entry_width, entry_at, waiting_words, waiting_count, entry, is_used, holding}
 use Rattle.entries.specs.Entries.{refreshed}
 use Rattle.entries.specs.Waiting.{Lent, form_needs, place_needs, is_of_entry}
 use Rattle.arrivals.specs.inner.Found.{closed_up}
 
 abbrev pub decided_in : List ℕ → ℕ → ℕ
 decided_in table i = (replica (memory table [] []) i).decided_block
-
-abbrev pub is_ready : Lent → Bool
-is_ready s = well_formed s.memory && waiting_formed (replica_count (fault_bound s.memory)) s.waiting
 
 -- The needs of a match before its identity.
 abbrev pub listed_needs : Lent → List ℕ → ℕ → ℕ → List Need

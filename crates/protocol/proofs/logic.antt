@@ -2,3 +2,4 @@
 pub mod Booleans
 pub mod Joined
 pub mod Below
+pub mod Ranges

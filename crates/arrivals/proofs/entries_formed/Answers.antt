@@ -6,7 +6,7 @@ use Rattle.std.proofs.Common.{rules}
 use Rattle.std.proofs.lemmas.Iterator.{YieldsList-from_range}
 use Rattle.std.proofs.lemmas.Iterator.Consumers.{fold_from_yields_List}
 use Rattle.entries.specs.Entries.{entry, entry_allowed}
-use Rattle.movements.proofs.Ranges.{all_folded}
+use Rattle.protocol.proofs.logic.Ranges.{all_folded}
 use Rattle.arrivals.proofs.entries_formed.Goals as goal
 
 pub returns : goal.returns

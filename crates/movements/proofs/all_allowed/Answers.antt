@@ -5,7 +5,7 @@ use Rattle.std.proofs.Common.{rules}
 use Rattle.std.proofs.lemmas.Iterator.{YieldsList-from_range}
 use Rattle.std.proofs.lemmas.Iterator.Search.{all_from_yields_List}
 use Rattle.movements.specs.Movements.{movement, movement_count, movement_allowed}
-use Rattle.movements.proofs.Ranges.{all_of_range}
+use Rattle.protocol.proofs.logic.Ranges.{all_of_range}
 use Rattle.movements.proofs.all_allowed.Goals as goal
 
 pub returns : goal.returns

@@ -7,7 +7,7 @@ use native.Mathlib.Numerals.{add-one}
 use native.Mathlib.Omega.{arith}
 use lib.Dec.{ltb}
 use Rattle.protocol.specs.Form.{all_hold, all_below}
-use Rattle.protocol.proofs.logic.Booleans.{tests, by-test, and-true, true_and, all-hold, at_below, all-below}
+use Rattle.protocol.proofs.logic.Booleans.{tests, by-test, and-true, true_and, at_below, all-below}
 use Rattle.protocol.specs.inner.Groups.{two_ok, four_ok}
 
 twos : (a b c d : Bool) → (a && b) && (c && d) ≡ all_hold (a ∷ b ∷ c ∷ d ∷ [])
@@ -20,11 +20,11 @@ twos true true true true = refl
 
 module _ (test : ℕ → Bool) where
   -- Four are two and two.
-  pub two_twos : (k : ℕ) → two_ok test k && two_ok test (k + 2) ≡ four_ok test k
+  two_twos : (k : ℕ) → two_ok test k && two_ok test (k + 2) ≡ four_ok test k
   two_twos k = let e : k + 2 + 1 ≡ k + 3 = omega arith in rw e (twos (test k) (test (k + 1)) (test (k + 2)) (test (k + 3)))
 
   -- What one test takes on by one, two tests take on by two, and four by four.
-  pub two_steps : (P : ℕ → Type 0) → ((k : ℕ) → P k → test k ≡ true → P (k + 1)) → (k : ℕ) → P k → two_ok test k ≡ true → P (k + 2)
+  two_steps : (P : ℕ → Type 0) → ((k : ℕ) → P k → test k ≡ true → P (k + 1)) → (k : ℕ) → P k → two_ok test k ≡ true → P (k + 2)
   two_steps P step k p e =
       let both = and-true (test k) (test (k + 1)) e in
       let q : k + 1 + 1 ≡ k + 2 = omega arith in
@@ -41,15 +41,9 @@ module _ (test : ℕ → Bool) where
   unfolding all_below
   one_more k = rw add-one refl
 
-  -- One test more, two tests more, four tests more.
+  -- One test more.
   pub next : (k : ℕ) → all_below k test ≡ true → test k ≡ true → all_below (k + 1) test ≡ true
   next k all e = sym (one_more k) ∙ true_and all e
-
-  pub next_two : (k : ℕ) → all_below k test ≡ true → two_ok test k ≡ true → all_below (k + 2) test ≡ true
-  next_two = two_steps (λ k. all_below k test ≡ true) next
-
-  pub next_four : (k : ℕ) → all_below k test ≡ true → four_ok test k ≡ true → all_below (k + 4) test ≡ true
-  next_four = four_steps (λ k. all_below k test ≡ true) next
 
   -- A group of tests more, of any size.
   pub next_group : (size k : ℕ) → all_below k test ≡ true → ((j : ℕ) → j < size → test (k + j) ≡ true) → all_below (k + size) test ≡ true
@@ -69,12 +63,3 @@ module _ (test : ℕ → Bool) where
 
   pub refuted_one : (n k : ℕ) → n < k → test n ≡ false → false ≡ all_below k test
   refuted_one n k h = refuted k (test n) (λ all. all n h)
-
-  pub refuted_four : (n k : ℕ) → n + 4 ≤ k → four_ok test n ≡ false → false ≡ all_below k test
-  refuted_four n k h =
-      refuted k (four_ok test n)
-      (λ all.
-      all-hold _ (
-        all n (omega arith),
-        (all (n + 1) (omega arith), (all (n + 2) (omega arith), (all (n + 3) (omega arith), tt))),
-      ))

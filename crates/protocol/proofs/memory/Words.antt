@@ -79,20 +79,6 @@ sets_at (a ∷ ws) l at (suc k) h room =
     let e : at + suc k ≡ suc at + k = omega arith in
     rw e (sets_at ws (set l at a) (suc at) k (omega arith) (simp length-set (omega arith)))
 
--- Words stored one by one, by their offsets, are a run of words.
-abbrev pub stored : List ℕ → ℕ → ℕ → List ℕ → List ℕ
-stored l start k [] = l
-stored l start k (a ∷ ws) = stored (set l (start + k) a) start (suc k) ws
-
-stored_from : (ws l : List ℕ) (start k : ℕ) → stored l start k ws ≡ sets l (start + k) ws
-stored_from [] l start k = refl
-stored_from (a ∷ ws) l start k =
-    let q : start + suc k ≡ suc (start + k) = omega arith in
-    stored_from ws (set l (start + k) a) start (suc k) ∙ rw q
-
-pub stored_all : (ws l : List ℕ) (start : ℕ) → stored l start 0 ws ≡ sets l start ws
-stored_all ws l start = let q : start + 0 ≡ start = omega arith in stored_from ws l start 0 ∙ rw q
-
 -- ---- the same write in two lists
 
 set_alike : (l l' : List ℕ) (at a j : ℕ) → length l ≡ length l' → (j ≢ at → get_or l j 0 ≡ get_or l' j 0)

@@ -113,7 +113,11 @@ pub fn store(
         ≡ outcome_by (λ m. store_rule m replica number) table.old log.old blocks.old }
 {
     let r = checks::find_replica(table, log, blocks, replica)?;
-    let p = checks::find_certificate(table, log, number)?;
+    // Document 01 names this form for a certificate that is looked for.
+    let found = checks::find_certificate(table, log, number);
+    let Ok(p) = found else {
+        return Err(found.unwrap_err());
+    };
     test_store(table[FAULT_BOUND_AT], r, p)?;
     let words = [
         (STORED_VIEW_AT, p.view),

@@ -80,7 +80,11 @@ pub fn reply(
         ≡ outcome_by (λ m. reply_rule m replica number) table.old log.old blocks.old }
 {
     let r = checks::find_replica(table, log, blocks, replica)?;
-    let q = checks::find_certificate(table, log, number)?;
+    // Document 01 names this form for a certificate that is looked for.
+    let found = checks::find_certificate(table, log, number);
+    let Ok(q) = found else {
+        return Err(found.unwrap_err());
+    };
     test_reply(replica, r, q)?;
     let answer = reply_to(replica, r, q);
     if r.min_view < q.view {

@@ -24,7 +24,8 @@ fn mark_block(blocks: &[u32], b: u32, marks: &mut [bool; MAX_BLOCKS as usize]) -
     blocks::parent(blocks, b)
 }
 
-// Four blocks of the line, or fewer: block 0 is its own parent.
+// Four blocks of the line, or fewer: block 0 is its own parent. A step that marks and one that only goes up, four_toward's below, share no
+// more than the count of four; one function over both would be longer.
 fn mark_four(blocks: &[u32], b: u32, marks: &mut [bool; MAX_BLOCKS as usize]) -> u32
     requires { Markable blocks.now b marks.old }
     ensures { Climbed blocks.now b result marks.old marks.new }

@@ -159,7 +159,8 @@ impl Certificate {
     }
 }
 
-// Where a certificate starts.
+// Where a certificate starts. The log stays a plain slice here and below: the calls that read it write to it next, and a view of it would
+// have the same bound in each contract.
 pub fn certificate_at(number: u32) -> usize
     ensures { result ≡ certificate_at_rule number }
 {

@@ -20,7 +20,7 @@ use certificate_log::{CERTIFICATE_WORDS, Certificate, VIEW_AT};
 use protocol::{Answer, Refusal, Values};
 use table::CERTIFICATE_COUNT_AT;
 
-// What filing tells of a certificate: the second value of the call that issues it.
+// What filing tells of a certificate: the second value of the call that issues it, so a number, as the C interface has it.
 pub const FOUND: u32 = 1;
 
 pub const APPENDED: u32 = 0;
@@ -65,7 +65,7 @@ fn four_of_other_views(log: &[u32], number: usize, view: u32) -> bool
         & is_of_other_view(log, number + 3, view)
 }
 
-// The first of so many certificates that has these words, or their count. Four of other views are passed at a time, for speed, up to
+// The first of so many certificates that has these words, or their count: the number either way, as none is the next one's. Four of other views are passed at a time, for speed, up to
 // the first four with one of its view: one at a time takes three times as long.
 fn find(log: &[u32], count: u32, words: &[u32; CERTIFICATE_WORDS]) -> u32
     requires { certificate_at count ≤ length log.now }

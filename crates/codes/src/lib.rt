@@ -73,7 +73,7 @@ fn claimed(table: &[u32], log: &[u32], list: &[u32]) -> Claim
     }
 }
 
-// The call of a code.
+// The call of a code: a `match` on the number, as document 01 names the form, and as the C interface has the codes.
 pub fn coded_call(
     table: &[u32],
     log: &[u32],

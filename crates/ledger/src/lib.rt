@@ -1,4 +1,5 @@
-// Any call of a ledger.
+// Any call of a ledger. Its three slices are three parameters here and in every call: a struct of `&mut` slices would have to keep the
+// name of each in every contract, and C lends them so.
 #![tactic(auto)]
 
 ghost use Rattle.std.specs.Prelude.{◌≡◌};

@@ -15,7 +15,8 @@ pub const HELD_PLACES: usize = field::COLUMNS * script::MAX_FIELDS + 1;
 // Reading stops after this line.
 pub const MAX_LINES: u32 = field::MAX_NUMBER;
 
-// Where a stream stands: the f in use, how many lines were answered, how many bytes of a line are held, how many are to be written.
+// Where a stream stands: the f in use, how many lines were answered, how many bytes of a line are held, how many are to be written. The
+// bytes themselves are in slices that are lent beside it: nothing is allocated.
 #[derive(Clone, Copy)]
 pub struct Progress {
     pub fault_bound: u32,

@@ -153,7 +153,7 @@ pub fn row_offsets() -> [usize; REPLICA_WORDS]
     ]
 }
 
-// The number of replicas.
+// The number of replicas. f is a word of the table: a type with its bound would be made, and its bound shown, wherever the word is read.
 pub fn replica_count(f: u32) -> u32
     requires { f ≤ max_fault_bound }
     ensures { result ≡ replica_count_rule f }
@@ -168,7 +168,8 @@ pub fn row_at(replica: u32) -> usize
     ROW_START + REPLICA_WORDS * (replica as usize)
 }
 
-// A word of a replica, by its index in the row.
+// A word of a replica, by its index in the row. The table stays a plain slice, which most callers write to: a view of a row would hold a
+// `&mut`, and have the same bound.
 pub fn replica_word(table: &[u32], replica: u32, at: usize) -> u32
     requires { row_at_rule replica + at < length table.now }
     ensures { result ≡ get_or table.now (row_at_rule replica + at) 0 }

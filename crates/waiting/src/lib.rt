@@ -26,7 +26,7 @@ use movements::{MOVEMENT_WORDS, Movement};
 use protocol::{Answer, Refusal};
 use table::{BLOCK_COUNT_AT, FAULT_BOUND_AT};
 
-// A place's word, once the place has taken an entry out.
+// A place's word, once the place has taken an entry out: a word of the slice that C lends.
 const USED: u32 = 1;
 
 // The form of the ledger's slices, and of the further one (1); then how many replicas there are.

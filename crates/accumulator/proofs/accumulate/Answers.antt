@@ -61,10 +61,10 @@ certificate_in-c-requires c =
     let listed = accumulating_list _ c.in_ok-r.ensures c.in_ok-test_list.ensures in
     listed.there c.greatest-best.result
 
-pub issue-requires : goal.issue-requires
-issue-requires c =
+pub issue-requires-clause-issuable : goal.issue-requires-clause-issuable
+issue-requires-clause-issuable c =
     let listed = accumulating_list _ c.in_ok-r.ensures c.in_ok-test_list.ensures in
-    record { issuable = issuable _ _ listed.ready; settable = refl }
+    issuable _ _ listed.ready
 
 pub returns : goal.returns
 unfolding accumulate_rule

@@ -29,10 +29,10 @@ returns-in_err-test_reply c =
     let asked = replying_to _ _ c.in_ok-r.ensures _ c.in-Ok.ensures in
     stops _ _ _ _ asked.at (rw (found.read, asked.read) at c.in_err-test_reply.ensures) c.from_residual-in_err-test_reply.ensures
 
-pub issue-requires : goal.issue-requires
-issue-requires c =
+pub issue-requires-clause-issuable : goal.issue-requires-clause-issuable
+issue-requires-clause-issuable c =
     let found = replying _ _ c.in_ok-r.ensures c.args.number in
-    record { issuable = issuable _ _ found.ready; settable = refl }
+    issuable _ _ found.ready
 
 pub returns-then-r-q : goal.returns-then-r-q
 unfolding rule
@@ -43,10 +43,10 @@ returns-then-r-q c =
     let rises = lt-ltb _ _ (rw (found.read, asked.read) at c.if-r-q.true) in
     issues _ _ _ _ _ at_slot (rw (rises, asked.read, c.word.ensures)) (rw (found.read, asked.read) at c.reply_to-answer.ensures) (c.issue.ensures _)
 
-pub issue-requires-2 : goal.issue-requires-2
-issue-requires-2 c =
+pub issue-requires-2-clause-issuable : goal.issue-requires-2-clause-issuable
+issue-requires-2-clause-issuable c =
     let found = replying _ _ c.in_ok-r.ensures c.args.number in
-    record { issuable = issuable _ _ found.ready; settable = refl }
+    issuable _ _ found.ready
 
 pub returns : goal.returns
 unfolding rule

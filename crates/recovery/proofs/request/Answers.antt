@@ -15,10 +15,10 @@ returns-in_err-need c =
     let found = requesting _ _ c.in_ok-r.ensures in
     need_stops _ _ found.at _ _ (rw (c.is.ensures, found.read) at c.in_err-need.ensures) c.from_residual-in_err-need.ensures
 
-pub issue-requires : goal.issue-requires
-issue-requires c =
+pub issue-requires-clause-issuable : goal.issue-requires-clause-issuable
+issue-requires-clause-issuable c =
     let found = requesting _ _ c.in_ok-r.ensures in
-    record { issuable = issuable _ _ found.ready; settable = refl }
+    issuable _ _ found.ready
 
 pub returns : goal.returns
 unfolding rule

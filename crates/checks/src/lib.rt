@@ -67,7 +67,7 @@ pub fn test_list(table: &[u32], list: &[u32]) -> Result<(), Refusal>
 {
     let size = (table[FAULT_BOUND_AT] as usize) + 1;
     let sized = list.len() == size;
-    let issued = quorum::all_issued(list, table[CERTIFICATE_COUNT_AT]);
     need(sized, Refusal::OutOfRange)?;
+    let issued = quorum::all_issued(list, table[CERTIFICATE_COUNT_AT]);
     need(issued, Refusal::UnknownNumber)
 }

@@ -1,6 +1,6 @@
 //! `text`: yard's loops over text, transcribed into plain Rust as the measure of their speed.
 //!
-//! Unlike everything else here it is made from the proved sources (crates/stream, script, field), loop by loop.
+//! Unlike everything else here it is made from the proved sources (crates/stream, script, field): the same steps, in loops of its own.
 //! It is for timing only and judges nothing. It opens no ledger: a line of numbers is called as before any opening.
 
 use judge::call::{call, Outcome};

@@ -1,5 +1,4 @@
-// Lines of parents: which blocks are in a block's line. The walks are recursions up the parents, the form that document 01 names; two loops
-// would mark and step as quickly.
+// Lines of parents: which blocks are in a block's line. The walks are recursions up the parents, the form that document 01 names.
 #![tactic(auto)]
 
 ghost use Rattle.std.specs.Prelude.{◌≡◌};

@@ -99,7 +99,7 @@ fn identity_in(waiting: &[u32], slot: usize) -> u32
     waiting[entry_at(slot) + IDENTITY_AT]
 }
 
-// Whether one of four entries, from a slot on, has an identity.
+// Whether one of four entries, from a slot on, has an identity: four tests in four lines, as few as a loop would take.
 fn four_have(waiting: &[u32], identity: u32, slot: usize) -> bool
     requires { HasSlots waiting.now (slot + 4) }
     ensures { result ≡ any_holds (has_identity waiting.now identity slot ∷ has_identity waiting.now identity (slot + 1)
@@ -160,6 +160,7 @@ pub fn take_out(waiting: &mut [u32], slot: usize)
 #[derive(Clone, Copy)]
 struct TakerTally {
     pallets: u32,
+    // 0 where there is none, as the kept word is
     earliest: u32,
 }
 

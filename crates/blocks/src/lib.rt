@@ -88,7 +88,7 @@ fn block_formed(blocks: &[u32], block: usize) -> bool
     blocks[at + HEIGHT_AT] == blocks[BLOCK_WORDS * parent + HEIGHT_AT] + 1
 }
 
-// Every added block, up to the first that fails.
+// Every added block, up to the first that fails. A loop, as a block may be tested only where all before it have their form.
 pub fn blocks_formed(blocks: &[u32], added: u32) -> bool
     requires { (1 ≤ added) × (added ≤ max_blocks) × (block_at_rule added ≤ length blocks.now) }
     ensures { result ≡ all_below added (block_ok blocks.now) }

@@ -70,12 +70,6 @@ pub fn most_certificates() -> u32
     MAX_CERTIFICATES
 }
 
-pub fn greatest_kind() -> u32
-    ensures { result ≡ last_kind }
-{
-    LAST_KIND
-}
-
 // A certificate's kind, with the number that stands for it in the log.
 #[derive(Clone, Copy, PartialEq, Eq)]
 pub enum Kind {
@@ -89,6 +83,13 @@ pub enum Kind {
 
 pub const LAST_KIND: u32 = Kind::Reply as u32;
 
+// It is the definition's: nothing calls this.
+pub fn greatest_kind() -> u32
+    ensures { result ≡ last_kind }
+{
+    LAST_KIND
+}
+
 impl Kind {
     // The number of the definitions.
     pub fn word(self) -> u32
@@ -98,6 +99,7 @@ impl Kind {
     }
 }
 
+// The words of a certificate as they stand in the log: which of them are a kind, the form says.
 #[derive(Clone, Copy)]
 pub struct Certificate {
     pub kind: u32,

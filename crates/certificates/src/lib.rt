@@ -33,7 +33,7 @@ pub fn filings() -> [u32; 2]
 }
 
 // Whether the certificate whose words start at an index has these words. All are compared and joined by `&`: a comparison of slices
-// leaves at the first that differs, and is slower where many agree in the first.
+// leaves at the first that differs, and is slower where many have the same first words.
 fn is_equal(log: &[u32], start: usize, words: &[u32; CERTIFICATE_WORDS]) -> bool
     requires { start + certificate_words ≤ length log.now }
     ensures { result ≡ equal_from log.now start words.now }
@@ -65,8 +65,8 @@ fn four_of_other_views(log: &[u32], number: usize, view: u32) -> bool
         & is_of_other_view(log, number + 3, view)
 }
 
-// The first of so many certificates that has these words, or their count: the number either way, as none is the next one's. Four of other
-// views are passed at a time, for speed, up to the first four with one of its view: one at a time takes three times as long.
+// The first of so many certificates that has these words, or their count, which is then the next one's number. Four of other views are
+// passed at a time, up to the first four with one of its view: one at a time, by their views, takes a third longer.
 fn find(log: &[u32], count: u32, words: &[u32; CERTIFICATE_WORDS]) -> u32
     requires { certificate_at count ≤ length log.now }
     ensures { result ≡ first_below count (is_equal_rule log.now words.now) }

@@ -33,7 +33,7 @@ mod justification;
 
 // ---- prepare
 
-// The needs of prepare that rest on what the justification gives.
+// The needs of prepare that rest on what the justification gives. A replica's number is no word of its record, as the rules have them.
 #[tactic(auto, unfolding(protocol::specs::Outcome::first_refusal))]
 fn test_proposal(
     f: u32,

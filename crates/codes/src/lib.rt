@@ -12,11 +12,11 @@ use table::CERTIFICATE_COUNT_AT;
 // The most numbers that a list may have.
 const MAX_LIST: usize = 31;
 
-// A call without a list, whose unused argument is 0.
+// A call without a list, whose unused argument is 0. The two tests are the definitions'.
 fn is_plain(unused: u32, list: &[u32]) -> bool
     ensures { result ≡ is_plain unused list.now }
 {
-    (unused == 0) & (list.is_empty())
+    (unused == 0) & list.is_empty()
 }
 
 // A call with a list, whose unused argument is 0.
@@ -51,7 +51,7 @@ fn word_at(words: &[u32], index: usize) -> u32
     *words.get(index).unwrap_or(&0)
 }
 
-// Those of the list's first certificate, each where the certificate is issued and the word is there; else 0.
+// Those of the list's first certificate, each where the certificate is issued and the word is there; else 0, as the definition has it.
 fn claimed(table: &[u32], log: &[u32], list: &[u32]) -> Claim
     ensures view { result.view ≡ claimed_word (memory table.now log.now []) list.now view_at }
     ensures block { result.block ≡ claimed_word (memory table.now log.now []) list.now proposed_block_at }

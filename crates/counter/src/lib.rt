@@ -31,8 +31,8 @@ pub fn counter_step(table: &[u32], boot: u32) -> u32
     table[STEPS_AT + boot.min(LAST_STEP) as usize]
 }
 
-// Eight steps, from an index on. As none is smaller than the one before, it is enough that the first is at least 1 and the last at most
-// 4,096.
+// Eight steps, from an index on, by which the definition goes too. As none is smaller than the one before, it is enough that the first is at
+// least 1 and the last at most 4,096.
 pub fn steps_formed(words: &[u32], start: usize) -> bool
     requires { start + step_count ≤ length words.now }
     ensures { result ≡ steps_formed_rule (step_in words.now start) }

@@ -22,16 +22,13 @@ ghost use Rattle.firmware.specs.Version.{version};
 
 use entries::Entry;
 use field::Unwritable;
-use protocol::{number_of, values_of};
+use protocol::{ACCEPTED, number_in, values_in};
 
 const VERSION: u32 = 2;
 
-// What a read of a field gives for bytes that are none.
+// What a read of a field gives in C for bytes that are none, and a write where nothing is written: document 01 and the header have them.
 const NO_NUMBER: u32 = 4_294_967_295;
 
-const ACCEPTED: u32 = 0;
-
-// What a write of a field gives where nothing is written.
 const UNWRITABLE: u32 = 10;
 
 // The number of this interface, for a caller to hold against its header's.
@@ -60,10 +57,10 @@ pub extern "C" fn yard_call(
         ≡ called (memory table.old log.old blocks.old) code replica number list.now }
 {
     let answer = ledger::call_by_code(table, log, blocks, code, replica, number, list);
-    let values = values_of(answer);
+    let values = values_in(answer);
     *first = values.first;
     *second = values.second;
-    number_of(answer)
+    number_in(answer)
 }
 
 // The height of a replica's decided block.
@@ -79,8 +76,8 @@ pub extern "C" fn yard_panel(
         ≡ panel_answer (memory table.now log.now blocks.now) replica }
 {
     let answer = panel::panel(table, log, blocks, replica);
-    *height = values_of(answer).first;
-    number_of(answer)
+    *height = values_in(answer).first;
+    number_in(answer)
 }
 
 // The balance of a replica's firm at a block, over the movements lent; always written.
@@ -100,7 +97,7 @@ pub extern "C" fn yard_balance(
 {
     let net = netting::net(table, log, blocks, movements, block, replica);
     *balance = net.unwrap_or(0);
-    number_of(net)
+    number_in(net)
 }
 
 // A ledger with nothing waiting; the number of replicas is always written.
@@ -120,8 +117,8 @@ pub extern "C" fn yard_open_waiting(
         (Open f steps.now) }
 {
     let answer = waiting::open_waiting(table, log, blocks, waiting, f, steps);
-    *replicas = values_of(answer).first;
-    number_of(answer)
+    *replicas = values_in(answer).first;
+    number_in(answer)
 }
 
 // A movement that no block has yet begins to wait.
@@ -147,7 +144,7 @@ pub extern "C" fn yard_enter(
         taker,
         pallets,
     };
-    number_of(waiting::enter(table, log, blocks, waiting, entry))
+    number_in(waiting::enter(table, log, blocks, waiting, entry))
 }
 
 // The entry of an identity is struck out.
@@ -164,7 +161,7 @@ pub extern "C" fn yard_withdraw(
         ≡ waiting_step (lent (memory table.now log.now blocks.now) waiting.old)
         (Withdraw identity) }
 {
-    number_of(waiting::withdraw(table, log, blocks, waiting, identity))
+    number_in(waiting::withdraw(table, log, blocks, waiting, identity))
 }
 
 // The entry of an identity leaves for the movement at a place.
@@ -187,7 +184,7 @@ pub extern "C" fn yard_match(
         ≡ matching (lent (memory table.now log.now blocks.now) waiting.old)
         movements.now replica identity place }
 {
-    number_of(waiting::match_entry(
+    number_in(waiting::match_entry(
         table, log, blocks, waiting, movements, replica, identity, place,
     ))
 }
@@ -208,10 +205,10 @@ pub extern "C" fn yard_ask(
         ≡ waiting_step (lent (memory table.now log.now blocks.now) waiting.now) (Ask taker) }
 {
     let answer = waiting::ask(table, log, blocks, waiting, taker);
-    let values = values_of(answer);
+    let values = values_in(answer);
     *pallets = values.first;
     *earliest = values.second;
-    number_of(answer)
+    number_in(answer)
 }
 
 // The number of eight columns, or 4,294,967,295 for bytes that are no such field.

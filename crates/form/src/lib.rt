@@ -21,6 +21,8 @@ use table::{
     STORED_BLOCK_AT, STORED_VIEW_AT, Status, VIEW_LIMIT_AT,
 };
 
+// The three slices are three parameters here too: callers hold them as `&mut`, and would make a struct of `&` for each question.
+
 // f is 1 to 30.
 pub fn is_fault_bound(f: u32) -> bool
     ensures { result ≡ is_fault_bound_rule f }

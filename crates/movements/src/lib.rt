@@ -50,6 +50,7 @@ impl Transfer {
 }
 
 impl Movement {
+    // The definitions name the three words of a movement and of an entry; so each has them, and not a transfer.
     pub fn transfer(self) -> Transfer
         ensures { result ≡ record { giver = self.giver; taker = self.taker; pallets = self.pallets } }
     {
@@ -116,7 +117,7 @@ pub fn movement_in(movements: &[u32], place: usize) -> Movement
     }
 }
 
-// Whether a movement keeps the rules, where there are so many replicas and so many blocks are added.
+// Whether a movement keeps the rules, where there are so many replicas and so many blocks are added: two words of the table.
 pub fn is_allowed(x: Movement, replicas: u32, added: u32) -> bool
     ensures { result ≡ movement_allowed replicas added x }
 {

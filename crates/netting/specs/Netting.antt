@@ -5,7 +5,8 @@ use Rattle.std.specs.Prelude.{ℕ, zero, suc, ◌+◌, Bool, cond, ◌&&◌, Lis
 use Rattle.protocol.specs.Memory.{Memory, memory, replica_count, fault_bound, block_count, parent}
 use Rattle.protocol.specs.Ancestry.{is_ancestor_by}
 use Rattle.protocol.specs.Form.{all_below, well_formed}
-use Rattle.protocol.specs.Outcome.{number_in, ◌else◌, AnswerOf, OutcomeOf, RuleOf, follow, wrong_form, out_of_range, unknown_number, wrong_movement}
+use Rattle.protocol.specs.Outcome.{number_in, ◌else◌, AnswerOf, OutcomeOf, RuleOf, follow}
+use Rattle.protocol.specs.Outcome.{wrong_form, out_of_range, unknown_number, wrong_movement}
 use Rattle.protocol.specs.FirstNeeds.{is_replica, is_block}
 use Rattle.movements.specs.declared.Movement.{Movement}
 use Rattle.movements.specs.Movements.{movement, movement_count, movement_allowed, is_movement_list}

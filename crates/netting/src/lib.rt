@@ -37,7 +37,7 @@ fn add(balances: &mut [i32], firm: u32, pallets: i32)
     balances[firm as usize] += pallets;
 }
 
-// Whether every movement keeps the rules; and then the balances of all firms. One pass, up to the first movement that breaks them; those
+// Whether every movement keeps the rules, for the caller to refuse; and then the balances of all firms. One pass, up to the first movement that breaks them; those
 // count whose block is marked.
 fn tally(movements: &[u32], marks: &[bool], replicas: u32, added: u32, balances: &mut [i32]) -> bool
     requires { Talliable movements.now marks.now replicas added balances.old }

@@ -2,7 +2,7 @@
 #![tactic(auto)]
 
 ghost use Rattle.std.specs.Prelude.{◌≡◌};
-ghost use Rattle.protocol.specs.Outcome.{number_of, number_in, values_in};
+ghost use Rattle.protocol.specs.Outcome.{number_of, number_in as number_in_rule, values_in as values_in_rule};
 
 // The two values of an accepted call.
 #[derive(Clone, Copy)]
@@ -11,70 +11,58 @@ pub struct Values {
     pub second: u32,
 }
 
-// Why a call is refused: the rows of the table under "Calls" in document 01, then those of document 02. They have the names of
-// specs/Outcome.antt.
-#[derive(Clone, Copy)]
+// Why a call is refused, with the number that it returns: the rows of the table under "Calls" in document 01, then those of document 02.
+// The names are those of the definitions in specs/Outcome.antt.
+#[derive(Clone, Copy, PartialEq, Eq)]
 pub enum Refusal {
-    WrongForm,
-    OutOfRange,
-    UnknownNumber,
-    WrongStatus,
-    WrongCertificate,
-    WrongBlock,
-    WrongView,
-    CounterLimit,
-    NoRoom,
+    WrongForm = 1,
+    OutOfRange = 2,
+    UnknownNumber = 3,
+    WrongStatus = 4,
+    WrongCertificate = 5,
+    WrongBlock = 6,
+    WrongView = 7,
+    CounterLimit = 8,
+    NoRoom = 9,
     // "script line unreadable": for a line or a code that gives no call.
-    Unreadable,
+    Unreadable = 10,
     // "a movement outside these rules" (document 02, #101): for a netting, and for entries that wait.
-    WrongMovement,
+    WrongMovement = 11,
     // "steps that break these rules or aren't eight" (document 02, #104): for an opening.
-    WrongSteps,
+    WrongSteps = 12,
     // "an identity already waiting, or not waiting when it should leave or be matched", "512 waiting" (document 02, #108).
-    WrongIdentity,
-    WaitingFull,
+    WrongIdentity = 13,
+    WaitingFull = 14,
 }
 
 impl Refusal {
-    // The number in the table.
+    // The number that document 01 gives it.
     pub fn number(self) -> u32
         ensures { result ≡ number_of self }
     {
-        match self {
-            Refusal::WrongForm => 1,
-            Refusal::OutOfRange => 2,
-            Refusal::UnknownNumber => 3,
-            Refusal::WrongStatus => 4,
-            Refusal::WrongCertificate => 5,
-            Refusal::WrongBlock => 6,
-            Refusal::WrongView => 7,
-            Refusal::CounterLimit => 8,
-            Refusal::NoRoom => 9,
-            Refusal::Unreadable => 10,
-            Refusal::WrongMovement => 11,
-            Refusal::WrongSteps => 12,
-            Refusal::WrongIdentity => 13,
-            Refusal::WaitingFull => 14,
-        }
+        self as u32
     }
 }
 
 // What a call answers.
 pub type Answer = Result<Values, Refusal>;
 
-// The number that a call returns, whatever it gives: 0, "accepted", or that of its refusal.
-pub fn number_of<T: Copy>(given: Result<T, Refusal>) -> u32
-    ensures { result ≡ number_in given }
+// The number that an accepted call returns.
+pub const ACCEPTED: u32 = 0;
+
+// The number that a call returns, whatever it gives: that of its refusal, where it is refused.
+pub fn number_in<T: Copy>(given: Result<T, Refusal>) -> u32
+    ensures { result ≡ number_in_rule given }
 {
     match given {
-        Ok(_) => 0,
+        Ok(_) => ACCEPTED,
         Err(refusal) => refusal.number(),
     }
 }
 
 // The two values that it returns: zeros, where it is refused.
-pub fn values_of(answer: Answer) -> Values
-    ensures { result ≡ values_in answer }
+pub fn values_in(answer: Answer) -> Values
+    ensures { result ≡ values_in_rule answer }
 {
     answer.unwrap_or(Values {
         first: 0,

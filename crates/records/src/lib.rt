@@ -14,6 +14,7 @@ ghost use Rattle.records.specs.inner.Replicas.{replica_from, assignments, Settab
 
 use table::{Flag, Status, replica_word, set_replica_word};
 
+// The words of a row as they stand there: which of them are a status or a flag, the form says.
 #[derive(Clone, Copy)]
 pub struct Replica {
     pub status: u32,

@@ -1,6 +1,5 @@
 -- The ledger that a script works on: what is lent to a line's call, and what the line gives.
-use Rattle.std.specs.Prelude.{ℕ, cond, List, ◌++◌, eqb, take, drop, get_or}
-use Rattle.std.specs.Prelude.{Result}
+use Rattle.std.specs.Prelude.{ℕ, cond, List, ◌++◌, eqb, take, drop, get_or, Result}
 use Rattle.protocol.specs.declared.Values.{Values}
 use Rattle.protocol.specs.declared.Refusal.{Refusal}
 use Rattle.protocol.specs.Memory.{Memory, memory, max_fault_bound, table_length}

@@ -36,10 +36,10 @@ const NUMBER_FIELD: usize = 2;
 
 const LIST_FIELD: usize = 3;
 
-// The code of an opening.
+// The code of an opening, a number in a line and in C.
 const OPEN_CODE: u32 = 0;
 
-pub const LINE_FEED: u8 = 10;
+pub const LINE_FEED: u8 = b'\n';
 
 // Four fields and a line feed.
 pub const ANSWER_BYTES: usize = 4 * COLUMNS + 1;
@@ -160,9 +160,9 @@ pub fn put_answer(text: &mut [u8], at: usize, line: u32, answer: Answer)
     requires line_le_max_number { (line ≤ max_number) × Printable (told answer) }
     ensures { take (at + answer_bytes) text.new ≡ take at text.old ++ answer_text line (told answer) }
 {
-    let values = protocol::values_of(answer);
+    let values = protocol::values_in(answer);
     put_number(text, at, line);
-    put_number(text, at + COLUMNS, protocol::number_of(answer));
+    put_number(text, at + COLUMNS, protocol::number_in(answer));
     put_number(text, at + 2 * COLUMNS, values.first);
     put_number(text, at + 3 * COLUMNS, values.second);
     text[at + 4 * COLUMNS] = LINE_FEED;

@@ -19,6 +19,7 @@ pub const MAX_LINES: u32 = field::MAX_NUMBER;
 // bytes themselves are in slices that are lent beside it: nothing is allocated.
 #[derive(Clone, Copy)]
 pub struct Progress {
+    // 0 before the first opening, as the definition has it
     pub fault_bound: u32,
     pub lines: u32,
     pub held: usize,
@@ -99,6 +100,7 @@ pub fn feed(
     ensures within { Within p.new text.old }
 {
     let mut rest = chunk;
+    // A turn for each line: the chunk's bytes tell how many there are.
     while p.lines < MAX_LINES {
         let Some(end) = memchr(LINE_FEED, rest) else {
             p.held = hold(line, p.held, rest);

@@ -1,7 +1,7 @@
 // The table (document 01, "Memory"): its numbers, and where a replica's words stand, how they are read and written. The numbers have the
 // names of protocol/specs/, in upper case, and so have those of the log, the blocks, the counter and filing, each beside what it describes;
-// the movements' those of movements/specs/. A function for each group, that nothing calls, holds them to the definitions: where a number
-// differs, the check names it there, before it looks at any crate above.
+// the movements' those of movements/specs/. A function for each group, that nothing calls, holds them to the definitions, and an enum's
+// method its numbers: where one differs, the check names it there, before it looks at any crate above.
 #![tactic(auto)]
 
 ghost use Rattle.std.specs.Prelude.{◌≡◌, [], ◌∷◌, ◌+◌, ◌≤◌, ◌<◌, length, get_or, set};
@@ -153,7 +153,7 @@ pub fn row_offsets() -> [usize; REPLICA_WORDS]
     ]
 }
 
-// The number of replicas. f is a word of the table: a type with its bound would be made, and its bound shown, wherever the word is read.
+// The number of replicas. f is a word of the table: for a type with its bound, the bound would have to be shown wherever that word is read.
 pub fn replica_count(f: u32) -> u32
     requires { f ≤ max_fault_bound }
     ensures { result ≡ replica_count_rule f }
@@ -168,8 +168,8 @@ pub fn row_at(replica: u32) -> usize
     ROW_START + REPLICA_WORDS * (replica as usize)
 }
 
-// A word of a replica, by its index in the row. The table stays a plain slice, which most callers write to: a view of a row would hold a
-// `&mut`, and have the same bound.
+// A word of a replica, by its index in the row. The table stays a plain slice: a view of a row would have the same bound, and to write it
+// would hold a `&mut`.
 pub fn replica_word(table: &[u32], replica: u32, at: usize) -> u32
     requires { row_at_rule replica + at < length table.now }
     ensures { result ≡ get_or table.now (row_at_rule replica + at) 0 }

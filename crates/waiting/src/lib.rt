@@ -1,4 +1,5 @@
-// Movements that wait (document 02, #108): dispatchers enter movements before any block has them, and strike them out.
+// Movements that wait (document 02, #108): dispatchers enter movements before any block has them, and strike them out. Its four slices are
+// four parameters, as C lends them: three of the five calls change the fourth.
 #![tactic(auto)]
 
 ghost use Rattle.std.specs.Prelude.{◌≡◌, ◌≤◌, length, IfOk};
@@ -42,7 +43,8 @@ fn test_form(table: &[u32], log: &[u32], blocks: &[u32], waiting: &[u32]) -> Res
     Ok(replicas)
 }
 
-// A ledger for f with nothing waiting, whatever the memory held: opening, with the further slice's length tested last.
+// A ledger for f with nothing waiting, whatever the memory held: opening, with the further slice's length tested last. Where it is another,
+// nothing may be written, so the two tests that come before it are made here.
 pub fn open_waiting(
     table: &mut [u32],
     log: &mut [u32],

@@ -43,6 +43,7 @@ fn read_chunk(mut input: Stdin, chunk: &mut [u8; CHUNK_BYTES]) -> Option<usize> 
 fn write_text(mut output: Stdout, text: &[u8]) -> Option<()> {
     let mut rest = text;
     let mut tries = TRIES;
+    // A turn for each write: only the system knows how much it takes.
     while !rest.is_empty() {
         let put = output.write(rest).unwrap_or(0);
         if put == 0 {

@@ -3,4 +3,4 @@ use Rattle.firmware.proofs.Waiting.{opened_value}
 use Rattle.firmware.proofs.yard_open_waiting.Goals as goal
 
 pub returns : goal.returns
-returns c = rw (c.number_of.ensures, c.values_of.ensures) (opened_value _ _ _ _ c.open_waiting-answer.ensures)
+returns c = rw (c.number_in.ensures, c.values_in.ensures) (opened_value _ _ _ _ c.open_waiting-answer.ensures)

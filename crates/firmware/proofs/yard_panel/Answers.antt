@@ -3,4 +3,4 @@ use Rattle.firmware.proofs.Panel.{one_value}
 use Rattle.firmware.proofs.yard_panel.Goals as goal
 
 pub returns : goal.returns
-returns c = rw (c.number_of.ensures, c.values_of.ensures) (one_value _ _ _ c.panel-answer.ensures)
+returns c = rw (c.number_in.ensures, c.values_in.ensures) (one_value _ _ _ c.panel-answer.ensures)

@@ -3,4 +3,4 @@ use Rattle.firmware.proofs.Waiting.{withdrawn_valueless}
 use Rattle.firmware.proofs.yard_withdraw.Goals as goal
 
 pub returns : goal.returns
-returns c = rw c.number_of.ensures (withdrawn_valueless _ _ _ c.withdraw.ensures)
+returns c = rw c.number_in.ensures (withdrawn_valueless _ _ _ c.withdraw.ensures)

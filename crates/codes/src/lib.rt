@@ -26,6 +26,7 @@ fn is_short(unused: u32, list: &[u32]) -> bool
     (unused == 0) & (list.len() <= MAX_LIST)
 }
 
+// A call where its test holds, as the definition `when` has it.
 #[tactic(auto, unfolding(crate::specs::Codes::when))]
 fn coded_when(test: bool, call: Call) -> Result<Call, Refusal>
     ensures { result ≡ when test call }

@@ -80,7 +80,8 @@ fn fault_bound_for(in_use: u32, code: u32, replica: u32) -> u32
     if code == OPEN_CODE { replica } else { in_use }
 }
 
-// The call of a line of these numbers, on the memory that is lent for f.
+// The call of a line of these numbers, on the memory that is lent for f. The table's length is a clause here and below, and
+// no array's type: callers have slices.
 fn call_lent(
     table: &mut [u32],
     log: &mut [u32],
@@ -145,7 +146,7 @@ pub fn answer_line(
     answer_numbers(table, log, blocks, fault_bound, &given[..count])
 }
 
-// Writes a number's eight columns.
+// Writes a number's eight columns, from an index on, by which the definition of the text goes too.
 fn put_number(text: &mut [u8], at: usize, number: u32)
     requires { (at + columns ≤ length text.old) × (number ≤ max_number) }
     ensures { take (at + columns) text.new ≡ take at text.old ++ field_of number }

@@ -83,7 +83,8 @@ fn answer_from(
     answer(table, log, blocks, text, p, &line[..held]);
 }
 
-// Takes a chunk of the input. The text of the answers is then to be written.
+// Takes a chunk of the input. The text of the answers is then to be written. The slices are lent one by one, of the lengths that callers
+// have.
 pub fn feed(
     table: &mut [u32],
     log: &mut [u32],

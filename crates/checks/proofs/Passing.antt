@@ -79,7 +79,7 @@ module _ {State : Type 0} {rule : RuleOf {Value = ℕ} 0 State} where
 
 -- ---- by one need
 
-need_failed : (t : Bool) (r e : Refusal) → ◌≡◌ {A = Result (Unit {0}) Refusal} (Err e) (cond t (Ok tt) (Err r)) → (t ≡ false) × (e ≡ r)
+pub need_failed : (t : Bool) (r e : Refusal) → ◌≡◌ {A = Result (Unit {0}) Refusal} (Err e) (cond t (Ok tt) (Err r)) → (t ≡ false) × (e ≡ r)
 need_failed true r e is = let clash : ◌≡◌ {A = ℕ} 0 1 = cc in absurd (omega arith)
 need_failed false r e is = (refl, cc)
 

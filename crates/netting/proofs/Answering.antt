@@ -7,7 +7,7 @@ use native.Mathlib.Omega.{arith}
 use lib.Dec.{ltb}
 use lib.ListN.{get_or, replicate, get_or-replicate, length-replicate, get_or-eq_default}
 use lib.IntN.{ℤ, pos}
-use Rattle.std.specs.Prelude.{Result, Ok, Err, IsErr, IsErrAnd, cond}
+use Rattle.std.specs.Prelude.{Result, Ok, IsErr, IsErrAnd}
 use Rattle.protocol.specs.declared.Refusal.{Refusal}
 use Rattle.protocol.specs.declared.Refusal.TheVariants.{WrongMovement}
 use mir.Syntax.{w32}
@@ -19,8 +19,8 @@ use Rattle.movements.specs.Movements.{movement, movement_count}
 use Rattle.movements.proofs.Allowed.{is-allowed, list_short}
 use Rattle.movements.specs.declared.Movement.{Movement}
 use Rattle.protocol.proofs.logic.Booleans.{tests, by-test, at_below}
-use Rattle.protocol.proofs.calls.Needs.{accepts, holds}
-use Rattle.checks.proofs.Passing.{start, handed_up, need_stops_at}
+use Rattle.protocol.proofs.calls.Needs.{refuses, accepts, fails, holds}
+use Rattle.checks.proofs.Passing.{handed_up}
 use Rattle.blocks.specs.inner.Records.{parent_in}
 use Rattle.ancestry.specs.inner.AncestryFits.{AncestorsMarked}
 use Rattle.netting.specs.Netting.{counts_by, balance_after, balance_by, balance_told}
@@ -53,12 +53,12 @@ module _ (blocks movements : List ℕ) (b i replicas added : ℕ) (h : Nettable 
     abbrev rule : RuleOf (pos 0) (Unit {0})
     rule = balance_rule blocks movements b i replicas added
 
-    pub breaks : (r : Result ℤ Refusal) (e : Refusal)
-        → ◌≡◌ {A = Result (Unit {0}) Refusal} (Err e) (cond allowed (Ok tt) (Err WrongMovement)) → IsErr r × IsErrAnd r (λ d. d ≡ e)
+    pub breaks : allowed ≡ false → (r : Result ℤ Refusal) (e : Refusal) → e ≡ WrongMovement → IsErr r × IsErrAnd r (λ d. d ≡ e)
         → balance_told r ≡ balance_answer blocks movements b i replicas added
     unfolding balance_rule
-    breaks r e is up =
-        rw (handed_up r e up) (ap (λ o. o.answer) (need_stops_at _ _ (start rule) tt e (rw t.tested at is)))
+    breaks failed r e is up =
+        rw (handed_up r e up, is)
+        (ap (λ o. o.answer) (refuses tt rule wrong_movement (sym (fails [] (sym t.tested ∙ failed))) (λ z. omega arith)))
 
     -- A balance reads back from its bits.
     reads_back : allowed ≡ true → to_z w32 (of_z w32 (get_or xs i (pos 0))) ≡ balance_by (parent_in blocks) movements b i

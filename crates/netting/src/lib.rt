@@ -1,7 +1,8 @@
 // Netting of movements: a firm's balance of pallets at a chosen block (document 02, #101).
 #![tactic(auto)]
 
-ghost use Rattle.std.specs.Prelude.{◌≡◌, cond, ◌<◌, length, get_or, set, pos, ◌+ℤ◌};
+ghost use Rattle.protocol.specs.declared.Refusal.TheVariants.{WrongMovement};
+ghost use Rattle.std.specs.Prelude.{is_ok, IfErr, ◌≡◌, cond, ◌<◌, length, get_or, set, pos, ◌+ℤ◌};
 ghost use Rattle.protocol.specs.Memory.{memory};
 ghost use Rattle.netting.specs.Netting.{balance_told, netting_outcome, netting};
 ghost use Rattle.netting.specs.inner.Tallies.{
@@ -37,22 +38,30 @@ fn add(balances: &mut [i32], firm: u32, pallets: i32)
     balances[firm as usize] += pallets;
 }
 
-// Whether every movement keeps the rules, for the caller to refuse; and then the balances of all firms. One pass, up to the first movement that breaks them; those
-// count whose block is marked.
-fn tally(movements: &[u32], marks: &[bool], replicas: u32, added: u32, balances: &mut [i32]) -> bool
+// The balances of all firms, where every movement keeps the rules, or else the refusal. One pass, up to the first movement that breaks
+// them; those count whose block is marked.
+fn tally(
+    movements: &[u32],
+    marks: &[bool],
+    replicas: u32,
+    added: u32,
+    balances: &mut [i32],
+) -> Result<(), Refusal>
     requires { Talliable movements.now marks.now replicas added balances.old }
-    ensures { Tallied movements.now marks.now replicas added result balances.new }
+    ensures tallied { Tallied movements.now marks.now replicas added (is_ok result) balances.new }
+    ensures refusal { IfErr result (λ r. r ≡ WrongMovement) }
 {
     for place in 0..movements.len() / MOVEMENT_WORDS {
         let x = movements::movement_in(movements, place);
-        if !movements::is_allowed(x, replicas, added) {
-            return false;
-        }
+        need(
+            movements::is_allowed(x, replicas, added),
+            Refusal::WrongMovement,
+        )?;
         let pallets = counted_pallets(marks, x) as i32;
         add(balances, x.giver, -pallets);
         add(balances, x.taker, pallets);
     }
-    true
+    Ok(())
 }
 
 // The balance of a replica's firm at a block, or the refusal of a movement that breaks the rules.
@@ -70,8 +79,7 @@ fn balance_at(
     let mut marks = [false; MAX_BLOCKS as usize];
     ancestry::mark_ancestors(blocks, block, &mut marks);
     let mut balances = [0i32; MAX_REPLICAS];
-    let allowed = tally(movements, &marks, replicas, added, &mut balances);
-    need(allowed, Refusal::WrongMovement)?;
+    tally(movements, &marks, replicas, added, &mut balances)?;
     Ok(balances[replica as usize])
 }
 

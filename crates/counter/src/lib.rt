@@ -66,6 +66,7 @@ pub fn open_steps(table: &mut [u32], list: &[u32]) -> u32
         × (result ≡ get_or (steps_from list.now) 0 0) }
 {
     let steps = opening_steps(list);
-    table[STEPS_AT..ROW_START].copy_from_slice(steps);
+    // Of a length that the compiler knows, so that it copies without the C library.
+    table[STEPS_AT..ROW_START].copy_from_slice(&steps[..STEP_COUNT]);
     steps[0]
 }

@@ -8,7 +8,7 @@ ghost use Rattle.reader.specs.inner.Reading.{moved_on};
 
 use field::COLUMNS;
 
-#[derive(Drop)]
+#[derive(Clone, Copy)]
 pub struct Reader<'a> {
     pub line: &'a [u8],
     pub column: usize,

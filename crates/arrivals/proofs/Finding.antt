@@ -49,6 +49,15 @@ groups_passed w identity groups None none =
 groups_passed w identity groups (Some group) one =
     (omega arith, λ k l. none_of_four w identity (4 * (k / 4)) (one.3 (k / 4) (omega arith) (omega arith)) k (omega arith) (omega arith))
 
+-- Entries passed, of which none has the identity; and none before a slot, with none from it on up to another.
+abbrev pub NoneFrom : List ℕ → ℕ → ℕ → ℕ → Type 0
+NoneFrom w identity from to = (k : ℕ) → from ≤ k → k < to → (entry w k).identity ≡ identity → ⊥
+
+pub none_both : (w : List ℕ) (identity start slot : ℕ) → ((k : ℕ) → k < start → (entry w k).identity ≡ identity → ⊥)
+    → NoneFrom w identity start slot → (k : ℕ) → k < slot → (entry w k).identity ≡ identity → ⊥
+none_both w identity start slot before from k l is =
+    by-test (ltb k start) (λ e. before k (omega tests) is) (λ e. from k (omega tests) l is)
+
 -- None before a start, and the first from it on.
 pub found_from : (w : List ℕ) (identity start count : ℕ) (found : Option ℕ) → NoneBelow w identity start
     → MatchOption found ((k : ℕ) → start ≤ k → k < count → (entry w k).identity ≡ identity → ⊥)
@@ -58,12 +67,11 @@ pub found_from : (w : List ℕ) (identity start count : ℕ) (found : Option ℕ
     × ((entry w slot).identity ≡ identity)
     × ((k : ℕ) → start ≤ k → k < slot → (entry w k).identity ≡ identity → ⊥))
     → Found w identity count found
-found_from w identity start count None before none = λ k l.
-    by-test (ltb k start) (λ e. before k (omega tests)) (λ e. none k (omega tests) l)
+found_from w identity start count None before none = none_both w identity start count before none
 found_from w identity start count (Some slot) before one =
     record {
       within = one.1;
-      before = λ k l. by-test (ltb k start) (λ e. before k (omega tests)) (λ e. one.3 k (omega tests) l);
+      before = none_both w identity start slot before one.3;
       there = one.2;
     }
 

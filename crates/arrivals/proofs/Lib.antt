@@ -2,3 +2,4 @@
 pub mod Tallies
 pub mod Holding
 pub mod Finding
+pub mod Moving

@@ -4,7 +4,7 @@ use mathlib.Core.Path.{◌≡◌, refl}
 use mathlib.Core.List.{List}
 use native.Mathlib.Omega.{arith}
 use Rattle.movements.specs.Movements.{max_pallets}
-use Rattle.entries.specs.Entries.{entry, entries_from, pallets_for, earliest_for}
+use Rattle.entries.specs.Entries.{waiting_count, entry, entries_from, entries, pallets_for, earliest_for}
 use Rattle.entries.proofs.Words.{from_length}
 use Rattle.entries.proofs.Lists.{all_from, pallets_small}
 use Rattle.arrivals.specs.declared.TakerTally.{TakerTally}
@@ -26,6 +26,11 @@ one_tallied w taker count slot some le = go (slot - 1) (count - slot) slot (omeg
     go : (k n next : ℕ) → next ≡ suc k → (more : ℕ) → more ≡ suc n
         → tallied (tally_of taker (entries_from w next n)) (entry w k) taker ≡ tally_of taker (entries_from w k more)
     go k n next e more f = rw (e, f) refl
+
+pub all_tallied : (w : List ℕ) (taker slot : ℕ) → slot ≡ 0 → tally_from w taker (waiting_count w) slot ≡ tally_of taker (entries w)
+all_tallied w taker slot e =
+    let z : waiting_count w - slot ≡ waiting_count w = omega arith in
+    rw (z, e) refl
 
 pub few_pallets : (w : List ℕ) (taker n slot : ℕ) → ((k : ℕ) → k < slot + n → (entry w k).pallets ≤ max_pallets)
     → pallets_for taker (entries_from w slot n) ≤ n * max_pallets

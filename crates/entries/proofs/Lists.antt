@@ -18,6 +18,10 @@ abbrev pub All : (Entry → Type 0) → List Entry → Type 0
 All P [] = Unit {0}
 All P (e ∷ es) = P e × All P es
 
+pub all_give : (P Q : Entry → Type 0) (es : List Entry) → ((e : Entry) → P e → Q e) → All P es → All Q es
+all_give P Q [] f h = tt
+all_give P Q (e ∷ es) f h = (f e h.0, all_give P Q es f h.1)
+
 pub all_joined : (P : Entry → Type 0) (es : List Entry) (e : Entry) → All P es → P e → All P (es ++ (e ∷ []))
 all_joined P [] e h new = (new, tt)
 all_joined P (x ∷ es) e h new = (h.0, all_joined P es e h.1 new)

@@ -7,7 +7,7 @@ use mathlib.Core.Logic.{◌≢◌}
 use native.Mathlib.Omega.{arith}
 use lib.Dec.{eqb, leb}
 use lib.ListN.{length, replicate, take, drop, set, length-set, take-append-drop, drop_of_length-le}
-use lib.Seq.{drop-cons, get_or-set_same, drop-set-lt, take-set-le, take-take}
+use lib.Seq.{drop-cons, get_or-set_same, drop-set-lt, take-set-le, take-take, sets, sets-eq}
 use native.Mathlib.Nat.{le_refl}
 use Rattle.field.specs.Digits.{digit_zero, digits, digit_count}
 use Rattle.field.specs.Field.{columns, blank, max_number, accepted, unwritable, field_of, written, write_field}
@@ -42,6 +42,11 @@ blanks_left l (suc i) d h e =
     fewer : (n : ℕ) → take n (replicate (suc n) blank) ≡ replicate n blank
     fewer zero = refl
     fewer (suc n) = ap (λ (r : List ℕ). blank ∷ r) (fewer n)
+
+pub all_blank : (l : List ℕ) → length l ≡ columns → sets l 0 (replicate columns blank) ≡ replicate columns blank
+all_blank l e =
+    let none = drop_of_length-le l {i = columns} (omega arith) in
+    sets-eq (replicate columns blank) l 0 (omega arith) ∙ rw none refl
 
 pub one_digit : (n : ℕ) {l : List ℕ} → digit_count n ≡ 1 → l ≡ replicate columns blank
     → set l (columns - 1) (digit_zero + n) ≡ field_of n

@@ -4,3 +4,4 @@ pub mod Leaving
 pub mod Calls
 pub mod Opening
 pub mod Matching
+pub mod Fit

@@ -29,6 +29,7 @@ pub fn test_justification(
     ensures { number_in result
         ≡ first_refusal (justification_needs (memory table.now [] []) justification list.now) }
 {
+    // What lets a leader propose is an enum here and below: document 01 names the form.
     match justification {
         Justification::Acc(number) => need(
             number < table[CERTIFICATE_COUNT_AT],

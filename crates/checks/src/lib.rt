@@ -21,8 +21,8 @@ pub fn accepted(first: u32, second: u32) -> Answer
     Ok(Values { first, second })
 }
 
-// One need: where its test fails, its refusal.
-pub fn need(test: bool, refusal: Refusal) -> Result<(), Refusal>
+// One need: where its test fails, its refusal, in any type. A refusal before it was handed up by `?`.
+pub fn need<E: Copy>(test: bool, refusal: E) -> Result<(), E>
     ensures { result ≡ cond test (Ok tt) (Err refusal) }
 {
     if test { Ok(()) } else { Err(refusal) }

@@ -21,6 +21,7 @@ pub fn invoke(
     ensures { outcome result table.new log.new blocks.new
         ≡ step (memory table.old log.old blocks.old) call list.now }
 {
+    // A call is an enum: document 01 names the form.
     match call {
         Call::Open(f) => opening::open_ledger(table, log, blocks, f, list),
         Call::Block(parent) => opening::block(table, log, blocks, parent),

@@ -3,7 +3,7 @@
 
 ghost use Rattle.std.specs.Prelude.{◌+◌, ◌≤◌, ◌≡◌, true, ◌++◌, length, take};
 ghost use Rattle.protocol.specs.Memory.{memory};
-ghost use Rattle.protocol.specs.Outcome.{told, outcome};
+ghost use Rattle.protocol.specs.Outcome.{outcome};
 ghost use Rattle.field.specs.Field.{columns, max_number, field_of};
 ghost use Rattle.script.specs.Lines.{min_fields, max_fields, field_count, numbers, has_numbers};
 ghost use Rattle.script.specs.Session.{
@@ -20,7 +20,7 @@ ghost use Rattle.script.specs.Text.{answer_text, answer_bytes, Printable};
 ghost use Rattle.script.specs.inner.Reading.{line_read};
 
 use field::COLUMNS;
-use protocol::{Answer, Refusal};
+use protocol::{Answer, Refusal, Values};
 use reader::Reader;
 
 // A line's fields.
@@ -155,15 +155,15 @@ fn put_number(text: &mut [u8], at: usize, number: u32)
     field::write_columns(number, &mut text[at..end]);
 }
 
-// Writes the text of an answer.
-pub fn put_answer(text: &mut [u8], at: usize, line: u32, answer: Answer)
+// Writes the text of an answer, by its number and its values: whatever gives them.
+pub fn put_answer(text: &mut [u8], at: usize, line: u32, number: u32, values: Values)
     requires answer_bytes_in_bounds { at + answer_bytes ≤ length text.old }
-    requires line_le_max_number { (line ≤ max_number) × Printable (told answer) }
-    ensures { take (at + answer_bytes) text.new ≡ take at text.old ++ answer_text line (told answer) }
+    requires line_le_max_number { (line ≤ max_number) × Printable (record { number = number; first = values.first; second = values.second }) }
+    ensures { take (at + answer_bytes) text.new
+        ≡ take at text.old ++ answer_text line (record { number = number; first = values.first; second = values.second }) }
 {
-    let values = protocol::values_in(answer);
     put_number(text, at, line);
-    put_number(text, at + COLUMNS, protocol::number_in(answer));
+    put_number(text, at + COLUMNS, number);
     put_number(text, at + 2 * COLUMNS, values.first);
     put_number(text, at + 3 * COLUMNS, values.second);
     text[at + 4 * COLUMNS] = LINE_FEED;

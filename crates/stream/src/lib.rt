@@ -7,6 +7,7 @@ ghost use Rattle.stream.specs.inner.Progress.{with_held, begun, Room, OneMore, R
 ghost use Rattle.stream.specs.inner.Holding.{Holdable, Held};
 
 use memchr::memchr;
+use protocol::{number_in, values_in};
 use script::{ANSWER_BYTES, LINE_FEED};
 
 // One more byte than a readable line can have.
@@ -53,7 +54,13 @@ fn answer(
 {
     let answer = script::answer_line(table, log, blocks, &mut p.fault_bound, line);
     p.lines += 1;
-    script::put_answer(text, p.pending, p.lines, answer);
+    script::put_answer(
+        text,
+        p.pending,
+        p.lines,
+        number_in(answer),
+        values_in(answer),
+    );
     p.held = 0;
     p.pending += ANSWER_BYTES;
 }

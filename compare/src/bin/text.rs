@@ -1,17 +1,16 @@
 //! `text`: yard's loops over text, transcribed into plain Rust as the measure of their speed.
 //!
-//! Unlike everything else here it is made from the proved sources (crates/stream, script, field): the same steps, in loops of its own.
-//! It is for timing only and judges nothing. It opens no ledger: a line of numbers is called as before any opening.
+//! Unlike everything else here it is made from the proved sources (crates/stream, script, reader, field): the same loops, with Rust's library
+//! where yard has the kit's. It is for timing only and judges nothing. It opens no ledger: a line of numbers is called as before any opening.
 
 use judge::call::{call, Outcome};
-use judge::field::{COLUMNS, MAX_NUMBER, NO_NUMBER};
+use judge::field::COLUMNS;
 use judge::memory::Memory;
 use judge::mistake::Correct;
 use judge::refusal::UNREADABLE;
 use judge::script::{ANSWER_BYTES, INPUT_CHUNK, MAX_FIELDS, MAX_LINES, MAX_LINE_BYTES, MIN_FIELDS};
-use std::io::{Read, Write};
+use std::io::{BufRead, Read, Write};
 
-const FEED_STEP: usize = 16;
 /// One more byte than a readable line can have.
 const HELD_PLACES: usize = MAX_LINE_BYTES + 1;
 
@@ -41,27 +40,23 @@ fn main() -> std::io::Result<()> {
 
 /// Answers the lines that end in the chunk; gives how many bytes were written.
 fn feed(progress: &mut Progress, chunk: &[u8], out: &mut [u8]) -> usize {
-    let (mut at, mut written) = (0, 0);
-    while at < chunk.len() {
-        if progress.lines == MAX_LINES {
+    let (mut rest, mut written) = (chunk, 0);
+    while progress.lines < MAX_LINES {
+        let Some(end) = line_end(rest) else {
+            hold(progress, rest);
             return written;
-        }
-        let end = line_end(chunk, at);
-        if end == chunk.len() {
-            hold(progress, &chunk[at..end]);
-            return written;
-        }
+        };
         let answer = if progress.held == 0 {
-            answer_line(&chunk[at..end])
+            answer_line(&rest[..end])
         } else {
-            hold(progress, &chunk[at..end]);
+            hold(progress, &rest[..end]);
             answer_line(&progress.line[..progress.held])
         };
         progress.held = 0;
         progress.lines += 1;
         put_answer(&mut out[written..written + ANSWER_BYTES], progress.lines, answer);
         written += ANSWER_BYTES;
-        at = end + 1;
+        rest = &rest[end + 1..];
     }
     written
 }
@@ -81,30 +76,22 @@ fn hold(progress: &mut Progress, bytes: &[u8]) {
     progress.held += count;
 }
 
-/// The place of the first line feed from a place on, or the chunk's length.
-fn line_end(chunk: &[u8], from: usize) -> usize {
-    let mut at = from;
-    while at + FEED_STEP <= chunk.len() {
-        if chunk[at..at + FEED_STEP].iter().fold(false, |any, &byte| any | (byte == b'\n')) {
-            break;
-        }
-        at += FEED_STEP;
-    }
-    while at < chunk.len() && chunk[at] != b'\n' {
-        at += 1;
-    }
-    at
+/// The place of the first line feed, by the search of Rust's library: yard has the kit's.
+fn line_end(bytes: &[u8]) -> Option<usize> {
+    let mut rest = bytes;
+    let passed = rest.skip_until(b'\n').ok()?;
+    let end = passed.checked_sub(1)?;
+    (bytes[end] == b'\n').then_some(end)
 }
 
 /// A line of numbers is called on a ledger that is not open, by the library: no table is lent.
 fn answer_line(line: &[u8]) -> Outcome {
     let mut given = [0; MAX_FIELDS];
-    let column = match read_numbers(line, &mut given) {
-        Ok(column) => column,
-        Err(answer) => return Outcome { answer, first: 0, second: 0 },
+    let Some(count) = read_numbers(line, &mut given) else {
+        return Outcome { answer: UNREADABLE, first: 0, second: 0 };
     };
     let mut memory = Memory { table: &mut [], log: &mut [], blocks: &mut [] };
-    call(Correct, &mut memory, given[0], given[1], given[2], &given[MIN_FIELDS..column / COLUMNS])
+    call(Correct, &mut memory, given[0], given[1], given[2], &given[MIN_FIELDS..count])
 }
 
 /// The bytes of a line and the column reached.
@@ -113,55 +100,48 @@ struct Reader<'a> {
     column: usize,
 }
 
-/// Reads the field at the column reached, and comes back further on; where none starts there, as it was.
-fn next<'a>(reader: Reader<'a>, number: &mut u32) -> Reader<'a> {
-    *number = read_number(&reader.line[reader.column..reader.column + COLUMNS]);
-    let column = if *number <= MAX_NUMBER { reader.column + COLUMNS } else { reader.column };
-    Reader { line: reader.line, column }
+/// The numbers of a line, field after field from the column reached.
+impl Iterator for Reader<'_> {
+    type Item = u32;
+
+    fn next(&mut self) -> Option<u32> {
+        let number = read_number(self.line.get(self.column..)?.get(..COLUMNS)?)?;
+        self.column += COLUMNS;
+        Some(number)
+    }
 }
 
-/// Reads the line's numbers, field after field; gives the column reached, or the refusal.
-fn read_numbers(line: &[u8], given: &mut [u32; MAX_FIELDS]) -> Result<usize, u32> {
+/// Reads the line's numbers, field after field; gives how many there are.
+fn read_numbers(line: &[u8], given: &mut [u32; MAX_FIELDS]) -> Option<usize> {
     let count = line.len() / COLUMNS;
     if COLUMNS * count != line.len() || !(MIN_FIELDS..=MAX_FIELDS).contains(&count) {
-        return Err(UNREADABLE);
+        return None;
     }
-    let (mut column, mut i) = (0, 0);
-    while column != line.len() {
-        let mut number = 0;
-        let reader = next(Reader { line, column }, &mut number);
-        if reader.column == column {
-            return Err(UNREADABLE);
-        }
-        given[i] = number;
-        i += 1;
-        column = reader.column;
+    let mut reader = Reader { line, column: 0 };
+    for place in &mut given[..count] {
+        *place = reader.next()?;
     }
-    Ok(column)
+    Some(count)
 }
 
 /// Past the blanks: the digits, without a leading zero.
-fn read_number(field: &[u8]) -> u32 {
-    for i in 0..COLUMNS {
-        if field[i] != b' ' {
-            return read_digits(field, i);
-        }
-    }
-    NO_NUMBER
+fn read_number(field: &[u8]) -> Option<u32> {
+    let first = field.iter().position(|byte| *byte != b' ')?;
+    read_digits(&field[first..])
 }
 
-fn read_digits(field: &[u8], first: usize) -> u32 {
-    if field[first] == b'0' && first < COLUMNS - 1 {
-        return NO_NUMBER;
+fn read_digits(digits: &[u8]) -> Option<u32> {
+    if digits[0] == b'0' && digits.len() != 1 {
+        return None;
     }
     let mut number = 0;
-    for &byte in &field[first..COLUMNS] {
+    for byte in digits {
         if !byte.is_ascii_digit() {
-            return NO_NUMBER;
+            return None;
         }
-        number = 10 * number + u32::from(byte - b'0');
+        number = 10 * number + u32::from(*byte - b'0');
     }
-    number
+    Some(number)
 }
 
 fn put_answer(text: &mut [u8], line: u32, outcome: Outcome) {

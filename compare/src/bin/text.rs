@@ -1,7 +1,7 @@
 //! `text`: yard's loops over text, transcribed into plain Rust as the measure of their speed.
 //!
-//! Unlike everything else here it is made from the proved sources (crates/stream, script, reader, field): the same loops, with Rust's library
-//! where yard has the kit's. It is for timing only and judges nothing. It opens no ledger: a line of numbers is called as before any opening.
+//! Unlike everything else here it is made from the proved sources (crates/stream, script, reader, field): the same loops, with a search by sixteen
+//! bytes where yard has the kit's for a line feed. It is for timing only and judges nothing. It opens no ledger: a line of numbers is called as before any opening.
 
 use judge::call::{call, Outcome};
 use judge::field::COLUMNS;
@@ -9,8 +9,9 @@ use judge::memory::Memory;
 use judge::mistake::Correct;
 use judge::refusal::UNREADABLE;
 use judge::script::{ANSWER_BYTES, INPUT_CHUNK, MAX_FIELDS, MAX_LINES, MAX_LINE_BYTES, MIN_FIELDS};
-use std::io::{BufRead, Read, Write};
+use std::io::{Read, Write};
 
+const FEED_STEP: usize = 16;
 /// One more byte than a readable line can have.
 const HELD_PLACES: usize = MAX_LINE_BYTES + 1;
 
@@ -76,12 +77,19 @@ fn hold(progress: &mut Progress, bytes: &[u8]) {
     progress.held += count;
 }
 
-/// The place of the first line feed, by the search of Rust's library: yard has the kit's.
+/// The place of the first line feed.
 fn line_end(bytes: &[u8]) -> Option<usize> {
-    let mut rest = bytes;
-    let passed = rest.skip_until(b'\n').ok()?;
-    let end = passed.checked_sub(1)?;
-    (bytes[end] == b'\n').then_some(end)
+    let mut at = 0;
+    while at + FEED_STEP <= bytes.len() {
+        if bytes[at..at + FEED_STEP].iter().fold(false, |any, &byte| any | (byte == b'\n')) {
+            break;
+        }
+        at += FEED_STEP;
+    }
+    while at < bytes.len() && bytes[at] != b'\n' {
+        at += 1;
+    }
+    (at < bytes.len()).then_some(at)
 }
 
 /// A line of numbers is called on a ledger that is not open, by the library: no table is lent.

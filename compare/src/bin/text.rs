@@ -1,7 +1,8 @@
 //! `text`: yard's loops over text, transcribed into plain Rust as the measure of their speed.
 //!
-//! Unlike everything else here it is made from the proved sources (crates/stream, script, reader, field): the same loops, with a search by sixteen
-//! bytes where yard has the kit's for a line feed. It is for timing only and judges nothing. It opens no ledger: a line of numbers is called as before any opening.
+//! Unlike everything else here it is made from the proved sources (crates/stream, script, reader, field): the same loops, with a search
+//! by sixteen bytes where yard has the kit's for a line feed. It is for timing only and judges nothing. It opens no ledger: a line of
+//! numbers is called as before any opening.
 
 use judge::call::{call, Outcome};
 use judge::field::COLUMNS;

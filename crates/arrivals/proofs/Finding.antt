@@ -49,7 +49,7 @@ groups_passed w identity groups None none =
 groups_passed w identity groups (Some group) one =
     (omega arith, λ k l. none_of_four w identity (4 * (k / 4)) (one.3 (k / 4) (omega arith) (omega arith)) k (omega arith) (omega arith))
 
--- Entries passed, of which none has the identity; and none before a slot, with none from it on up to another.
+-- None from a slot on up to another; and none before both, where there is none before the first either.
 abbrev pub NoneFrom : List ℕ → ℕ → ℕ → ℕ → Type 0
 NoneFrom w identity from to = (k : ℕ) → from ≤ k → k < to → (entry w k).identity ≡ identity → ⊥
 
@@ -60,12 +60,8 @@ none_both w identity start slot before from k l is =
 
 -- None before a start, and the first from it on.
 pub found_from : (w : List ℕ) (identity start count : ℕ) (found : Option ℕ) → NoneBelow w identity start
-    → MatchOption found ((k : ℕ) → start ≤ k → k < count → (entry w k).identity ≡ identity → ⊥)
-    (λ slot.
-    (start ≤ slot)
-    × (slot < count)
-    × ((entry w slot).identity ≡ identity)
-    × ((k : ℕ) → start ≤ k → k < slot → (entry w k).identity ≡ identity → ⊥))
+    → MatchOption found (NoneFrom w identity start count)
+    (λ slot. (start ≤ slot) × (slot < count) × ((entry w slot).identity ≡ identity) × NoneFrom w identity start slot)
     → Found w identity count found
 found_from w identity start count None before none = none_both w identity start count before none
 found_from w identity start count (Some slot) before one =
